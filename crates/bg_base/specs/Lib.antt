@@ -3,3 +3,6 @@ pub mod Order
 pub mod OrderLaws
 pub mod LabelLaws
 pub mod Signatures
+pub mod Bigraph
+pub mod Composition
+pub mod Faults

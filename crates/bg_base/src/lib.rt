@@ -7,6 +7,7 @@
 #![tactic(auto)]
 
 mod big;
+mod check;
 mod history;
 mod labels;
 mod links;
@@ -15,6 +16,7 @@ mod signature;
 mod text;
 
 pub use big::{Big, InnerRow, NodeRow};
+pub use check::{CheckFault, Part};
 pub use history::{Entry, Journal, Map, Step};
 pub use labels::{Label, Value};
 pub use links::Links;
