@@ -14,7 +14,7 @@ use Rattle.bg_base.specs.declared.check.Part.TheVariants.{Sites, Nodes}
 use Rattle.bg_lists.specs.Lists.{sort, put}
 use Rattle.bg_base.specs.Bigraph
 use Rattle.bg_base.specs.Composition.{compose}
-use Rattle.bg_base.specs.Faults.{fault_of}
+use Rattle.bg_base.specs.Faults.{fault_of, sites_fault, inner_fault, outer_fault, edges_fault, nodes_fault}
 
 -- a control named by one upper-case letter
 control_of : ℕ → ℕ → Control
@@ -65,11 +65,11 @@ unfolding compose sort put room agent agent_in_room
 composed_room = refl
 
 valid_room : fault_of two_controls room ≡ None
-unfolding fault_of two_controls control_of room
+unfolding fault_of sites_fault inner_fault outer_fault edges_fault nodes_fault two_controls control_of room
 valid_room = refl
 
 valid_agent : fault_of two_controls agent_in_room ≡ None
-unfolding fault_of two_controls control_of agent_in_room
+unfolding fault_of sites_fault inner_fault outer_fault edges_fault nodes_fault two_controls control_of agent_in_room
 valid_agent = refl
 
 -- nodes 5 and 3 do not ascend, and node 3 is there all the same for the site
@@ -85,7 +85,7 @@ unsorted =
     }
 
 unsorted_fault : fault_of two_controls unsorted ≡ Some (Nodes, 1, 3)
-unfolding fault_of two_controls control_of unsorted
+unfolding fault_of sites_fault inner_fault outer_fault edges_fault nodes_fault two_controls control_of unsorted
 unsorted_fault = refl
 
 -- a node below one whose parent is not there has no root, and comes first
@@ -101,7 +101,7 @@ below_missing =
     }
 
 below_missing_fault : fault_of two_controls below_missing ≡ Some (Nodes, 0, 7)
-unfolding fault_of two_controls control_of below_missing
+unfolding fault_of sites_fault inner_fault outer_fault edges_fault nodes_fault two_controls control_of below_missing
 below_missing_fault = refl
 
 -- a node that is its own parent and atomic: the atomic parent comes before the cycle
@@ -117,5 +117,5 @@ own_parent =
     }
 
 own_parent_fault : fault_of two_controls own_parent ≡ Some (Nodes, 0, 6)
-unfolding fault_of two_controls own_parent
+unfolding fault_of sites_fault inner_fault outer_fault edges_fault nodes_fault two_controls own_parent
 own_parent_fault = refl

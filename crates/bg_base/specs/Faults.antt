@@ -57,30 +57,33 @@ abbrev pub codes_from : {K X : Type 0} → (X → K) → (Option K → X → ℕ
 codes_from key code last [] = []
 codes_from key code last (x ∷ xs) = code last x ∷ codes_from key code (Some (key x)) xs
 
+-- the fault, at a position that so many rows more stand before
+abbrev pub shifted : ℕ → Option (ℕ × ℕ) → Option (ℕ × ℕ)
+shifted count fault = option_map (λ (found : ℕ × ℕ). (count + found.0, found.1)) fault
+
 -- the position, counted from 0, and the code of the first row that breaks a rule
 abbrev pub first_fault : List ℕ → Option (ℕ × ℕ)
 first_fault [] = None
-first_fault (code ∷ codes) =
-    if code == 0 then option_map (λ (fault : ℕ × ℕ). (1 + fault.0, fault.1)) (first_fault codes) else Some (0, code)
+first_fault (code ∷ codes) = if code == 0 then shifted 1 (first_fault codes) else Some (0, code)
 
 -- the fault of the part, or else what the later parts give
 abbrev pub or_else : Part → Option (ℕ × ℕ) → Option (Part × ℕ × ℕ) → Option (Part × ℕ × ℕ)
 or_else part None later = later
 or_else part (Some fault) later = Some (part, fault.0, fault.1)
 
-abbrev pub sites_fault : List Control → Big → Option (ℕ × ℕ)
+unfoldable pub sites_fault : List Control → Big → Option (ℕ × ℕ)
 sites_fault signature big = first_fault (map (site_code signature big) big.sites)
 
-abbrev pub inner_fault : Big → Option (ℕ × ℕ)
+unfoldable pub inner_fault : Big → Option (ℕ × ℕ)
 inner_fault big = first_fault (codes_from (λ (row : InnerRow). row.name) (inner_code big) None big.inner)
 
-abbrev pub outer_fault : Big → Option (ℕ × ℕ)
+unfoldable pub outer_fault : Big → Option (ℕ × ℕ)
 outer_fault big = first_fault (codes_from (λ (name : Name). name) outer_code None big.outer)
 
-abbrev pub edges_fault : Big → Option (ℕ × ℕ)
+unfoldable pub edges_fault : Big → Option (ℕ × ℕ)
 edges_fault big = first_fault (codes_from (λ (edge : ℕ). edge) edge_code None big.edges)
 
-abbrev pub nodes_fault : List Control → Big → Option (ℕ × ℕ)
+unfoldable pub nodes_fault : List Control → Big → Option (ℕ × ℕ)
 nodes_fault signature big =
     first_fault (codes_from (λ (row : NodeRow). row.id) (node_code signature big) None big.nodes)
 

@@ -6,3 +6,4 @@ pub mod Signatures
 pub mod Bigraph
 pub mod Composition
 pub mod Faults
+pub mod Lookup
