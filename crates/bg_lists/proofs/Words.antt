@@ -1,7 +1,7 @@
 -- Between membership and std's words: `All`, `Contains`, `list_all`, `find`, `IsPermutation`.
-use Rattle.std.proofs.Common.{◌≡◌, Bool, true, false, List, [], ◌∷◌, get_or, All, Contains, find, is_some, Option, Some, None, IsPermutation, refl, sym, ap, subst, ◌∙◌, inl, inr}
+use Rattle.std.proofs.Common.{filter, ◌≤◌, ◌<◌, cond, length, arith, ◌≡◌, Bool, true, false, List, [], ◌∷◌, get_or, All, Contains, find, is_some, Option, Some, None, IsPermutation, refl, sym, ap, subst, ◌∙◌, inl, inr}
 use Rattle.std.specs.List.{list_all, list_any}
-use Rattle.std.proofs.lemmas.Bool.{cond_both, cond-true, cond-false, cases_Bool, and_parts, and_from, or_cases, or_left, or_right}
+use Rattle.std.proofs.lemmas.Bool.{false≢true, false_from_ne_true, cond_both, cond-true, cond-false, cases_Bool, and_parts, and_from, or_cases, or_left, or_right}
 use Rattle.std.proofs.lemmas.List.Sorted.{Contains-permutation, IsPermutation-sym}
 use Rattle.bg_lists.specs.Lists.{Mem, here, there}
 use Rattle.bg_lists.proofs.Members.{Mem-cons_cases}
@@ -94,6 +94,33 @@ module _ {X : Type 0} where
       → ((y : X) → Mem y xs → test y ≡ true → y ≡ x) → find test xs ≡ Some x
   find-only test xs {x} m pass only =
       let w = found test xs (is_some_find test xs m pass) in w.1 ∙ ap Some (only w.0 w.2 w.3)
+
+  -- a look-up in the members that pass another test, where what is looked for passes it
+  pub find-filter : (wanted kept : X → Bool) → ((x : X) → wanted x ≡ true → kept x ≡ true) → (xs : List X)
+      → find wanted (filter kept xs) ≡ find wanted xs
+  find-filter wanted kept keeps [] = refl
+  find-filter wanted kept keeps (x ∷ xs) =
+      cond_both (kept x) (x ∷ filter kept xs) (filter kept xs) (λ zs. find wanted zs ≡ cond (wanted x) (Some x) (find wanted xs))
+      (λ _. ap (λ o. cond (wanted x) (Some x) o) (find-filter wanted kept keeps xs))
+      (λ lost. find-filter wanted kept keeps xs
+      ∙ sym (cond-false (wanted x) _ _ (false_from_ne_true (wanted x) (λ pass. false≢true (sym lost ∙ keeps x pass)))))
+
+  -- a filter that drops a member leaves fewer
+  pub length-filter : (test : X → Bool) (xs : List X) → length (filter test xs) ≤ length xs
+  length-filter test [] = omega arith
+  length-filter test (x ∷ xs) =
+      cond_both (test x) (x ∷ filter test xs) (filter test xs) (λ zs. length zs ≤ length (x ∷ xs))
+      (λ _. let less = length-filter test xs in omega arith) (λ _. let less = length-filter test xs in omega arith)
+
+  pub length-filter_drops : {x : X} (test : X → Bool) (xs : List X) → Mem x xs → test x ≡ false → length (filter test xs) < length xs
+  length-filter_drops test [] m fail = elim m [ ]
+  length-filter_drops {x} test (y ∷ ys) m fail =
+      cond_both (test y) (y ∷ filter test ys) (filter test ys) (λ zs. length zs < length (y ∷ ys))
+      (λ pass. elim (Mem-cons_cases m) [
+        | inl e ↦ absurd (false≢true (sym fail ∙ ap test (sym e) ∙ pass))
+        | inr n ↦ (let less = length-filter_drops test ys n fail in omega arith)
+      ])
+      (λ _. let less = length-filter test ys in omega arith)
 
   -- a list in another order has the same members
   pub Mem-permutation : (xs ys : List X) → IsPermutation xs ys → {x : X} → Mem x xs → Mem x ys
