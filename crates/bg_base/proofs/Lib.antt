@@ -5,3 +5,8 @@ pub mod IndexLaws
 pub mod SearchLaws
 pub mod ClimbLaws
 pub mod FaultLaws
+pub mod NameLaws
+pub mod LookUps
+pub mod Climbs
+pub mod Composed
+pub mod ComposedValid
