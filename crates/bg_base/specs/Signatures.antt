@@ -2,6 +2,7 @@
 use Rattle.std.specs.Prelude.{◌≡◌, ℕ, ◌≤◌, Bool, Option, Some, None, List, [], ◌∷◌, length, option_map, suc, if◌then◌else◌, All}
 use Rattle.std.specs.Ordering.{is_eq}
 use Rattle.std.specs.List.{IsDistinct}
+use Rattle.std.specs.BTreeMap.{BTreeMap, get}
 use Rattle.bg_base.specs.declared.labels.Label.{Label}
 use Rattle.bg_base.specs.declared.signature.Control.{Control}
 use Rattle.bg_base.specs.Order.{label_cmp}
@@ -21,3 +22,12 @@ pub record IsSignature (controls : List Control) : Type 0 where
   pub few : length controls ≤ 4096
   pub arities : All (λ control. control.arity ≤ 16) controls
   pub labels_differ : IsDistinct (λ (x y : Control). same_label x.label y.label) controls
+
+-- the map leads from each label to the number of its control
+abbrev pub IsNumbering : BTreeMap Label ℕ → List Control → Type 0
+IsNumbering numbers controls = (label : Label) → get label_cmp numbers label ≡ number_of controls label
+
+-- a signature, and the map by which its controls are found
+pub record IsIndexedSignature (controls : List Control) (numbers : BTreeMap Label ℕ) : Type 0 where
+  pub kept : IsSignature controls
+  pub numbered : IsNumbering numbers controls

@@ -1,10 +1,11 @@
 //! Signatures: the controls that the nodes of a bigraph may have.
 ghost use Rattle.std.specs.Prelude.{◌≡◌, ◌≢◌, ◌+◌, ◌<◌, ◌≤◌, ◌↔◌, [], ◌∷◌, ◌++◌, length, IfOk, OnErr, IsErrOf, IfSome, Some, None, IsSome, IsNone, slice_get, option_map};
-ghost use Rattle.bg_base.specs.Signatures.{number_of as first_number};
+ghost use Rattle.bg_base.specs.Signatures.{IsNumbering};
 
 use crate::Label;
-use bg_lists::{Duplicate, Mem, Rows};
+use bg_lists::{Duplicate, Mem, OutOfMemory, copies};
 use std::alloc::{AllocError, AllocFailed, Global};
+use std::collections::BTreeMap;
 use std::marker::Model;
 
 /// Whether nodes of a control may have children.
@@ -29,18 +30,19 @@ pub struct Control {
 #[derive(Debug, Drop)]
 pub struct Signature {
     controls: Vec<Control>,
+    numbers: BTreeMap<Label, u32>,
 }
 
 impl Model for Signature {
     ghost use Rattle.std.specs.Prelude.{List};
     ghost use Rattle.bg_base.specs.declared.signature.Control.{Control};
-    ghost use Rattle.bg_base.specs.Signatures.{IsSignature};
+    ghost use Rattle.bg_base.specs.Signatures.{IsIndexedSignature};
 
     ghost Value = { List Control };
 
     ghost view = { λ signature. signature.controls.items };
 
-    ghost invariant = { λ signature. IsSignature signature.controls.items };
+    ghost invariant = { λ signature. IsIndexedSignature signature.controls.items signature.numbers };
 }
 
 /// Why a control was not added.
@@ -66,6 +68,28 @@ impl<T: Drop> From<AllocFailed<T>> for SignatureFault {
     }
 }
 
+impl From<AllocError> for SignatureFault {
+    ghost use Rattle.std.specs.Prelude.{◌≡◌};
+    ghost use Rattle.bg_base.specs.declared.signature.SignatureFault.TheVariants.{OutOfMemory};
+
+    ghost from_gives = { λ _ fault. fault ≡ OutOfMemory };
+
+    fn from(_error: AllocError) -> SignatureFault {
+        SignatureFault::OutOfMemory
+    }
+}
+
+impl From<OutOfMemory> for SignatureFault {
+    ghost use Rattle.std.specs.Prelude.{◌≡◌};
+    ghost use Rattle.bg_base.specs.declared.signature.SignatureFault.TheVariants.{OutOfMemory};
+
+    ghost from_gives = { λ _ fault. fault ≡ OutOfMemory };
+
+    fn from(_error: OutOfMemory) -> SignatureFault {
+        SignatureFault::OutOfMemory
+    }
+}
+
 /// The most controls of a signature.
 pub const MOST_CONTROLS: usize = 4096;
 
@@ -82,13 +106,20 @@ impl Signature {
     {
         Signature {
             controls: Vec::new(alloc),
+            numbers: BTreeMap::new(alloc),
         }
     }
 
     /// Appends a control and answers its number. It refuses, in this order: `DuplicateControl` where the label is
     /// there, `ArityTooLarge` where the arity is above 16, `TooManyControls` where there are 4,096 controls.
     /// The signature then stays as it was.
-    pub fn add(&mut self, label: Label, arity: u32, kind: Kind) -> Result<u32, SignatureFault>
+    pub fn add(
+        &mut self,
+        alloc: Global,
+        label: Label,
+        arity: u32,
+        kind: Kind,
+    ) -> Result<u32, SignatureFault>
         ensures number { IfOk result (λ number. number ≡ length self.old) }
         ensures added { IfOk result (λ _. self.new ≡ self.old ++ (record { label = label; arity = arity; kind = kind }) ∷ []) }
         ensures unchanged { OnErr result (self.new ≡ self.old) }
@@ -108,15 +139,18 @@ impl Signature {
         if number >= MOST_CONTROLS {
             return Err(SignatureFault::TooManyControls);
         }
-        self.controls.push(Control { label, arity, kind })?;
+        let key = label.copy(alloc)?;
+        self.controls.reserve(1)?;
+        self.numbers.insert(key, number as u32)?;
+        self.controls.push(Control { label, arity, kind }).unwrap();
         Ok(number as u32)
     }
 
-    /// The number of the control with the label. Takes no memory; linear in the number of controls.
+    /// The number of the control with the label. Takes no memory; logarithmic in the number of controls.
     pub fn find(&self, label: &Label) -> Option<u32>
         ensures { result ≡ number_of self.now label.now }
     {
-        find_control(self.controls.as_slice(), label)
+        self.numbers.get(label).copied()
     }
 
     /// The number of controls.
@@ -161,17 +195,26 @@ impl Signature {
     }
 }
 
-/// The number of the first control with the label.
-fn find_control(controls: &[Control], label: &Label) -> Option<u32>
+/// The map from each label to the number of the first control that has it.
+fn numbers_of(alloc: Global, controls: &[Control]) -> Mem<BTreeMap<Label, u32>>
     requires { length controls.now ≤ 4096 }
-    ensures { result ≡ first_number controls.now label.now }
+    ensures { IfOk result (λ numbers. IsNumbering numbers controls.now) }
 {
-    for (number, control) in controls.iter().enumerate() {
-        if control.label.cmp(label).is_eq() {
-            return Some(number as u32);
-        }
+    let mut numbers = BTreeMap::new(alloc);
+    let mut at = controls.len();
+    while at > 0 {
+        at -= 1;
+        numbers.insert(controls[at].label.copy(alloc)?, at as u32)?;
     }
-    None
+    Ok(numbers)
+}
+
+impl Duplicate for Signature {
+    fn copy(&self, alloc: Global) -> Mem<Signature> {
+        let controls = copies(alloc, self.controls.as_slice())?;
+        let numbers = numbers_of(alloc, self.controls.as_slice())?;
+        Ok(Signature { controls, numbers })
+    }
 }
 
 impl Duplicate for Control {

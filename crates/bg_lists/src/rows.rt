@@ -98,8 +98,8 @@ impl<T: Duplicate> Duplicate for Rows<T> {
     }
 }
 
-/// Copies of all items, in their order.
-fn copies<T: Duplicate>(alloc: Global, items: &[T]) -> Mem<Vec<T>>
+/// Copies of all items, in their order. Costs time and memory in proportion to them.
+pub fn copies<T: Duplicate>(alloc: Global, items: &[T]) -> Mem<Vec<T>>
     ensures { IfOk result (λ made. made.items ≡ items.now) }
 {
     let mut made = Vec::new(alloc);
