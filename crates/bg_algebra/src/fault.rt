@@ -1,7 +1,4 @@
 //! Why an operation of the algebra gives no bigraph.
-ghost use Rattle.std.specs.Prelude.{◌≡◌, Some, None};
-ghost use Rattle.bg_algebra.specs.Faults.{number_of};
-
 use bg_lists::OutOfMemory;
 use thiserror::Error;
 

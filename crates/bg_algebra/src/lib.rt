@@ -14,3 +14,5 @@ pub use composition::compose;
 pub use fault::AlgebraFault;
 pub use look_up::{find_inner, find_node, has_edge};
 
+#[cfg(test)]
+mod tests;

@@ -69,7 +69,12 @@ pub fn row_through(alloc: Global, g: &Big, row: &NodeRow) -> Mem<NodeRow>
 }
 
 /// Appends the rows of the lower bigraph, as they are in the composition.
-pub fn push_rows_through(alloc: Global, g: &Big, lower: &[NodeRow], rows: &mut Vec<NodeRow>) -> Mem<()>
+pub fn push_rows_through(
+    alloc: Global,
+    g: &Big,
+    lower: &[NodeRow],
+    rows: &mut Vec<NodeRow>,
+) -> Mem<()>
     requires ascending { IsStrictlySortedBy inner_cmp g.now.inner }
     ensures { OnOk result (rows.new.items ≡ rows.old.items ++ map (composition.row_through g.now) lower.now) }
 {

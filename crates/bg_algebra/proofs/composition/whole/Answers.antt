@@ -1,4 +1,4 @@
-use Rattle.std.proofs.Common.{◌≡◌, ◌∙◌, ap, map}
+use Rattle.std.proofs.Common.{◌∙◌, ap, map}
 use Rattle.bg_base.specs.Composition.{compose, place_through, inner_through}
 use Rattle.bg_base.proofs.Composed.{compose_nodes_distinct, compose_edges_distinct}
 use Rattle.bg_algebra.proofs.composition.whole.Goals as goal
