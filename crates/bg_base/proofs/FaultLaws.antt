@@ -24,6 +24,7 @@ use Rattle.std.specs.Result.{OnOk, IsErrAnd}
 use Rattle.bg_base.specs.declared.check.CheckFault.{CheckFault}
 use Rattle.bg_base.specs.declared.check.CheckFault.TheVariants.{Malformed, OutOfMemory}
 use Rattle.bg_base.specs.Lookup.{IsAnswer, IsMalformed}
+use Rattle.bg_lists.proofs.Comparisons.{Less-from_is_lt}
 use Rattle.bg_base.specs.Order.{name_cmp}
 use Rattle.bg_base.specs.OrderLaws.{name_cmp_total}
 use Rattle.bg_base.specs.Bigraph.{IsValid, IsValidUnder, node_cmp, inner_cmp, has_place, has_link, is_rooted, is_atomic, arity_of}
@@ -61,11 +62,6 @@ Above {K} {X} cmp key (Some last) rows = AllByRecursion (λ (row : X). cmp last 
 abbrev ordered_code : {K X : Type 0} → (K → K → Ordering) → (X → K) → (X → ℕ) → Option K → X → ℕ
 ordered_code cmp key rest last row = cond (not (rises cmp last (key row))) 3 (rest row)
 
-less_from_is_lt : (o : Ordering) → is_lt o ≡ true → o ≡ Less
-less_from_is_lt Less e = refl
-less_from_is_lt Equal e = absurd (false≢true e)
-less_from_is_lt Greater e = absurd (false≢true e)
-
 ordered_zero : (b : Bool) (rest : ℕ) → cond (not b) 3 rest ≡ 0 → (b ≡ true) × (rest ≡ 0)
 ordered_zero true rest e = (refl, e)
 ordered_zero false rest e = absurd (omega (arith, e))
@@ -75,7 +71,7 @@ module _ {K X : Type 0} (cmp : K → K → Ordering) (order : IsTotalOrder cmp) 
       → AllByRecursion (λ (later : X). cmp (key row) (key later) ≡ Less) rows → Above cmp key last (row ∷ rows)
   above_cons None row rows rise all = tt
   above_cons (Some last) row rows rise all =
-      let first = less_from_is_lt (cmp last (key row)) rise in (
+      let first = Less-from_is_lt (cmp last (key row)) rise in (
         first,
         all_weaker (λ (later : X). cmp (key row) (key later) ≡ Less) (λ (later : X). cmp last (key later) ≡ Less)
             (λ later less. order.trans last (key row) (key later) first less) rows all,
@@ -337,6 +333,9 @@ module _ (signature : List Control) (big : Big) where
   pub no_fault : (fault_of signature big ≡ None) ↔ IsValidUnder signature big
   no_fault = (valid_from_no_fault, no_fault_from_valid)
 
+no_some : (fault : Part × ℕ × ℕ) → Some fault ≡ None → ⊥
+no_some fault e = cc
+
 -- what an answer of the check says of validity
 pub valid_answer : (signature : List Control) (big : Big) (answer : Result (Unit {0}) CheckFault) → IsAnswer answer (fault_of signature big)
     → OnOk answer (IsValidUnder signature big)
@@ -348,5 +347,5 @@ pub malformed_answer : (signature : List Control) (big : Big) (answer : Result (
 malformed_answer signature big (Ok done) none is under = is
 malformed_answer signature big (Err (Malformed code part row)) tells is under =
     let none = no_fault_from_valid signature big under in
-    let clash : Some (part, row, code) ≡ None = sym tells ∙ none in cc
+    let clash : Some (part, row, code) ≡ None = sym tells ∙ none in no_some (part, row, code) clash
 malformed_answer signature big (Err OutOfMemory) tells is under = is
