@@ -23,6 +23,10 @@ pub record Ended (right : Answer → Type 0) (status : ℕ) (read_failed write_f
   pub answered : status ≢ READ_FAILURE → status ≢ WRITE_FAILURE → status ≢ NO_MEMORY
       → SomeAnswer right (λ answer. (status ≡ number answer.status) × Appends old new answer.text)
 
+-- some text of which P holds was written whole
+abbrev pub Writes : (List ℕ → Type 0) → Option (List ℕ) → Option (List ℕ) → Type 0
+Writes P old new = (text : List ℕ) × P text × Appends old new text
+
 -- a read or a write failed, or there was no memory
 abbrev pub IsStopped : ℕ → Type 0
 IsStopped result = (result ≡ READ_FAILURE) ⊎ (result ≡ WRITE_FAILURE) ⊎ (result ≡ NO_MEMORY)

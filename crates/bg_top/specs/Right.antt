@@ -1,5 +1,5 @@
 -- Which answers are right: one line for each command.
-use Rattle.std.specs.Prelude.{◌≡◌, ℕ, ◌≤◌, List, length, nat_lt, IfSome, IsOk, IsErr, MatchOption, MatchBool}
+use Rattle.std.specs.Prelude.{◌≡◌, ℕ, ◌≤◌, List, length, nat_lt, IfSome, Ok, IsOk, IsErr, MatchOption, MatchBool}
 use Rattle.std.specs.Option.{IsSomeAnd}
 use Rattle.std.specs.declared.option.Option.{Option}
 use Rattle.bg_top.specs.Answer.{Answer, wrong_words, too_long}
@@ -14,6 +14,10 @@ IsReply Compose input answer = answer ≡ compose_answer input
 -- the command refuses the input
 abbrev pub IsRefused : Command → List ℕ → Type 0
 IsRefused Compose input = IsErr (composed input)
+
+-- the text that the command makes of the input
+abbrev pub IsTextOf : Command → List ℕ → List ℕ → Type 0
+IsTextOf Compose input text = composed input ≡ Ok text
 
 -- the command takes the input
 abbrev pub IsTaken : Command → List ℕ → Type 0

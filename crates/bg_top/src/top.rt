@@ -3,8 +3,8 @@ ghost use Rattle.std.specs.Option.{IsSomeAnd};
 ghost use Rattle.bg_io.specs.Faults.{Rose};
 ghost use Rattle.bg_top.specs.Words.{asked};
 ghost use Rattle.bg_top.specs.Answer.{number, answer_of};
-ghost use Rattle.bg_top.specs.Right.{IsReply, IsRight, IsRefused, IsAccepted};
-ghost use Rattle.bg_top.specs.Ended.{Ended, ComesWhere};
+ghost use Rattle.bg_top.specs.Right.{IsReply, IsRight, IsTextOf, IsRefused, IsAccepted};
+ghost use Rattle.bg_top.specs.Ended.{Ended, Writes, ComesWhere};
 
 use crate::command::{Command, command_of};
 use crate::composition::compose;
@@ -64,7 +64,9 @@ pub fn engine<S: Source, K: Sink>(
     ensures refused { IfSome (S.left source.old) (λ input.
         ComesWhere result Status.Refused (IsSomeAnd (asked words.now) (λ command. (length input ≤ MOST) × IsRefused command input))) }
 
-    // an input that is accepted is answered
+    // an input that is accepted is answered, and the text that the command makes of it is written
+    ensures written { IfSome (S.left source.old) (λ input. result ≡ number Status.Done →
+        IsSomeAnd (asked words.now) (λ command. Writes (IsTextOf command input) (K.held sink.old) (K.held sink.new))) }
     ensures complete { IsAccepted MOST (asked words.now) (S.left source.old)
         → ¬ Rose (S.faults source.old) (S.faults source.new) → ¬ Rose (K.faults sink.old) (K.faults sink.new)
         → (result ≡ number Status.Done) ⊎ (result ≡ NO_MEMORY) }
