@@ -1,0 +1,12 @@
+pub mod Ascii
+pub mod SignatureLaws
+mod Examples
+pub mod IndexLaws
+pub mod SearchLaws
+pub mod ClimbLaws
+pub mod FaultLaws
+pub mod NameLaws
+pub mod LookUps
+pub mod Climbs
+pub mod Composed
+pub mod ComposedValid

@@ -1,0 +1,25 @@
+//! Bigraphs as lists of rows: their types, their signature, and when they are valid.
+//!
+//! - [`Ident`], [`Text`], [`Name`], [`Value`], [`Label`]: what things are called.
+//! - [`Place`], [`Link`], [`NodeRow`], [`InnerRow`], [`Big`]: a concrete bigraph, row by row.
+//! - [`Signature`], [`Control`], [`Kind`]: the controls that nodes may have.
+//! - [`Map`], [`Step`], [`Entry`], [`Journal`]: steps of a run.
+#![tactic(auto)]
+
+mod big;
+mod check;
+mod history;
+mod labels;
+mod links;
+mod names;
+mod signature;
+mod text;
+
+pub use big::{Big, InnerRow, NodeRow};
+pub use check::{CheckFault, Part};
+pub use history::{Entry, Journal, Map, Step};
+pub use labels::{Label, Value};
+pub use links::Links;
+pub use names::{Link, Name, Place};
+pub use signature::{Control, Kind, MOST_CONTROLS, MOST_PORTS, Signature, SignatureFault};
+pub use text::{Ident, Text, is_ident, is_text, is_text_byte, is_word_byte};

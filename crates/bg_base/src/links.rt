@@ -1,0 +1,90 @@
+//! The links of a node's ports.
+ghost use Rattle.std.specs.Prelude.{◌≡◌, ◌-◌, ◌^◌, ◌<◌, length, take, IfOk};
+
+use crate::Link;
+use bg_lists::{Duplicate, Mem};
+use smallvec::SmallVec;
+use std::alloc::Global;
+use std::fmt;
+use std::marker::Model;
+use std::ops::DerefSlice;
+
+/// The links of a node's ports, in the order of the ports; up to four lie in the value itself.
+/// A contract sees the list of the links.
+#[derive(Drop)]
+pub struct Links {
+    items: SmallVec<Link, 4>,
+}
+
+impl Model for Links {
+    ghost use Rattle.std.specs.Prelude.{List, length, ◌<◌, ◌-◌, ◌^◌};
+    ghost use Rattle.bg_base.specs.declared.names.Link.{Link};
+
+    ghost Value = { List Link };
+
+    ghost view = { λ links. links.items.items };
+
+    ghost invariant = { λ links. length links.items.items < 2 ^ 32 - 1 };
+}
+
+impl Links {
+    /// The list of these links. Takes no memory.
+    pub fn from_small_vec(items: SmallVec<Link, 4>) -> Links
+        requires { length items.items < 2 ^ 32 - 1 }
+        ensures { result ≡ items.items }
+    {
+        Links { items }
+    }
+
+    /// The links.
+    pub fn as_slice(&self) -> &[Link]
+        ensures same { result.now ≡ self.now }
+        ensures small { length result.now < 2 ^ 32 - 1 }
+    {
+        self.items.as_slice()
+    }
+
+    /// The number of links, which is the number of ports.
+    pub fn len(&self) -> u32
+        ensures count { result ≡ length self.now }
+        ensures small { result < 2 ^ 32 - 1 }
+    {
+        self.items.as_slice().len() as u32
+    }
+}
+
+impl DerefSlice for Links {
+    type Elem = Link;
+
+    ghost use Rattle.std.specs.Prelude.{◌≡◌};
+
+    ghost deref_gives = { λ links xs. xs ≡ links };
+
+    fn deref(&self) -> &[Link] {
+        self.items.as_slice()
+    }
+}
+
+impl Duplicate for Links {
+    fn copy(&self, alloc: Global) -> Mem<Links> {
+        let items = link_copies(alloc, self.as_slice())?;
+        Ok(Links::from_small_vec(items))
+    }
+}
+
+/// Copies of all links, in their order.
+fn link_copies(alloc: Global, links: &[Link]) -> Mem<SmallVec<Link, 4>>
+    ensures { IfOk result (λ made. made.items ≡ links.now) }
+{
+    let mut made = SmallVec::new(alloc);
+    for link in links {
+        made.push(link.copy(alloc)?)?;
+    }
+    Ok(made)
+}
+
+impl fmt::Debug for Links {
+    fn fmt<W: fmt::Write>(&self, f: &mut fmt::Formatter<W>) -> fmt::Result {
+        f.debug_list().entries(self.as_slice()).finish()
+    }
+}
