@@ -5,6 +5,9 @@ use Rattle.std.specs.List.Sorted.{IsStrictlySortedBy}
 use Rattle.std.proofs.lemmas.Cmp.{on_total, nat_cmp_total}
 use Rattle.std.proofs.lemmas.Bool.{false_from_ne_true}
 use Rattle.bg_lists.specs.Lists.{Mem}
+use Rattle.std.proofs.Common.{length, get_or, Result, is_ok, MatchResult}
+use Rattle.std.specs.List.Sorted.{IsSearchInRange, IsBinarySearchResult}
+use Rattle.bg_lists.proofs.Searches.{find-search, is_some_find-search}
 use Rattle.bg_lists.proofs.Comparisons.{eqb-nat_cmp}
 use Rattle.bg_lists.proofs.Members.{Mem-same}
 use Rattle.bg_lists.proofs.Ascents.{same_member, Ascending-from_sorted}
@@ -141,3 +144,33 @@ has_region {region} big below = lt-ltb region big.regions below
 
 pub region_from_has : (big : Big) (region : ℕ) → has_place big (Region region) ≡ true → region < big.regions
 region_from_has big region has = ltb-true region big.regions has
+
+-- ---- what a binary search of ascending rows answers
+
+pub row_of-search : (rows : List NodeRow) (node : ℕ) → IsStrictlySortedBy node_cmp rows → (r : Result ℕ ℕ)
+    → IsSearchInRange r (length rows) → IsBinarySearchResult (λ (row : NodeRow). nat_cmp row.id node) rows r
+    → MatchResult r (λ at. (default : NodeRow) → row_of rows node ≡ Some (get_or rows at default)) (λ _. row_of rows node ≡ None)
+row_of-search rows node up r range answer =
+    find-search nat_cmp_total (λ (row : NodeRow). row.id) node (λ (row : NodeRow). row.id == node)
+    (λ row. eqb-nat_cmp row.id node) rows (Ascending-from_sorted rows up) r range answer
+
+pub edge_of-search : (edges : List ℕ) (edge : ℕ) → IsStrictlySortedBy nat_cmp edges → (r : Result ℕ ℕ)
+    → IsSearchInRange r (length edges) → IsBinarySearchResult (λ other. nat_cmp other edge) edges r
+    → is_ok r ≡ is_some (edge_of edges edge)
+edge_of-search edges edge up r range answer =
+    is_some_find-search nat_cmp_total (λ other. other) edge (λ (other : ℕ). other == edge) (λ other. eqb-nat_cmp other edge)
+    edges (Ascending-from_sorted edges up) r range answer
+
+pub outer_of-search : (names : List Name) (name : Name) → IsStrictlySortedBy name_cmp names → (r : Result ℕ ℕ)
+    → IsSearchInRange r (length names) → IsBinarySearchResult (λ other. name_cmp other name) names r
+    → is_ok r ≡ is_some (outer_of names name)
+outer_of-search names name up r range answer =
+    is_some_find-search name_cmp_total (λ other. other) name (λ (other : Name). is_eq (name_cmp other name)) (λ other. refl)
+    names (Ascending-from_sorted names up) r range answer
+
+pub inner_of-search : (rows : List InnerRow) (name : Name) → IsStrictlySortedBy inner_cmp rows → (r : Result ℕ ℕ)
+    → IsSearchInRange r (length rows) → IsBinarySearchResult (λ (row : InnerRow). name_cmp row.name name) rows r
+    → MatchResult r (λ at. (default : InnerRow) → inner_of rows name ≡ Some (get_or rows at default)) (λ _. inner_of rows name ≡ None)
+inner_of-search rows name up r range answer =
+    find-search name_cmp_total (λ (row : InnerRow). row.name) name (λ (row : InnerRow). is_eq (name_cmp row.name name))
+    (λ row. refl) rows (Ascending-from_sorted rows up) r range answer

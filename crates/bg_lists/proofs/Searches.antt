@@ -53,16 +53,16 @@ module _ {X K : Type 0} {R : K → K → Ordering} (total : IsTotalOrder R) (key
       ])
 
   -- what a binary search answers
-  pub find-search : (r : Result ℕ ℕ) (d : X) → IsSearchInRange r (length xs) → IsBinarySearchResult (λ y. R (key y) wanted) xs r
-      → MatchResult r (λ i. find test xs ≡ Some (get_or xs i d)) (λ _. find test xs ≡ None)
-  find-search (Ok i) d range answer = find-at i d range (answer d)
-  find-search (Err i) d range answer =
+  pub find-search : (r : Result ℕ ℕ) → IsSearchInRange r (length xs) → IsBinarySearchResult (λ y. R (key y) wanted) xs r
+      → MatchResult r (λ i. (d : X) → find test xs ≡ Some (get_or xs i d)) (λ _. find test xs ≡ None)
+  find-search (Ok i) range answer = λ d. find-at i d range (answer d)
+  find-search (Err i) range answer =
       find-nowhere i (answer (searchable_from_sorted total key xs wanted (rising_from_Ascending (on_total key total) xs up)))
 
   pub is_some_find-search : (r : Result ℕ ℕ) → IsSearchInRange r (length xs) → IsBinarySearchResult (λ y. R (key y) wanted) xs r
       → is_ok r ≡ is_some (find test xs)
   is_some_find-search (Ok i) range answer =
-      let w = At-total xs i range in sym (ap is_some (find-search (Ok i) w.0 range answer))
+      let w = At-total xs i range in sym (ap is_some (find-search (Ok i) range answer w.0))
   is_some_find-search (Err i) range answer =
       let none : find test xs ≡ None
       = find-nowhere i (answer (searchable_from_sorted total key xs wanted (rising_from_Ascending (on_total key total) xs up))) in

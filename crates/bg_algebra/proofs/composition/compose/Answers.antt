@@ -1,0 +1,20 @@
+use Rattle.std.proofs.Common.{rules, subst, sym}
+use Rattle.bg_base.specs.Bigraph.{IsValid, IsValidUnder}
+use Rattle.bg_base.specs.Composition.{FacesAgree, SupportsApart}
+use Rattle.bg_base.proofs.ComposedValid.{compose_valid, compose_valid_under}
+use Rattle.bg_algebra.proofs.composition.compose.Goals as goal
+
+pub returns-clause-valid : goal.returns-clause-valid
+returns-clause-valid c =
+    let faces : FacesAgree c.args.g.now c.args.f.now = search rules in
+    let apart : SupportsApart c.args.g.now c.args.f.now = search rules in
+    subst IsValid (sym c.in_ok-whole.ensures)
+    (compose_valid c.args.g.now c.args.f.now faces apart c.requires.g_valid c.requires.f_valid)
+
+pub returns-clause-fits : goal.returns-clause-fits
+returns-clause-fits c =
+    let faces : FacesAgree c.args.g.now c.args.f.now = search rules in
+    let apart : SupportsApart c.args.g.now c.args.f.now = search rules in
+    λ signature g_fits f_fits.
+    subst (IsValidUnder signature) (sym c.in_ok-whole.ensures)
+    (compose_valid_under c.args.g.now c.args.f.now faces apart c.requires.g_valid c.requires.f_valid signature g_fits f_fits)
