@@ -1,0 +1,3 @@
+pub mod Combinators
+pub mod Numbers
+pub mod Parts

@@ -1,0 +1,4 @@
+pub mod Spelling
+pub mod Limits
+pub mod Combinators
+pub mod Reading

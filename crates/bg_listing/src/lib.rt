@@ -1,0 +1,4 @@
+//! Listings.
+#![tactic(auto)]
+
+pub fn nothing() {}
