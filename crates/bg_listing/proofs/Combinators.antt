@@ -2,6 +2,7 @@
 use Rattle.std.proofs.Common.{◌≡◌, ℕ, zero, suc, ◌+◌, ◌<◌, ◌≤◌, Bool, true, false, cond, eqb, List, [], ◌∷◌, ◌++◌, length, map, take, drop, Option, Some, None, Result, Ok, Err, refl, sym, ap, subst, ◌∙◌, append_assoc, arith}
 use Rattle.std.specs.List.{flat_map, AllByRecursion, prefix_len, list_all}
 use Rattle.std.proofs.lemmas.Bool.{eqb-true, eq-eqb, and_parts}
+use Rattle.std.proofs.lemmas.List.Sums.{prefix_len-le-length}
 use Rattle.std.proofs.lemmas.List.{length-append, take-append-drop, take_at, drop_at}
 use Rattle.bg_listing.specs.Combinators.{◌>>=◌, mapped, after, behind, ended, line, only_if, run, both, with_front, each, next, further, chain_within, chain}
 use Rattle.bg_listing.specs.Spelling.{chain_text}
@@ -82,6 +83,18 @@ pub viewed_reads : {D X E : Type 0} {Next : List ℕ → Type 0} {v : D → X} {
 viewed_reads {read = read} w alike r = record {
   sound = λ bytes. viewed_holds w alike bytes (read bytes) (r.sound bytes);
   again = λ d rest f n. r.again d rest f n ∙ ap (λ x. Ok (x, rest)) (alike d);
+}
+
+fits_holds : {D X E : Type 0} {v : D → X} {t : D → List ℕ} {F : D → Type 0} (G : D → Type 0) → ((d : D) → F d → G d) → (bytes : List ℕ) (r : Result (X × List ℕ) E) → Holds v t F bytes r → Holds v t G bytes r
+fits_holds G to bytes r (found d x rest e fits same) = found d x rest e (to d fits) same
+fits_holds G to bytes r (refused e) = refused e
+
+-- the same where what has a spelling is told in other words
+pub fits_reads : {D X E : Type 0} {Next : List ℕ → Type 0} {v : D → X} {t : D → List ℕ} {F : D → Type 0} {read : List ℕ → Result (X × List ℕ) E} (G : D → Type 0)
+    → ((d : D) → F d → G d) → ((d : D) → G d → F d) → Reads Next v t F read → Reads Next v t G read
+fits_reads {read = read} G to from r = record {
+  sound = λ bytes. fits_holds G to bytes (read bytes) (r.sound bytes);
+  again = λ d rest g n. r.again d rest (from d g) n;
 }
 
 pub map_same : {A : Type 0} (xs : List A) → map (λ x. x) xs ≡ xs
@@ -308,7 +321,7 @@ list_all-take_if : (p : ℕ → Bool) (b : ℕ) (bytes : List ℕ) (passes : Boo
 list_all-take_if p b bytes true e all = let k : 1 + prefix_len p bytes ≡ suc (prefix_len p bytes) = omega arith in rw (k, e) all
 list_all-take_if p b bytes false e all = refl
 
-list_all-take : (p : ℕ → Bool) (bytes : List ℕ) → list_all p (take (prefix_len p bytes) bytes) ≡ true
+pub list_all-take : (p : ℕ → Bool) (bytes : List ℕ) → list_all p (take (prefix_len p bytes) bytes) ≡ true
 list_all-take p [] = refl
 list_all-take p (b ∷ bytes) = list_all-take_if p b bytes (p b) refl (list_all-take p bytes)
 
@@ -336,3 +349,5 @@ pub no_two : {D X E : Type 0} {v : D → X} {t : D → List ℕ} {F : D → Type
 no_two {v = v} {read = read} r a b x y fa fb e =
     let same : (v a, x) ≡ (v b, y) = done_is (v a, x) (v b, y) (sym (r.again a x fa tt) ∙ ap read e ∙ r.again b y fb tt) in
     (ap (λ p. p.0) same, ap (λ p. p.1) same)
+
+pub ruleset run_laws = (list_all-take, prefix_len-le-length)

@@ -8,7 +8,7 @@ use Rattle.std.proofs.lemmas.Bool.{eqb-true, eq-eqb, and_parts, and_from, leb-tr
 use Rattle.std.proofs.lemmas.Fmt.{decimal-digits_value, digits_value-decimal, digits_decimal, decimal_nonempty, decimal_digit, first_decimal}
 use Rattle.std.proofs.lemmas.Str.Parse.{IsNumeralModel, numerals_by_value, tells_digits, digit_from_value}
 use Rattle.std.specs.Char.{digit_value}
-use Rattle.bg_base.specs.Spelling.{is_word_byte}
+use Rattle.bg_base.specs.Spelling.{is_word_byte, is_letter, is_lower_case, is_upper_case, is_ident}
 use Rattle.bg_listing.specs.Limits.{begins, IsWord}
 use Rattle.bg_listing.specs.Combinators.{only_if, run}
 use Rattle.bg_listing.specs.Reading.{not_there, is_numeral, is_numeral_up_to, number_at, word_at}
@@ -103,3 +103,17 @@ whole_word_reads first = only_if_reads not_there (begins first) (run_reads is_wo
 
 pub word_reads : (first : ℕ → Bool) → Reads IsEnded (λ word. word) (λ word. word) (IsWord first) (word_at first)
 word_reads first = next_reads ended_word (whole_word_reads first)
+
+lower_is_letter : (b : ℕ) → is_lower_case b ≡ true → is_letter b ≡ true
+lower_is_letter b e = grind arith
+
+upper_is_letter : (b : ℕ) → is_upper_case b ≡ true → is_letter b ≡ true
+upper_is_letter b e = grind arith
+
+pub lower_is_ident : (word : List ℕ) → begins is_lower_case word ≡ true → list_all is_word_byte word ≡ true → is_ident word ≡ true
+lower_is_ident [] e all = absurd cc
+lower_is_ident (b ∷ word) e all = and_from (is_letter b) (list_all is_word_byte word) (lower_is_letter b e) (and_parts (is_word_byte b) (list_all is_word_byte word) all).1
+
+pub upper_is_ident : (word : List ℕ) → begins is_upper_case word ≡ true → list_all is_word_byte word ≡ true → is_ident word ≡ true
+upper_is_ident [] e all = absurd cc
+upper_is_ident (b ∷ word) e all = and_from (is_letter b) (list_all is_word_byte word) (upper_is_letter b e) (and_parts (is_word_byte b) (list_all is_word_byte word) all).1

@@ -139,11 +139,11 @@ quoted_reads = ended_reads (codes "\"") (λ rest. refl) (run_reads is_text_byte)
 value_sound : (bytes : List ℕ) → Holds (λ v. v) value_text IsValue bytes (value_at bytes)
 unfolding value_at
 value_sound [] = refused tt
-value_sound (b ∷ bytes) = holds_if (b ∷ bytes) (eqb b 34) (mapped Words (quoted_at bytes)) (cond (eqb b 45) (mapped (λ n. Int (negsuc n)) (negative_at bytes)) (mapped (λ n. Int (pos n)) (number_at greatest_int (b ∷ bytes))))
+value_sound (b ∷ bytes) = holds_if (b ∷ bytes) (eqb b 34) (mapped Words (quoted_at bytes)) (cond (eqb b 45) (mapped Int (mapped negsuc (negative_at bytes))) (mapped Int (mapped pos (number_at greatest_int (b ∷ bytes)))))
     (λ e. tagged value_text IsValue Words 34 b bytes (quoted_at bytes) (λ t. refl) (λ t f. f) e (quoted_reads.sound bytes))
-    (λ _. holds_if (b ∷ bytes) (eqb b 45) (mapped (λ n. Int (negsuc n)) (negative_at bytes)) (mapped (λ n. Int (pos n)) (number_at greatest_int (b ∷ bytes)))
-      (λ e. tagged value_text IsValue (λ n. Int (negsuc n)) 45 b bytes (negative_at bytes) (λ n. refl) (λ n f. f) e (negative_reads.sound bytes))
-      (λ _. untagged value_text IsValue (λ n. Int (pos n)) (b ∷ bytes) (number_at greatest_int (b ∷ bytes)) (λ n. refl) (λ n f. f) ((number_reads greatest_int (lit< tt)).sound (b ∷ bytes))))
+    (λ _. holds_if (b ∷ bytes) (eqb b 45) (mapped Int (mapped negsuc (negative_at bytes))) (mapped Int (mapped pos (number_at greatest_int (b ∷ bytes))))
+      (λ e. untagged value_text IsValue Int (b ∷ bytes) (mapped negsuc (negative_at bytes)) (λ z. refl) (λ z f. f) (tagged signed_decimal IsInt negsuc 45 b bytes (negative_at bytes) (λ n. refl) (λ n f. f) e (negative_reads.sound bytes)))
+      (λ _. untagged value_text IsValue Int (b ∷ bytes) (mapped pos (number_at greatest_int (b ∷ bytes))) (λ z. refl) (λ z f. f) (untagged signed_decimal IsInt pos (b ∷ bytes) (number_at greatest_int (b ∷ bytes)) (λ n. refl) (λ n f. f) ((number_reads greatest_int (lit< tt)).sound (b ∷ bytes)))))
 
 digit_is_no_tag : (b : ℕ) → is_ascii_digit b ≡ true → (eqb b 34 ≡ false) × (eqb b 45 ≡ false)
 digit_is_no_tag b e = (grind arith, grind arith)

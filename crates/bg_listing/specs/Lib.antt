@@ -2,3 +2,5 @@ pub mod Spelling
 pub mod Limits
 pub mod Combinators
 pub mod Reading
+pub mod Lines
+pub mod Answers

@@ -13,6 +13,11 @@ use Rattle.bg_base.specs.declared.labels.Value.TheVariants.{Int, Words}
 use Rattle.bg_base.specs.declared.labels.Label.{Label}
 use Rattle.bg_base.specs.declared.signature.Control.{Control}
 use Rattle.bg_base.specs.declared.big.InnerRow.{InnerRow}
+use Rattle.bg_base.specs.declared.big.NodeRow.{NodeRow}
+use Rattle.bg_base.specs.declared.big.Big.{Big}
+use Rattle.bg_base.specs.Signatures.{IsSignature}
+use Rattle.bg_base.specs.Bigraph.{IsValidUnder}
+use Rattle.bg_listing.specs.Spelling.{label_of}
 
 -- the greatest number of a listing, 2 ^ 31 - 1
 abbrev pub greatest : ℕ
@@ -61,3 +66,47 @@ IsValue (Words text) = IsTrue (list_all is_text_byte text)
 
 abbrev pub IsLabel : Label → Type 0
 IsLabel label = IsWord is_upper_case label.name × AllByRecursion IsValue label.args
+
+-- ---- whole values
+
+-- the most rows of each part of a bigraph, and the most regions
+abbrev pub most_rows : ℕ
+most_rows = 65536
+
+abbrev pub most_controls : ℕ
+most_controls = 4096
+
+-- the largest arity of a control
+abbrev pub most_ports : ℕ
+most_ports = 16
+
+-- at most so many, and each of them with a spelling
+pub record AreCounted {A : Type 0} (most : ℕ) (Fits : A → Type 0) (xs : List A) : Type 0 where
+  pub many : length xs ≤ most
+  pub all : AllByRecursion Fits xs
+
+-- a control that a row of a signature spells
+pub record IsControl (control : Control) : Type 0 where
+  pub label : IsLabel control.label
+  pub arity : control.arity ≤ most_ports
+
+pub record IsNode (signature : List Control) (row : NodeRow) : Type 0 where
+  pub id : IsNumber row.id
+  pub label : IsLabel (label_of signature row.control)
+  pub parent : IsPlace row.parent
+  pub links : AllByRecursion IsLink row.links
+
+-- a signature that a listing spells
+pub record IsReadableSignature (controls : List Control) : Type 0 where
+  pub signature : IsSignature controls
+  pub labels : AllByRecursion (λ (control : Control). IsLabel control.label) controls
+
+-- a bigraph that is valid under the signature and that a listing spells
+pub record IsReadableBig (signature : List Control) (big : Big) : Type 0 where
+  pub valid : IsValidUnder signature big
+  pub regions : big.regions ≤ most_rows
+  pub sites : AreCounted most_rows IsPlace big.sites
+  pub inner : AreCounted most_rows IsInner big.inner
+  pub outer : AreCounted most_rows IsName big.outer
+  pub edges : AreCounted most_rows IsNumber big.edges
+  pub nodes : AreCounted most_rows (IsNode signature) big.nodes

@@ -73,7 +73,7 @@ unfoldable pub value_at : List ℕ → Result (Value × List ℕ) (Unit {0})
 value_at [] = Err tt
 value_at (b ∷ bytes) =
     if b == 34 then mapped Words (quoted_at bytes)
-    else (if b == 45 then mapped (λ n. Int (negsuc n)) (negative_at bytes) else mapped (λ n. Int (pos n)) (number_at greatest_int (b ∷ bytes)))
+    else (if b == 45 then mapped Int (mapped negsuc (negative_at bytes)) else mapped Int (mapped pos (number_at greatest_int (b ∷ bytes))))
 
 -- the arguments with their brackets
 unfoldable pub args_at : List ℕ → Result (List Value × List ℕ) (Unit {0})

@@ -1,6 +1,7 @@
 -- The one spelling of each kind of thing in a listing. `decimal` and `signed_decimal` write a number in decimal
 -- digits without leading zeros, the second with `-` in front of a negative one.
-use Rattle.std.specs.Prelude.{ℕ, ℤ, List, [], ◌∷◌, ◌++◌, codes}
+use Rattle.std.specs.Prelude.{ℕ, ℤ, List, [], ◌∷◌, ◌++◌, length, codes, slice_get, option_map, unwrap_or}
+use Rattle.std.specs.List.{flat_map}
 use Rattle.std.specs.Fmt.{decimal, signed_decimal}
 use Rattle.bg_base.specs.declared.names.Name.{Name}
 use Rattle.bg_base.specs.declared.names.Name.TheVariants.{Plain, Port, Opened}
@@ -15,6 +16,8 @@ use Rattle.bg_base.specs.declared.signature.Kind.{Kind}
 use Rattle.bg_base.specs.declared.signature.Kind.TheVariants.{Normal, Atomic}
 use Rattle.bg_base.specs.declared.signature.Control.{Control}
 use Rattle.bg_base.specs.declared.big.InnerRow.{InnerRow}
+use Rattle.bg_base.specs.declared.big.NodeRow.{NodeRow}
+use Rattle.bg_base.specs.declared.big.Big.{Big}
 
 -- the bytes between the fields and at the end of a line, and those of a list of arguments
 abbrev pub space : ℕ
@@ -89,3 +92,29 @@ control_line control = (label_text control.label ++ (codes " " ++ (decimal contr
 -- a word and a number
 abbrev pub count_line : List ℕ → ℕ → List ℕ
 count_line word count = word ++ (decimal count ++ codes "\n")
+
+-- the label of the control of that number; where there is none, no label at all
+abbrev pub label_of : List Control → ℕ → Label
+label_of signature control = unwrap_or (option_map (λ (found : Control). found.label) (slice_get signature control)) (record { name = []; args = [] })
+
+-- the node, its label, its place, and its links
+abbrev pub node_line : List Control → NodeRow → List ℕ
+node_line signature row =
+    decimal row.id ++ (codes " " ++ (label_text (label_of signature row.control) ++ (codes " " ++ (place_text row.parent ++ chain_text line_feed space link_text row.links))))
+
+-- ---- listings
+
+-- the number of rows, and each row
+abbrev pub section_text : {A : Type 0} → List ℕ → (A → List ℕ) → List A → List ℕ
+section_text word line rows = count_line word (length rows) ++ flat_map line rows
+
+-- the listing of a signature
+unfoldable pub signature_text : List Control → List ℕ
+signature_text controls = section_text (codes "signature ") control_line controls
+
+-- the listing of a bigraph under a signature
+unfoldable pub big_text : List Control → Big → List ℕ
+big_text signature big =
+    count_line (codes "bigraph ") big.regions ++ (section_text (codes "sites ") place_line big.sites
+    ++ (section_text (codes "inner ") inner_line big.inner ++ (section_text (codes "outer ") name_line big.outer
+    ++ (section_text (codes "edges ") edge_line big.edges ++ section_text (codes "nodes ") (node_line signature) big.nodes))))

@@ -1,4 +1,11 @@
 //! Listings.
 #![tactic(auto)]
 
-pub fn nothing() {}
+mod bytes;
+mod chain;
+mod fault;
+mod label;
+mod names;
+mod number;
+
+pub use fault::ListingFault;
