@@ -3,4 +3,4 @@ pub mod Numbers
 pub mod Parts
 pub mod FixedBytes
 pub mod Loops
-pub mod Lines
+pub mod Listings

@@ -75,9 +75,12 @@ row_of signature parts = record { id = parts.0; control = control_of signature p
 unfoldable pub links_at : List ℕ → Result (List Link × List ℕ) (Unit {0})
 links_at bytes = chain line_feed space link_at bytes
 
+unfoldable pub node_at : List Control → List ℕ → Result (NodeRow × List ℕ) (Unit {0})
+node_at signature bytes =
+    mapped (row_of signature) (both (number_at greatest) (behind (codes " ") (both label_at (behind (codes " ") (both place_at links_at)))) bytes)
+
 unfoldable pub node_row : List Control → List ℕ → Result (NodeRow × List ℕ) Bad
-node_row signature bytes =
-    row (λ front. mapped (row_of signature) (both (number_at greatest) (behind (codes " ") (both label_at (behind (codes " ") (both place_at links_at)))) front)) bytes
+node_row signature bytes = row (node_at signature) bytes
 
 -- ---- listings, as the first pass reads them
 

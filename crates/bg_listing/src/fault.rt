@@ -2,6 +2,15 @@
 use bg_lists::OutOfMemory as NoMemory;
 use std::alloc::{AllocError, AllocFailed};
 
+/// The code of a line that is not of its form. The end of input counts as a line.
+pub const BAD_LINE: u8 = 1;
+
+/// The code of a line with a number above its limit.
+pub const TOO_MANY: u8 = 2;
+
+/// The code of a row of a signature whose label stood before.
+pub const DUPLICATE_LABEL: u8 = 9;
+
 /// Why a listing was not read.
 #[derive(Clone, Copy, Debug, PartialEq, Eq)]
 pub enum ListingFault {

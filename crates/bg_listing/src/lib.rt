@@ -4,8 +4,11 @@
 mod bytes;
 mod chain;
 mod fault;
+mod first_pass;
 mod label;
+mod lines;
 mod names;
 mod number;
+mod rows;
 
 pub use fault::ListingFault;

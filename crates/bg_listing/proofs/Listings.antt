@@ -16,7 +16,7 @@ use Rattle.bg_listing.specs.Spelling.{space, line_feed, chain_text, place_text, 
 use Rattle.bg_listing.specs.Limits.{greatest, most_rows, most_controls, most_ports, IsNumber, IsPlace, IsName, IsLink, IsInner, IsLabel, IsControl, AreCounted}
 use Rattle.bg_listing.specs.Combinators.{◌>>=◌, mapped, behind, line, only_if, both, each, chain}
 use Rattle.bg_listing.specs.Reading.{number_at, place_at, name_at, link_at, inner_at, label_at, control_at}
-use Rattle.bg_listing.specs.Lines.{Bad, bad_line, too_many, or_bad_line, row, count_at, section_at, edge_row, place_row, name_row, inner_row, control_row, control_of, NodeParts, row_of, links_at, node_row, signature_at, Sections, big_of, big_at}
+use Rattle.bg_listing.specs.Lines.{Bad, bad_line, too_many, or_bad_line, row, count_at, section_at, edge_row, place_row, name_row, inner_row, control_row, control_of, NodeParts, row_of, links_at, node_at, node_row, signature_at, Sections, big_of, big_at}
 use Rattle.bg_listing.proofs.Combinators.{Holds, found, refused, Reads, Anything, holds_bind, mapped_reads, viewed_reads, fits_reads, map_same, behind_reads, line_reads, only_if_reads, both_read, chain_reads, chain_begins, AreThisMany, each_reads, each_again}
 use Rattle.bg_listing.proofs.Numbers.{IsEnded, number_reads}
 use Rattle.bg_listing.proofs.Parts.{listed_numbers, place_reads, name_reads, link_reads, inner_reads, label_reads, control_reads}
@@ -98,7 +98,7 @@ abbrev pub AreParts : NodeParts → Type 0
 AreParts parts = (parts.0 ≤ greatest) × (IsLabel parts.1.0 × (IsPlace parts.1.1.0 × AllByRecursion IsLink parts.1.1.1))
 
 node_row_reads : (signature : List Control) → Reads Anything (row_of signature) parts_line AreParts (node_row signature)
-unfolding node_row
+unfolding node_row node_at
 node_row_reads signature = row_reads (mapped_reads (λ p. p) (λ p. p) (row_of signature) (λ p. refl)
     (both_read (λ p rest f n. refl) listed_numbers (behind_reads (codes " ") (both_read (λ p rest f n. refl) label_reads (behind_reads (codes " ")
       (both_read (λ ls rest f n. chain_begins IsEnded line_feed space link_text (λ rest. refl) (λ rest. refl) ls rest) place_reads links_reads))))))
