@@ -10,5 +10,8 @@ mod lines;
 mod names;
 mod number;
 mod rows;
+mod write;
+mod writing;
 
 pub use fault::ListingFault;
+pub use write::{write_big, write_label, write_number, write_signature};
