@@ -4,3 +4,6 @@ pub mod Parts
 pub mod FixedBytes
 pub mod Loops
 pub mod Listings
+pub mod Labels
+pub mod Values
+pub mod SixParts

@@ -4,3 +4,4 @@ pub mod Combinators
 pub mod Reading
 pub mod Lines
 pub mod Answers
+pub mod Verdict

@@ -101,12 +101,16 @@ pub record IsReadableSignature (controls : List Control) : Type 0 where
   pub signature : IsSignature controls
   pub labels : AllByRecursion (λ (control : Control). IsLabel control.label) controls
 
--- a bigraph that is valid under the signature and that a listing spells
-pub record IsReadableBig (signature : List Control) (big : Big) : Type 0 where
-  pub valid : IsValidUnder signature big
+-- a bigraph within the limits and with spellings
+pub record IsSpelledBig (signature : List Control) (big : Big) : Type 0 where
   pub regions : big.regions ≤ most_rows
   pub sites : AreCounted most_rows IsPlace big.sites
   pub inner : AreCounted most_rows IsInner big.inner
   pub outer : AreCounted most_rows IsName big.outer
   pub edges : AreCounted most_rows IsNumber big.edges
   pub nodes : AreCounted most_rows (IsNode signature) big.nodes
+
+-- a bigraph that is valid under the signature and that a listing spells
+pub record IsReadableBig (signature : List Control) (big : Big) : Type 0 where
+  pub valid : IsValidUnder signature big
+  pub spelled : IsSpelledBig signature big

@@ -3,6 +3,7 @@
 
 mod bytes;
 mod chain;
+mod cursor;
 mod fault;
 mod first_pass;
 mod label;
@@ -13,5 +14,6 @@ mod rows;
 mod write;
 mod writing;
 
+pub use cursor::Cursor;
 pub use fault::ListingFault;
 pub use write::{write_big, write_label, write_number, write_signature};

@@ -1,14 +1,14 @@
 //! The writers of listings, labels and numbers.
-ghost use Rattle.std.specs.Prelude.{◌≡◌, ◌<◌, ◌++◌, length, All, OnOk, OnErr};
+ghost use Rattle.std.specs.Prelude.{◌≡◌, ◌<◌, ◌++◌, length, codes, All, OnOk, OnErr};
 ghost use Rattle.std.specs.Fmt.{decimal};
 ghost use Rattle.std.specs.List.{flat_map};
 ghost use Rattle.bg_base.specs.Bigraph.{IsValidUnder};
 ghost use Rattle.bg_base.specs.declared.big.NodeRow.{NodeRow as NodeRowValue};
-ghost use Rattle.bg_listing.specs.Spelling.{label_text, node_line, signature_text, big_text};
+ghost use Rattle.bg_listing.specs.Spelling.{label_text, node_line, section_text, signature_text, big_text};
 
 use crate::writing::{put_chain, put_count, put_label, put_lines, put_number, put_place, put_section};
 use bg_base::{Big, Control, InnerRow, Label, Link, Name, NodeRow, Place, Signature};
-use bg_lists::Mem;
+use bg_lists::{Mem, Rows};
 use std::alloc::Global;
 
 /// Appends the spelling of a number: its decimal digits, without leading zeros. Every `u32` is a number here.
@@ -77,8 +77,16 @@ fn put_big(alloc: Global, signature: &Signature, big: &Big, out: &mut Vec<u8>) -
     put_section::<InnerRow>(alloc, b"inner ", &big.inner, out)?;
     put_section::<Name>(alloc, b"outer ", &big.outer, out)?;
     put_section::<u32>(alloc, b"edges ", &big.edges, out)?;
-    put_count(alloc, b"nodes ", big.nodes.len(), out)?;
-    put_nodes(alloc, signature, big.nodes.as_slice(), out)
+    put_node_section(alloc, signature, &big.nodes, out)?;
+    Ok(())
+}
+
+fn put_node_section(alloc: Global, signature: &Signature, rows: &Rows<NodeRow>, out: &mut Vec<u8>) -> Mem<()>
+    requires { All (λ (row : NodeRowValue). row.control < length signature.now) rows.now }
+    ensures { OnOk result (out.new.items ≡ out.old.items ++ section_text (codes "nodes ") (node_line signature.now) rows.now) }
+{
+    put_count(alloc, b"nodes ", rows.len(), out)?;
+    put_nodes(alloc, signature, rows.as_slice(), out)
 }
 
 fn put_nodes(alloc: Global, signature: &Signature, rows: &[NodeRow], out: &mut Vec<u8>) -> Mem<()>
