@@ -1,0 +1,35 @@
+//! The first pass over a listing: its form and its limits.
+ghost use Rattle.std.specs.Prelude.{◌≡◌};
+ghost use Rattle.bg_listing.specs.Lines.{signature_at, big_at};
+ghost use Rattle.bg_listing.specs.Answers.{GivesLines};
+
+use crate::fault::LineFault;
+use crate::lines::{count, section};
+use bg_base::{Big, Control, InnerRow, MOST_CONTROLS, Name, NodeRow, Place, Signature};
+use bg_lists::Rows;
+use std::alloc::Global;
+
+/// The most rows of a part of a bigraph, and the most regions.
+const MOST_ROWS: u32 = 65_536;
+
+/// The rows of a signature, whatever labels they repeat.
+#[tactic(auto, unfolding(crate::specs::Lines::signature_at))]
+pub(crate) fn control_rows(alloc: Global, bytes: &[u8]) -> Result<(Rows<Control>, &[u8]), LineFault>
+    ensures { GivesLines (λ x. (x.0, x.1.now)) result (signature_at bytes.now) }
+{
+    section::<Control>(alloc, &(), bytes, b"signature ", MOST_CONTROLS as u32)
+}
+
+/// The rows of a bigraph, whether it is valid or not.
+#[tactic(auto, unfolding(crate::specs::Lines::big_at))]
+pub(crate) fn big_rows<'a>(alloc: Global, signature: &Signature, bytes: &'a [u8]) -> Result<(Big, &'a [u8]), LineFault>
+    ensures { GivesLines (λ x. (x.0, x.1.now)) result (big_at signature.now bytes.now) }
+{
+    let (regions, rest) = count(bytes, b"bigraph ", MOST_ROWS)?;
+    let (sites, rest) = section::<Place>(alloc, &(), rest, b"sites ", MOST_ROWS)?;
+    let (inner, rest) = section::<InnerRow>(alloc, &(), rest, b"inner ", MOST_ROWS)?;
+    let (outer, rest) = section::<Name>(alloc, &(), rest, b"outer ", MOST_ROWS)?;
+    let (edges, rest) = section::<u32>(alloc, &(), rest, b"edges ", MOST_ROWS)?;
+    let (nodes, rest) = section::<NodeRow>(alloc, signature, rest, b"nodes ", MOST_ROWS)?;
+    Ok((Big { nodes, edges, sites, inner, regions, outer }, rest))
+}

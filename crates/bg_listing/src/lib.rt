@@ -1,0 +1,19 @@
+//! Listings.
+#![tactic(auto)]
+
+mod bytes;
+mod chain;
+mod cursor;
+mod fault;
+mod first_pass;
+mod label;
+mod lines;
+mod names;
+mod number;
+mod rows;
+mod write;
+mod writing;
+
+pub use cursor::Cursor;
+pub use fault::ListingFault;
+pub use write::{write_big, write_label, write_number, write_signature};
