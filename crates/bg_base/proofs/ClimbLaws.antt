@@ -1,10 +1,9 @@
 -- Climbing from a node to its root.
-use Rattle.std.proofs.Common.{◌≡◌, ℕ, zero, suc, ◌+◌, ◌-◌, ◌<◌, ◌≤◌, Bool, true, false, Option, Some, None, List, length, eqb, refl, sym, ap, ◌∙◌, subst, arith, IsTrue, cond, inl, inr, set, length-set, [], ◌∷◌, slice_set}
-use Rattle.std.specs.Option.{option_map, unwrap_or}
-use Rattle.std.specs.List.{find, slice_get}
-use Rattle.std.proofs.lemmas.Bool.{false≢true, eqb-true, cases_eq}
+use Rattle.std.proofs.Common.{◌≡◌, ℕ, zero, suc, ◌-◌, ◌<◌, Bool, true, Some, List, length, refl, sym, ap, ◌∙◌, subst, arith, inl, inr, set, length-set, [], ◌∷◌, slice_set}
+use Rattle.std.specs.List.{slice_get}
+use Rattle.std.proofs.lemmas.Bool.{false≢true, cases_eq}
 use Rattle.bg_base.specs.declared.names.Place.{Place}
-use Rattle.bg_base.specs.declared.names.Place.TheVariants.{Node, Region}
+use Rattle.bg_base.specs.declared.names.Place.TheVariants.{Node}
 use Rattle.bg_base.specs.declared.big.NodeRow.{NodeRow}
 use Rattle.bg_base.specs.declared.big.Big.{Big}
 use Rattle.bg_base.specs.Bigraph.{row_of, reaches, is_rooted}

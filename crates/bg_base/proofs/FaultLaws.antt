@@ -1,18 +1,16 @@
 -- A bigraph has no fault under a signature exactly where it is valid under it.
-use Rattle.std.proofs.Common.{◌≡◌, ℕ, zero, suc, ◌+◌, ◌<◌, ◌≤◌, Bool, true, false, not, cond, ◌&&◌, eqb, ltb, Option, Some, None, List, [], ◌∷◌, length, map, refl, sym, ap, ◌∙◌, subst, arith, IsTrue, ltb-true, lt-ltb, eq-eqb, ◌↔◌}
-use Rattle.std.specs.Option.{option_map}
+use Rattle.std.proofs.Common.{◌≡◌, ℕ, ◌<◌, Bool, true, false, not, cond, ◌&&◌, eqb, ltb, Option, Some, None, List, [], ◌∷◌, length, map, refl, sym, ap, ◌∙◌, arith, IsTrue, ltb-true, lt-ltb, eq-eqb, ◌↔◌}
 use Rattle.std.specs.List.{AllByRecursion, All, list_all}
 use Rattle.std.specs.List.Sorted.{IsStrictlySortedBy}
 use Rattle.std.specs.Ordering.{nat_cmp, is_lt, on}
 use Rattle.std.specs.Cmp.{IsTotalOrder}
 use Rattle.std.specs.declared.cmp.Ordering.{Ordering}
-use Rattle.std.specs.declared.cmp.Ordering.TheVariants.{Less, Equal, Greater}
-use Rattle.std.proofs.lemmas.Bool.{and_parts, false≢true, eqb-true}
+use Rattle.std.specs.declared.cmp.Ordering.TheVariants.{Less}
+use Rattle.std.proofs.lemmas.Bool.{and_parts, eqb-true}
 use Rattle.std.proofs.lemmas.Cmp.{nat_cmp_total}
 use Rattle.std.proofs.lemmas.List.Elements.{All-from_recursion, recursion_from_All}
 use Rattle.bg_base.specs.declared.names.Name.{Name}
 use Rattle.bg_base.specs.declared.names.Place.{Place}
-use Rattle.bg_base.specs.declared.names.Link.{Link}
 use Rattle.bg_base.specs.declared.big.NodeRow.{NodeRow}
 use Rattle.bg_base.specs.declared.big.InnerRow.{InnerRow}
 use Rattle.bg_base.specs.declared.big.Big.{Big}
@@ -27,7 +25,7 @@ use Rattle.bg_base.specs.Lookup.{IsAnswer, IsMalformed}
 use Rattle.bg_lists.proofs.Comparisons.{Less-from_is_lt}
 use Rattle.bg_base.specs.Order.{name_cmp}
 use Rattle.bg_base.specs.OrderLaws.{name_cmp_total}
-use Rattle.bg_base.specs.Bigraph.{IsValid, IsValidUnder, node_cmp, inner_cmp, has_place, has_link, is_rooted, is_atomic, arity_of}
+use Rattle.bg_base.specs.Bigraph.{IsValidUnder, node_cmp, inner_cmp, has_place, has_link, is_rooted, is_atomic, arity_of}
 use Rattle.bg_base.specs.Faults.{rises, site_code, inner_code, outer_code, edge_code, node_code, is_known, codes_from, shifted, first_fault, or_else, sites_fault, inner_fault, outer_fault, edges_fault, nodes_fault, fault_of}
 
 -- no code is that of a broken rule
