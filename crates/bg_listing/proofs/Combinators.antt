@@ -25,7 +25,7 @@ Anything rest = Unit {0}
 abbrev pub done : {X E : Type 0} → X × List ℕ → Result (X × List ℕ) E
 done x = Ok x
 
-done_is : {X E : Type 0} (x y : X × List ℕ) → done {E = E} x ≡ done y → x ≡ y
+pub done_is : {X E : Type 0} (x y : X × List ℕ) → done {E = E} x ≡ done y → x ≡ y
 done_is x y e = cc
 
 -- ---- steps

@@ -88,7 +88,7 @@ control_own controls distinct k lt = ap (λ o. unwrap_or o (length controls)) (n
 
 -- ---- labels that stand twice
 
-all_here : {A : Type 0} (P : A → Type 0) (before : List A) (x : A) (rest : List A) → AllByRecursion P (before ++ x ∷ rest) → P x
+pub all_here : {A : Type 0} (P : A → Type 0) (before : List A) (x : A) (rest : List A) → AllByRecursion P (before ++ x ∷ rest) → P x
 all_here P [] x rest all = all.0
 all_here P (b ∷ before) x rest all = all_here P before x rest all.1
 

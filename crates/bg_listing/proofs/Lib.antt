@@ -7,3 +7,5 @@ pub mod Listings
 pub mod Labels
 pub mod Values
 pub mod SixParts
+pub mod Rooms
+pub mod Passes

@@ -1,6 +1,9 @@
 -- The answer to a listing at a cursor: its value and what stands behind it, or the code and the line of the refusal.
 use Rattle.std.specs.Prelude.{◌≡◌, ℕ, suc, ◌+◌, ◌-◌, ◌≤◌, ◌==◌, Bool, Option, Some, None, is_some, option_map, List, [], ◌∷◌, ◌++◌, length, take, drop, count_by, Result, Ok, Err, if◌then◌else◌}
-use Rattle.bg_base.specs.declared.names.Name.{Name}
+use Rattle.std.specs.List.{prefix_len}
+use Rattle.std.specs.Char.{is_ascii_digit}
+use Rattle.std.specs.Fmt.{decimal}
+use Rattle.bg_base.specs.declared.labels.Label.{Label}
 use Rattle.bg_base.specs.declared.signature.Control.{Control}
 use Rattle.bg_base.specs.declared.big.Big.{Big}
 use Rattle.bg_base.specs.declared.check.Part.{Part}
@@ -10,6 +13,8 @@ use Rattle.bg_base.specs.Faults.{fault_of}
 use Rattle.bg_listing.specs.declared.fault.ListingFault.{ListingFault}
 use Rattle.bg_listing.specs.declared.fault.ListingFault.TheVariants.{Bad, OutOfMemory}
 use Rattle.bg_listing.specs.declared.cursor.Cursor.{Cursor}
+use Rattle.bg_listing.specs.Spelling.{label_text}
+use Rattle.bg_listing.specs.Limits.{most_controls, IsLabel, AreCounted, IsControl}
 use Rattle.bg_listing.specs.Lines as lines
 use Rattle.bg_listing.specs.Lines.{signature_at, big_at}
 
@@ -39,7 +44,17 @@ abbrev pub judged : {A : Type 0} → List ℕ → Result A lines.Bad → (A → 
 judged bytes (Ok found) second = second found
 judged bytes (Err bad) second = Err (bad.code, line_of bytes bad.left)
 
+-- behind so many lines there is room left, and what is left is the end of the bytes
+pub record LeavesRoom (bytes : List ℕ) (at : Cursor) (rest : List ℕ) (lines : ℕ) : Type 0 where
+  pub room : at.line + lines + length rest ≤ length bytes
+  pub behind : drop (length bytes - length rest) bytes ≡ rest
+
 -- ---- signatures
+
+-- what the first pass over a signature leaves
+pub record SignatureLeft (bytes : List ℕ) (at : Cursor) (controls : List Control) (rest : List ℕ) : Type 0 where
+  pub left : LeavesRoom bytes at rest (length controls)
+  pub limits : AreCounted most_controls IsControl controls
 
 -- the first of the controls, counted from 0, whose label stands before, in an earlier list or among these
 abbrev pub repeat_among : List Control → List Control → Option ℕ
@@ -60,6 +75,10 @@ signature_verdict bytes at = judged bytes (signature_at (drop at.offset bytes)) 
 
 -- ---- bigraphs
 
+-- the number of rows of all parts
+abbrev pub rows_of : Big → ℕ
+rows_of big = length big.sites + length big.inner + length big.outer + length big.edges + length big.nodes
+
 -- the number of lines before the first row of a part: a line for each number of rows, and the rows of earlier parts
 abbrev pub lines_before : Part → Big → ℕ
 lines_before Sites big = 2
@@ -79,11 +98,17 @@ big_verdict signature bytes at =
 
 -- ---- what the readers return
 
--- the value and a cursor behind it, or the code and the line of the refusal, or want of memory
+-- the code and the line of the refusal, or want of memory
 abbrev pub Tells : {Y : Type 0} → ListingFault → Result Y Refusal → Type 0
 Tells (Bad code line) verdict = verdict ≡ Err (code, line)
 Tells OutOfMemory verdict = Unit {0}
 
+-- the value, or the code and the line of the refusal, or want of memory
+abbrev pub Makes : {A : Type 0} → Result A ListingFault → Result A Refusal → Type 0
+Makes (Ok made) verdict = verdict ≡ Ok made
+Makes (Err fault) verdict = Tells fault verdict
+
+-- the value and a cursor behind it, or the code and the line of the refusal, or want of memory
 abbrev pub Answers : {A : Type 0} → List ℕ → Result (A × Cursor) ListingFault → Result (A × List ℕ) Refusal → Type 0
 Answers bytes (Ok found) verdict = (verdict ≡ Ok (found.0, drop found.1.offset bytes)) × IsAt bytes found.1
 Answers bytes (Err fault) verdict = Tells fault verdict
@@ -93,3 +118,17 @@ abbrev pub Reads : {A : Type 0} → List ℕ → Result (A × Cursor) ListingFau
 Reads bytes (Ok found) value rest = (found.0 ≡ value) × (drop found.1.offset bytes ≡ rest)
 Reads bytes (Err (Bad code line)) value rest = ⊥
 Reads bytes (Err OutOfMemory) value rest = Unit {0}
+
+-- ---- parts of lines
+
+-- the number is spelled at the offset by the whole run of digits, and the other offset stands behind it
+pub record IsNumberAt (bytes : List ℕ) (at number end : ℕ) : Type 0 where
+  pub text : drop at bytes ≡ decimal number ++ drop end bytes
+  pub whole : prefix_len is_ascii_digit (drop end bytes) ≡ 0
+  pub inside : end ≤ length bytes
+
+-- the label is spelled at the offset, and the other offset stands behind it
+pub record IsLabelAt (bytes : List ℕ) (at : ℕ) (label : Label) (end : ℕ) : Type 0 where
+  pub spelled : IsLabel label
+  pub text : drop at bytes ≡ label_text label ++ drop end bytes
+  pub inside : end ≤ length bytes

@@ -10,10 +10,12 @@ mod label;
 mod lines;
 mod names;
 mod number;
+mod read;
 mod rows;
 mod write;
 mod writing;
 
 pub use cursor::Cursor;
 pub use fault::ListingFault;
+pub use read::{bigraphs_have_one_text, read_big, read_signature, signatures_have_one_text};
 pub use write::{write_big, write_label, write_number, write_signature};
