@@ -325,7 +325,7 @@ pub list_all-take : (p : ℕ → Bool) (bytes : List ℕ) → list_all p (take (
 list_all-take p [] = refl
 list_all-take p (b ∷ bytes) = list_all-take_if p b bytes (p b) refl (list_all-take p bytes)
 
-prefix_len-append : (p : ℕ → Bool) (xs rest : List ℕ) → list_all p xs ≡ true → prefix_len p (xs ++ rest) ≡ length xs + prefix_len p rest
+pub prefix_len-append : (p : ℕ → Bool) (xs rest : List ℕ) → list_all p xs ≡ true → prefix_len p (xs ++ rest) ≡ length xs + prefix_len p rest
 prefix_len-append p [] rest all = omega arith
 prefix_len-append p (x ∷ xs) rest all =
     let t = and_parts (p x) (list_all p xs) all in

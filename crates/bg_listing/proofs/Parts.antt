@@ -173,7 +173,7 @@ values_reads : Reads Anything (λ vs. vs) (chain_text closing_bracket comma valu
 values_reads = viewed_reads (λ vs. vs) map_same (chain_reads closing_bracket comma (λ rest. refl) (λ rest. refl) refl value_reads)
 
 -- arguments in their brackets, one at least
-args_read : Reads {D = Value × List Value} Anything (λ p. p.0 ∷ p.1) (λ p. 40 ∷ value_text p.0 ++ chain_text closing_bracket comma value_text p.1) (λ p. IsValue p.0 × AllByRecursion IsValue p.1) args_at
+pub args_read : Reads {D = Value × List Value} Anything (λ p. p.0 ∷ p.1) (λ p. 40 ∷ value_text p.0 ++ chain_text closing_bracket comma value_text p.1) (λ p. IsValue p.0 × AllByRecursion IsValue p.1) args_at
 unfolding args_at
 args_read = mapped_reads (λ p. p) (λ p. p) (λ p. p.0 ∷ p.1) (λ p. refl)
     (behind_reads (codes "(") (both_read (λ vs rest f n. chain_begins IsEnded closing_bracket comma value_text (λ rest. refl) (λ rest. refl) vs rest) value_reads values_reads))

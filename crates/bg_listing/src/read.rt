@@ -87,7 +87,7 @@ fn without_repeat(alloc: Global, rows: Rows<Control>, first_line: u32) -> Result
     while let Some(control) = rows.next() {
         let row = signature.len();
         let Control { label, arity, kind } = control;
-        match signature.add(label, arity, kind) {
+        match signature.add(alloc, label, arity, kind) {
             Ok(_) => {}
             Err(SignatureFault::DuplicateControl) => return Err(ListingFault::Bad { code: DUPLICATE_LABEL, line: first_line + row }),
             Err(SignatureFault::OutOfMemory) => return Err(ListingFault::OutOfMemory),
