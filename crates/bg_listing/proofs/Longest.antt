@@ -118,15 +118,21 @@ label_found bytes at label rest e =
     let back : drop (length bytes - length rest) bytes ≡ rest = suffix bytes at (label_text label) rest r.there in
     record { spelled = r.fits; text = r.there ∙ ap (λ y. label_text label ++ y) (sym back); inside = omega arith }
 
+rests_agree : {X : Type 0} (read : Result (X × List ℕ) (Unit {0})) (x y : X) (r s : List ℕ) → read ≡ Ok (x, r) → read ≡ Ok (y, s) → r ≡ s
+rests_agree read x y r s e d =
+    let same : (x, r) ≡ (y, s) = done_is {E = Unit {0}} (x, r) (y, s) (sym e ∙ d) in ap (λ p. p.1) same
+
+not_both : {X : Type 0} (read : Result (X × List ℕ) (Unit {0})) (x : X × List ℕ) → read ≡ Err tt → read ≡ Ok x → ⊥
+not_both read x e d = cc
+
 pub no_longer : (bytes : List ℕ) (at : ℕ) (label : Label) (rest : List ℕ) → label_at (drop at bytes) ≡ Ok (label, rest) → (other : Label) (end : ℕ) → IsLabelAt bytes at other end → end ≤ length bytes - length rest
 no_longer bytes at label rest e other end h =
     let l = label_longest other (drop end bytes) h.spelled in
-    let same : (label, rest) ≡ (l.label, l.rest) = done_is {E = Unit {0}} (label, rest) (l.label, l.rest) (sym e ∙ ap label_at h.text ∙ l.is) in
-    let less : length rest ≡ length l.rest = ap (λ p. length p.1) same in
+    let less : length rest ≡ length l.rest = ap length (rests_agree (label_at (drop at bytes)) label l.label rest l.rest e (ap label_at h.text ∙ l.is)) in
     let inside = h.inside in let few = l.few in
     omega (arith, length-drop end bytes)
 
 pub no_label : (bytes : List ℕ) (at : ℕ) → label_at (drop at bytes) ≡ Err tt → (other : Label) (end : ℕ) → IsLabelAt bytes at other end → ⊥
 no_label bytes at e other end h =
     let l = label_longest other (drop end bytes) h.spelled in
-    let clash : Err tt ≡ Ok (l.label, l.rest) = sym e ∙ ap label_at h.text ∙ l.is in cc
+    not_both (label_at (drop at bytes)) (l.label, l.rest) e (ap label_at h.text ∙ l.is)
