@@ -134,8 +134,8 @@ pub behind_reads : {D X : Type 0} {Next : List ℕ → Type 0} {v : D → X} {t 
 behind_reads {v = v} {t = t} {F = F} {read = read} word r = record {
   sound = λ bytes. behind_holds word bytes (after word bytes) read (after_sound word bytes) r.sound;
   again = λ d rest f n.
-    let regrouped : (word ++ t d) ++ rest ≡ word ++ (t d ++ rest) = append_assoc word (t d) rest in
-    ap (behind word read) regrouped ∙ rw (after_again word (t d ++ rest)) (r.again d rest f n);
+      let regrouped : (word ++ t d) ++ rest ≡ word ++ (t d ++ rest) = append_assoc word (t d) rest in
+      ap (behind word read) regrouped ∙ rw (after_again word (t d ++ rest)) (r.again d rest f n);
 }
 
 ended_holds : {D X : Type 0} (view : D → X) (text : D → List ℕ) (Fits : D → Type 0) (word bytes : List ℕ) (d : D) (rest : List ℕ) (r : Result (List ℕ) (Unit {0}))
@@ -147,10 +147,10 @@ pub ended_reads : {D X : Type 0} {Next : List ℕ → Type 0} {v : D → X} {t :
     → ((rest : List ℕ) → Next (word ++ rest)) → Reads Next v t F read → Reads Anything v (λ d. t d ++ word) F (ended word read)
 ended_reads {v = v} {t = t} {F = F} {read = read} word ends r = record {
   sound = λ bytes. holds_bind bytes (read bytes) (λ a. after word a.1 >>= λ rest. Ok (a.0, rest)) (r.sound bytes)
-    (λ d rest e f. ended_holds v t F word bytes d rest (after word rest) e f (after_sound word rest));
+      (λ d rest e f. ended_holds v t F word bytes d rest (after word rest) e f (after_sound word rest));
   again = λ d rest f n.
-    let regrouped : (t d ++ word) ++ rest ≡ t d ++ (word ++ rest) = append_assoc (t d) word rest in
-    ap (ended word read) regrouped ∙ rw (r.again d (word ++ rest) f (ends rest), after_again word rest) refl;
+      let regrouped : (t d ++ word) ++ rest ≡ t d ++ (word ++ rest) = append_assoc (t d) word rest in
+      ap (ended word read) regrouped ∙ rw (r.again d (word ++ rest) f (ends rest), after_again word rest) refl;
 }
 
 pub line_reads : {D X : Type 0} {Next : List ℕ → Type 0} {v : D → X} {t : D → List ℕ} {F : D → Type 0} {read : List ℕ → Result (X × List ℕ) (Unit {0})}
@@ -168,7 +168,7 @@ pub only_if_reads : {D X E : Type 0} {Next : List ℕ → Type 0} {v : D → X} 
     → Reads Next v t F read → Reads Next v t (λ d. F d × (test (v d) ≡ true)) (only_if refusal test read)
 only_if_reads {v = v} {t = t} {F = F} {read = read} refusal test r = record {
   sound = λ bytes. holds_bind bytes (read bytes) (λ a. cond (test a.0) (Ok a) (Err (refusal bytes))) (r.sound bytes)
-    (λ d rest e f. only_if_holds v t F test bytes d rest (refusal bytes) (test (v d)) refl e f);
+      (λ d rest e f. only_if_holds v t F test bytes d rest (refusal bytes) (test (v d)) refl e f);
   again = λ d rest f n. rw (r.again d rest f.0 n, f.1) refl;
 }
 
@@ -193,10 +193,10 @@ pub both_read : {A X B Y E : Type 0} {NA NB : List ℕ → Type 0} {va : A → X
     → Reads NB (pair_of va vb) (joined ta tb) (FitBoth FA FB) (both ra rb)
 both_read {va = va} {ta = ta} {FA = FA} {vb = vb} {tb = tb} {FB = FB} {ra = ra} {rb = rb} ends a b = record {
   sound = λ bytes. holds_bind bytes (ra bytes) (λ x. rb x.1 >>= λ y. Ok ((x.0, y.0), y.1)) (a.sound bytes)
-    (λ d rest e f. both_holds va ta FA bytes d rest (rb rest) e f (b.sound rest));
+      (λ d rest e f. both_holds va ta FA bytes d rest (rb rest) e f (b.sound rest));
   again = λ p rest f n.
-    let regrouped : (ta p.0 ++ tb p.1) ++ rest ≡ ta p.0 ++ (tb p.1 ++ rest) = append_assoc (ta p.0) (tb p.1) rest in
-    ap (both ra rb) regrouped ∙ rw (a.again p.0 (tb p.1 ++ rest) f.0 (ends p.1 rest f.1 n), b.again p.1 rest f.1 n) refl;
+      let regrouped : (ta p.0 ++ tb p.1) ++ rest ≡ ta p.0 ++ (tb p.1 ++ rest) = append_assoc (ta p.0) (tb p.1) rest in
+      ap (both ra rb) regrouped ∙ rw (a.again p.0 (tb p.1 ++ rest) f.0 (ends p.1 rest f.1 n), b.again p.1 rest f.1 n) refl;
 }
 
 -- ---- this many
@@ -274,7 +274,7 @@ chain_more : {D X : Type 0} (v : D → X) (t : D → List ℕ) {F : D → Type 0
     → Holds (map v) (chain_text closing separator t) (AllByRecursion F) bytes (with_front (x ∷ []) r)
 chain_more v t closing separator bytes d x rest r e f seen (found ds xs more s fits same) =
     found (d ∷ ds) (x ∷ xs) more (e ∙ ap (λ y. separator ∷ t d ++ y) s ∙ ap (λ y. separator ∷ y) (sym (append_assoc (t d) (chain_text closing separator t ds) more))) (f, fits)
-      (ap (λ y. y ∷ map v ds) seen ∙ ap (λ ys. x ∷ ys) same)
+    (ap (λ y. y ∷ map v ds) seen ∙ ap (λ ys. x ∷ ys) same)
 chain_more v t closing separator bytes d x rest r e f seen (refused y) = refused y
 
 chain_closed : {D X : Type 0} {v : D → X} {t : D → List ℕ} {F : D → Type 0} (closing separator : ℕ) (bytes : List ℕ) (n : Result (Option X × List ℕ) (Unit {0})) (others : List ℕ → Result (List X × List ℕ) (Unit {0}))
@@ -310,8 +310,8 @@ pub chain_reads : {D X : Type 0} {Next : List ℕ → Type 0} {v : D → X} {t :
 chain_reads {t = t} closing separator nc ns apart r = record {
   sound = λ bytes. chain_within_sound closing separator r (length bytes) bytes;
   again = λ xs rest f _.
-    let enough : length xs < length (chain_text closing separator t xs ++ rest) = omega (arith, chain_longer closing separator t xs, length-append (chain_text closing separator t xs) rest) in
-    chain_within_again closing separator nc ns apart r (length (chain_text closing separator t xs ++ rest)) xs rest enough f;
+      let enough : length xs < length (chain_text closing separator t xs ++ rest) = omega (arith, chain_longer closing separator t xs, length-append (chain_text closing separator t xs) rest) in
+      chain_within_again closing separator nc ns apart r (length (chain_text closing separator t xs ++ rest)) xs rest enough f;
 }
 
 -- ---- runs
@@ -325,7 +325,7 @@ pub list_all-take : (p : ℕ → Bool) (bytes : List ℕ) → list_all p (take (
 list_all-take p [] = refl
 list_all-take p (b ∷ bytes) = list_all-take_if p b bytes (p b) refl (list_all-take p bytes)
 
-prefix_len-append : (p : ℕ → Bool) (xs rest : List ℕ) → list_all p xs ≡ true → prefix_len p (xs ++ rest) ≡ length xs + prefix_len p rest
+pub prefix_len-append : (p : ℕ → Bool) (xs rest : List ℕ) → list_all p xs ≡ true → prefix_len p (xs ++ rest) ≡ length xs + prefix_len p rest
 prefix_len-append p [] rest all = omega arith
 prefix_len-append p (x ∷ xs) rest all =
     let t = and_parts (p x) (list_all p xs) all in
@@ -338,8 +338,8 @@ pub run_reads : (p : ℕ → Bool) → Reads (IsNoMore p) (λ xs. xs) (λ xs. xs
 run_reads p = record {
   sound = λ bytes. found (take (prefix_len p bytes) bytes) (take (prefix_len p bytes) bytes) (drop (prefix_len p bytes) bytes) (sym (take-append-drop (prefix_len p bytes) bytes)) (list_all-take p bytes) refl;
   again = λ xs rest all n.
-    let long : prefix_len p (xs ++ rest) ≡ length xs = omega (arith, prefix_len-append p xs rest all) in
-    rw (long, take_at xs rest (length xs) refl, drop_at xs rest (length xs) refl) refl;
+      let long : prefix_len p (xs ++ rest) ≡ length xs = omega (arith, prefix_len-append p xs rest all) in
+      rw (long, take_at xs rest (length xs) refl, drop_at xs rest (length xs) refl) refl;
 }
 
 -- ---- one text for one value

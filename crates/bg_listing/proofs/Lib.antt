@@ -9,3 +9,4 @@ pub mod Values
 pub mod SixParts
 pub mod Rooms
 pub mod Passes
+pub mod Longest

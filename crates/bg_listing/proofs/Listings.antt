@@ -35,7 +35,7 @@ pub count_reads : (most : ℕ) (word : List ℕ) → most ≤ greatest → Reads
 unfolding count_at
 count_reads most word small =
     fits_reads (λ n. n ≤ most) (λ n f. leb-true n most f.1) (λ n le. (omega arith, le-leb n most le))
-      (only_if_reads too_many (λ n. leb n most) (row_reads (behind_reads word (line_reads (λ rest. refl) listed_numbers))))
+    (only_if_reads too_many (λ n. leb n most) (row_reads (behind_reads word (line_reads (λ rest. refl) listed_numbers))))
 
 -- ---- sections
 
@@ -43,8 +43,8 @@ section_holds : {D X : Type 0} {v : D → X} (t : D → List ℕ) {F : D → Typ
     → bytes ≡ count_line word n ++ rest → n ≤ most → Holds (map v) (flat_map t) (AreThisMany F n) rest r → Holds (map v) (section_text word t) (AreCounted most F) bytes r
 section_holds t most word bytes n rest r e le (found ds x more s fits same) =
     found ds x more
-      (e ∙ ap (λ y. count_line word n ++ y) s ∙ sym (append_assoc (count_line word n) (flat_map t ds) more) ∙ ap (λ k. (count_line word k ++ flat_map t ds) ++ more) (sym fits.many))
-      (record { many = rw fits.many le; all = fits.all }) same
+    (e ∙ ap (λ y. count_line word n ++ y) s ∙ sym (append_assoc (count_line word n) (flat_map t ds) more) ∙ ap (λ k. (count_line word k ++ flat_map t ds) ++ more) (sym fits.many))
+    (record { many = rw fits.many le; all = fits.all }) same
 section_holds t most word bytes n rest r e le (refused f) = refused f
 
 pub section_reads : {D X : Type 0} {v : D → X} {t : D → List ℕ} {F : D → Type 0} {read : List ℕ → Result (X × List ℕ) Bad} (most : ℕ) (word : List ℕ) → most ≤ greatest
@@ -52,10 +52,10 @@ pub section_reads : {D X : Type 0} {v : D → X} {t : D → List ℕ} {F : D →
 unfolding section_at
 section_reads {t = t} {read = read} most word small r = record {
   sound = λ bytes. holds_bind bytes (count_at most word bytes) (λ n. each read n.0 n.1) ((count_reads most word small).sound bytes)
-    (λ n rest e le. section_holds t most word bytes n rest (each read n rest) e le ((each_reads n r).sound rest));
+      (λ n rest e le. section_holds t most word bytes n rest (each read n rest) e le ((each_reads n r).sound rest));
   again = λ ds rest f n.
-    let regrouped : section_text word t ds ++ rest ≡ count_line word (length ds) ++ (flat_map t ds ++ rest) = append_assoc (count_line word (length ds)) (flat_map t ds) rest in
-    ap (section_at most word read) regrouped ∙ rw ((count_reads most word small).again (length ds) (flat_map t ds ++ rest) f.many tt) (each_again r ds rest f.all);
+      let regrouped : section_text word t ds ++ rest ≡ count_line word (length ds) ++ (flat_map t ds ++ rest) = append_assoc (count_line word (length ds)) (flat_map t ds) rest in
+      ap (section_at most word read) regrouped ∙ rw ((count_reads most word small).again (length ds) (flat_map t ds ++ rest) f.many tt) (each_again r ds rest f.all);
 }
 
 -- a section of rows that are seen as they are
@@ -85,7 +85,7 @@ control_row_reads : Reads Anything (λ c. c) control_line IsControl control_row
 unfolding control_row
 control_row_reads =
     fits_reads IsControl (λ c f. record { label = f.0.0; arity = leb-true c.arity most_ports f.1 }) (λ c f. let le = f.arity in ((f.label, (omega arith, tt)), le-leb c.arity most_ports f.arity))
-      (only_if_reads too_many (λ c. leb c.arity most_ports) (row_reads (line_reads (λ rest. tt) control_reads)))
+    (only_if_reads too_many (λ c. leb c.arity most_ports) (row_reads (line_reads (λ rest. tt) control_reads)))
 
 links_reads : Reads Anything (λ ls. ls) (chain_text line_feed space link_text) (AllByRecursion IsLink) links_at
 unfolding links_at
@@ -101,7 +101,7 @@ node_row_reads : (signature : List Control) → Reads Anything (row_of signature
 unfolding node_row node_at
 node_row_reads signature = row_reads (mapped_reads (λ p. p) (λ p. p) (row_of signature) (λ p. refl)
     (both_read (λ p rest f n. refl) listed_numbers (behind_reads (codes " ") (both_read (λ p rest f n. refl) label_reads (behind_reads (codes " ")
-      (both_read (λ ls rest f n. chain_begins IsEnded line_feed space link_text (λ rest. refl) (λ rest. refl) ls rest) place_reads links_reads))))))
+    (both_read (λ ls rest f n. chain_begins IsEnded line_feed space link_text (λ rest. refl) (λ rest. refl) ls rest) place_reads links_reads))))))
 
 -- ---- listings
 
@@ -130,4 +130,4 @@ sections_read signature = mapped_reads (λ p. p) (λ p. p) big_of (λ p. refl)
     (both_read (λ p rest f n. tt) (plain_section_reads most_rows (codes "inner ") (lit≤ tt) inner_row_reads)
     (both_read (λ p rest f n. tt) (plain_section_reads most_rows (codes "outer ") (lit≤ tt) name_row_reads)
     (both_read (λ p rest f n. tt) (plain_section_reads most_rows (codes "edges ") (lit≤ tt) edge_row_reads)
-      (section_reads most_rows (codes "nodes ") (lit≤ tt) (node_row_reads signature)))))))
+    (section_reads most_rows (codes "nodes ") (lit≤ tt) (node_row_reads signature)))))))

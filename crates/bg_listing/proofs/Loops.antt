@@ -22,7 +22,7 @@ unfolding chain_within
 chain_goes_on closing separator read front count i bytes a behind total lt h so_far =
     let k : count - i ≡ suc (count - (i + 1)) = omega arith in
     let one : with_front front (chain_within closing separator read (count - i) bytes) ≡ with_front (front ++ a ∷ []) (chain_within closing separator read (count - (i + 1)) behind) =
-      rw (k, h) (regroup front a (chain_within closing separator read (count - (i + 1)) behind)) in
+    rw (k, h) (regroup front a (chain_within closing separator read (count - (i + 1)) behind)) in
     sym one ∙ so_far
 
 pub chain_closes : {A : Type 0} (closing separator : ℕ) (read : List ℕ → Result (A × List ℕ) (Unit {0})) (front : List A) (count i : ℕ) (bytes behind : List ℕ) (total : Result (List A × List ℕ) (Unit {0}))

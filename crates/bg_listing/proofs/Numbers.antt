@@ -86,14 +86,17 @@ decimal_fits most n small le =
     let lt : n < 2 ^ 64 = omega arith in
     (digits_all (decimal n) (digits_decimal own n lt), and_from (is_numeral (decimal n)) (leb (digits_value 10 (decimal n)) most) (is_numeral-decimal n lt) (rw (digits_value-decimal own n lt) (le-leb n most le)))
 
-pub number_reads : (most : ℕ) → most < 2 ^ 64 → Reads IsEnded (λ n. n) decimal (λ n. n ≤ most) (number_at most)
+pub whole_number_reads : (most : ℕ) → most < 2 ^ 64 → Reads (IsNoMore is_ascii_digit) (λ n. n) decimal (λ n. n ≤ most) (number_at most)
 unfolding number_at
-number_reads most small = next_reads ended_digits
-    (as_reads {w = λ n. n} {G = λ n. n ≤ most} (digits_value 10) decimal (digits_value 10) (digits_back most small)
-      (λ ds f. leb-true _ _ (and_parts (is_numeral ds) (leb (digits_value 10 ds) most) f.1).1)
-      (λ n le. decimal_fits most n small le)
-      (λ n le. sym (digits_value-decimal own n (omega arith)))
-      (only_if_reads not_there (is_numeral_up_to most) (run_reads is_ascii_digit)))
+whole_number_reads most small =
+    as_reads {w = λ n. n} {G = λ n. n ≤ most} (digits_value 10) decimal (digits_value 10) (digits_back most small)
+    (λ ds f. leb-true _ _ (and_parts (is_numeral ds) (leb (digits_value 10 ds) most) f.1).1)
+    (λ n le. decimal_fits most n small le)
+    (λ n le. sym (digits_value-decimal own n (omega arith)))
+    (only_if_reads not_there (is_numeral_up_to most) (run_reads is_ascii_digit))
+
+pub number_reads : (most : ℕ) → most < 2 ^ 64 → Reads IsEnded (λ n. n) decimal (λ n. n ≤ most) (number_at most)
+number_reads most small = next_reads ended_digits (whole_number_reads most small)
 
 -- ---- words
 

@@ -52,8 +52,8 @@ place_sound [] = refused tt
 place_sound (b ∷ bytes) = holds_if (b ∷ bytes) (eqb b 110) (mapped Node (number_at greatest bytes)) (cond (eqb b 114) (mapped Region (number_at greatest bytes)) (Err tt))
     (λ e. tagged place_text IsPlace Node 110 b bytes (number_at greatest bytes) (λ n. refl) (λ n f. f) e (listed_numbers.sound bytes))
     (λ _. holds_if (b ∷ bytes) (eqb b 114) (mapped Region (number_at greatest bytes)) (Err tt)
-      (λ e. tagged place_text IsPlace Region 114 b bytes (number_at greatest bytes) (λ n. refl) (λ n f. f) e (listed_numbers.sound bytes))
-      (λ _. refused tt))
+    (λ e. tagged place_text IsPlace Region 114 b bytes (number_at greatest bytes) (λ n. refl) (λ n f. f) e (listed_numbers.sound bytes))
+    (λ _. refused tt))
 
 place_again : (p : Place) (rest : List ℕ) → IsPlace p → IsEnded rest → place_at (place_text p ++ rest) ≡ Ok (p, rest)
 unfolding place_at
@@ -74,8 +74,8 @@ name_sound [] = refused tt
 name_sound (b ∷ bytes) = holds_if (b ∷ bytes) (eqb b 64) (mapped (λ p. Port p.0 p.1) (port_at bytes)) (cond (eqb b 126) (mapped Opened (number_at greatest bytes)) (mapped Plain (word_at is_lower_case (b ∷ bytes))))
     (λ e. tagged name_text IsName (λ p. Port p.0 p.1) 64 b bytes (port_at bytes) (λ p. refl) (λ p f. f) e (port_reads.sound bytes))
     (λ _. holds_if (b ∷ bytes) (eqb b 126) (mapped Opened (number_at greatest bytes)) (mapped Plain (word_at is_lower_case (b ∷ bytes)))
-      (λ e. tagged name_text IsName Opened 126 b bytes (number_at greatest bytes) (λ n. refl) (λ n f. f) e (listed_numbers.sound bytes))
-      (λ _. untagged name_text IsName Plain (b ∷ bytes) (word_at is_lower_case (b ∷ bytes)) (λ w. refl) (λ w f. f) ((word_reads is_lower_case).sound (b ∷ bytes))))
+    (λ e. tagged name_text IsName Opened 126 b bytes (number_at greatest bytes) (λ n. refl) (λ n f. f) e (listed_numbers.sound bytes))
+    (λ _. untagged name_text IsName Plain (b ∷ bytes) (word_at is_lower_case (b ∷ bytes)) (λ w. refl) (λ w f. f) ((word_reads is_lower_case).sound (b ∷ bytes))))
 
 lower_is_no_tag : (b : ℕ) → is_lower_case b ≡ true → (eqb b 64 ≡ false) × (eqb b 126 ≡ false)
 lower_is_no_tag b e = (grind arith, grind arith)
@@ -100,8 +100,8 @@ link_sound [] = refused tt
 link_sound (b ∷ bytes) = holds_if (b ∷ bytes) (eqb b 35) (mapped Edge (number_at greatest bytes)) (cond (eqb b 61) (mapped Outer (name_at bytes)) (Err tt))
     (λ e. tagged link_text IsLink Edge 35 b bytes (number_at greatest bytes) (λ n. refl) (λ n f. f) e (listed_numbers.sound bytes))
     (λ _. holds_if (b ∷ bytes) (eqb b 61) (mapped Outer (name_at bytes)) (Err tt)
-      (λ e. tagged link_text IsLink Outer 61 b bytes (name_at bytes) (λ n. refl) (λ n f. f) e (name_reads.sound bytes))
-      (λ _. refused tt))
+    (λ e. tagged link_text IsLink Outer 61 b bytes (name_at bytes) (λ n. refl) (λ n f. f) e (name_reads.sound bytes))
+    (λ _. refused tt))
 
 link_again : (l : Link) (rest : List ℕ) → IsLink l → IsEnded rest → link_at (link_text l ++ rest) ≡ Ok (l, rest)
 unfolding link_at
@@ -142,8 +142,8 @@ value_sound [] = refused tt
 value_sound (b ∷ bytes) = holds_if (b ∷ bytes) (eqb b 34) (mapped Words (quoted_at bytes)) (cond (eqb b 45) (mapped Int (mapped negsuc (negative_at bytes))) (mapped Int (mapped pos (number_at greatest_int (b ∷ bytes)))))
     (λ e. tagged value_text IsValue Words 34 b bytes (quoted_at bytes) (λ t. refl) (λ t f. f) e (quoted_reads.sound bytes))
     (λ _. holds_if (b ∷ bytes) (eqb b 45) (mapped Int (mapped negsuc (negative_at bytes))) (mapped Int (mapped pos (number_at greatest_int (b ∷ bytes))))
-      (λ e. untagged value_text IsValue Int (b ∷ bytes) (mapped negsuc (negative_at bytes)) (λ z. refl) (λ z f. f) (tagged signed_decimal IsInt negsuc 45 b bytes (negative_at bytes) (λ n. refl) (λ n f. f) e (negative_reads.sound bytes)))
-      (λ _. untagged value_text IsValue Int (b ∷ bytes) (mapped pos (number_at greatest_int (b ∷ bytes))) (λ z. refl) (λ z f. f) (untagged signed_decimal IsInt pos (b ∷ bytes) (number_at greatest_int (b ∷ bytes)) (λ n. refl) (λ n f. f) ((number_reads greatest_int (lit< tt)).sound (b ∷ bytes)))))
+    (λ e. untagged value_text IsValue Int (b ∷ bytes) (mapped negsuc (negative_at bytes)) (λ z. refl) (λ z f. f) (tagged signed_decimal IsInt negsuc 45 b bytes (negative_at bytes) (λ n. refl) (λ n f. f) e (negative_reads.sound bytes)))
+    (λ _. untagged value_text IsValue Int (b ∷ bytes) (mapped pos (number_at greatest_int (b ∷ bytes))) (λ z. refl) (λ z f. f) (untagged signed_decimal IsInt pos (b ∷ bytes) (number_at greatest_int (b ∷ bytes)) (λ n. refl) (λ n f. f) ((number_reads greatest_int (lit< tt)).sound (b ∷ bytes)))))
 
 digit_is_no_tag : (b : ℕ) → is_ascii_digit b ≡ true → (eqb b 34 ≡ false) × (eqb b 45 ≡ false)
 digit_is_no_tag b e = (grind arith, grind arith)
@@ -173,7 +173,7 @@ values_reads : Reads Anything (λ vs. vs) (chain_text closing_bracket comma valu
 values_reads = viewed_reads (λ vs. vs) map_same (chain_reads closing_bracket comma (λ rest. refl) (λ rest. refl) refl value_reads)
 
 -- arguments in their brackets, one at least
-args_read : Reads {D = Value × List Value} Anything (λ p. p.0 ∷ p.1) (λ p. 40 ∷ value_text p.0 ++ chain_text closing_bracket comma value_text p.1) (λ p. IsValue p.0 × AllByRecursion IsValue p.1) args_at
+pub args_read : Reads {D = Value × List Value} Anything (λ p. p.0 ∷ p.1) (λ p. 40 ∷ value_text p.0 ++ chain_text closing_bracket comma value_text p.1) (λ p. IsValue p.0 × AllByRecursion IsValue p.1) args_at
 unfolding args_at
 args_read = mapped_reads (λ p. p) (λ p. p) (λ p. p.0 ∷ p.1) (λ p. refl)
     (behind_reads (codes "(") (both_read (λ vs rest f n. chain_begins IsEnded closing_bracket comma value_text (λ rest. refl) (λ rest. refl) vs rest) value_reads values_reads))

@@ -93,11 +93,11 @@ six_rooms a b c d e f k l m n o p0 p1 p2 p3 p4 p5 =
 parts_room : (signature : List Control) (d : Sections NodeParts) → 6 + rows_of (seen_by signature d) ≤ length (parts_text d)
 parts_room signature d =
     simp length-map
-      (six_rooms (count_line (codes "bigraph ") d.0) (section_text (codes "sites ") place_line d.1.0) (section_text (codes "inner ") inner_line d.1.1.0) (section_text (codes "outer ") name_line d.1.1.1.0)
-        (section_text (codes "edges ") edge_line d.1.1.1.1.0) (section_text (codes "nodes ") parts_line d.1.1.1.1.1)
-        (length d.1.0) (length d.1.1.0) (length d.1.1.1.0) (length d.1.1.1.1.0) (length d.1.1.1.1.1)
-        (count_byte (codes "bigraph ") d.0) (section_room (codes "sites ") place_line place_byte d.1.0) (section_room (codes "inner ") inner_line inner_byte d.1.1.0) (section_room (codes "outer ") name_line name_byte d.1.1.1.0)
-        (section_room (codes "edges ") edge_line edge_byte d.1.1.1.1.0) (section_room (codes "nodes ") parts_line parts_byte d.1.1.1.1.1))
+    (six_rooms (count_line (codes "bigraph ") d.0) (section_text (codes "sites ") place_line d.1.0) (section_text (codes "inner ") inner_line d.1.1.0) (section_text (codes "outer ") name_line d.1.1.1.0)
+    (section_text (codes "edges ") edge_line d.1.1.1.1.0) (section_text (codes "nodes ") parts_line d.1.1.1.1.1)
+    (length d.1.0) (length d.1.1.0) (length d.1.1.1.0) (length d.1.1.1.1.0) (length d.1.1.1.1.1)
+    (count_byte (codes "bigraph ") d.0) (section_room (codes "sites ") place_line place_byte d.1.0) (section_room (codes "inner ") inner_line inner_byte d.1.1.0) (section_room (codes "outer ") name_line name_byte d.1.1.1.0)
+    (section_room (codes "edges ") edge_line edge_byte d.1.1.1.1.0) (section_room (codes "nodes ") parts_line parts_byte d.1.1.1.1.1))
 
 seen_room : (signature : List Control) (bytes : List ℕ) (at : Cursor) (d : Sections NodeParts) (rest : List ℕ) → IsAt bytes at → drop at.offset bytes ≡ parts_text d ++ rest → LeavesRoom bytes at rest (5 + rows_of (seen_by signature d))
 seen_room signature bytes at d rest is e = record {

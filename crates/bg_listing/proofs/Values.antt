@@ -36,7 +36,7 @@ parts_text_is : (signature : List Control) (big : Big) → parts_text (sections_
 unfolding big_text
 parts_text_is signature big =
     ap (λ nodes. count_line (codes "bigraph ") big.regions ++ (section_text (codes "sites ") place_line big.sites ++ (section_text (codes "inner ") inner_line big.inner
-      ++ (section_text (codes "outer ") name_line big.outer ++ (section_text (codes "edges ") edge_line big.edges ++ nodes))))) (section_mapped (codes "nodes ") (parts_of signature) parts_line big.nodes)
+    ++ (section_text (codes "outer ") name_line big.outer ++ (section_text (codes "edges ") edge_line big.edges ++ nodes))))) (section_mapped (codes "nodes ") (parts_of signature) parts_line big.nodes)
 
 -- ---- nodes
 

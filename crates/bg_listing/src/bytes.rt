@@ -46,7 +46,10 @@ pub(crate) fn text_bytes(bytes: &[u8]) -> (&[u8], &[u8])
 fn digit_count(bytes: &[u8]) -> usize
     ensures { result ≡ prefix_len is_ascii_digit bytes.now }
 {
-    bytes.iter().take_while(|byte| byte.is_ascii_digit()).count()
+    bytes
+        .iter()
+        .take_while(|byte| byte.is_ascii_digit())
+        .count()
 }
 
 fn word_byte_count(bytes: &[u8]) -> usize

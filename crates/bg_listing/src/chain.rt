@@ -16,7 +16,12 @@ pub(crate) trait Piece: Drop + Sized {
 }
 
 /// The pieces up to the closing byte, and the bytes behind it.
-pub(crate) fn read_chain<P: Piece>(alloc: Global, closing_byte: u8, separator: u8, bytes: &[u8]) -> Result<(Vec<P>, &[u8]), PartFault>
+pub(crate) fn read_chain<P: Piece>(
+    alloc: Global,
+    closing_byte: u8,
+    separator: u8,
+    bytes: &[u8],
+) -> Result<(Vec<P>, &[u8]), PartFault>
     ensures { Gives (λ x. (x.0.items, x.1.now)) result (chain closing_byte separator P.piece_at bytes.now) }
 {
     let mut pieces = Vec::new(alloc);
@@ -34,7 +39,12 @@ pub(crate) fn read_chain<P: Piece>(alloc: Global, closing_byte: u8, separator: u
 
 /// The piece behind a separator, or none behind the closing byte.
 #[tactic(auto, unfolding(crate::specs::Combinators::next))]
-fn read_next<P: Piece>(alloc: Global, closing_byte: u8, separator: u8, bytes: &[u8]) -> Result<(Option<P>, &[u8]), PartFault>
+fn read_next<P: Piece>(
+    alloc: Global,
+    closing_byte: u8,
+    separator: u8,
+    bytes: &[u8],
+) -> Result<(Option<P>, &[u8]), PartFault>
     ensures { Gives (λ x. (x.0, x.1.now)) result (next closing_byte separator P.piece_at bytes.now) }
 {
     match bytes.split_first() {

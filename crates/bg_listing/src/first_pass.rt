@@ -15,7 +15,11 @@ use std::alloc::Global;
 const MOST_ROWS: u32 = 65_536;
 
 /// The rows of the signature at the cursor, whatever labels they repeat, and the bytes behind it.
-pub(crate) fn control_rows_at<'a>(alloc: Global, bytes: &'a [u8], at: Cursor) -> Result<(Rows<Control>, &'a [u8]), LineFault>
+pub(crate) fn control_rows_at<'a>(
+    alloc: Global,
+    bytes: &'a [u8],
+    at: Cursor,
+) -> Result<(Rows<Control>, &'a [u8]), LineFault>
     requires { IsAt bytes.now at }
     ensures read { GivesLines (λ x. (x.0, x.1.now)) result (signature_at (drop at.offset bytes.now)) }
     ensures left { IfOk result (λ x. SignatureLeft bytes.now at x.0 x.1.now) }
@@ -25,7 +29,12 @@ pub(crate) fn control_rows_at<'a>(alloc: Global, bytes: &'a [u8], at: Cursor) ->
 }
 
 /// The rows of the bigraph at the cursor, whether it is valid or not, and the bytes behind it.
-pub(crate) fn big_rows_at<'a>(alloc: Global, bytes: &'a [u8], at: Cursor, signature: &Signature) -> Result<(Big, &'a [u8]), LineFault>
+pub(crate) fn big_rows_at<'a>(
+    alloc: Global,
+    bytes: &'a [u8],
+    at: Cursor,
+    signature: &Signature,
+) -> Result<(Big, &'a [u8]), LineFault>
     requires { IsAt bytes.now at }
     ensures read { GivesLines (λ x. (x.0, x.1.now)) result (big_at signature.now (drop at.offset bytes.now)) }
     ensures left { IfOk result (λ x. LeavesRoom bytes.now at x.1.now (5 + rows_of x.0)) }
@@ -42,7 +51,11 @@ fn control_rows(alloc: Global, bytes: &[u8]) -> Result<(Rows<Control>, &[u8]), L
 }
 
 #[tactic(auto, unfolding(crate::specs::Lines::big_at))]
-fn big_rows<'a>(alloc: Global, signature: &Signature, bytes: &'a [u8]) -> Result<(Big, &'a [u8]), LineFault>
+fn big_rows<'a>(
+    alloc: Global,
+    signature: &Signature,
+    bytes: &'a [u8],
+) -> Result<(Big, &'a [u8]), LineFault>
     ensures { GivesLines (λ x. (x.0, x.1.now)) result (big_at signature.now bytes.now) }
 {
     let (regions, rest) = count(bytes, b"bigraph ", MOST_ROWS)?;
@@ -51,5 +64,15 @@ fn big_rows<'a>(alloc: Global, signature: &Signature, bytes: &'a [u8]) -> Result
     let (outer, rest) = section::<Name>(alloc, &(), rest, b"outer ", MOST_ROWS)?;
     let (edges, rest) = section::<u32>(alloc, &(), rest, b"edges ", MOST_ROWS)?;
     let (nodes, rest) = section::<NodeRow>(alloc, signature, rest, b"nodes ", MOST_ROWS)?;
-    Ok((Big { nodes, edges, sites, inner, regions, outer }, rest))
+    Ok((
+        Big {
+            nodes,
+            edges,
+            sites,
+            inner,
+            regions,
+            outer,
+        },
+        rest,
+    ))
 }

@@ -20,13 +20,23 @@ pub(crate) trait Row: Drop + Sized {
     /// The reading function of one line.
     ghost row_at: { Self.Context → List ℕ → Result (Self × List ℕ) Bad };
 
-    fn read_row<'a>(alloc: Global, context: &Self::Context, bytes: &'a [u8]) -> Result<(Self, &'a [u8]), LineFault>
+    fn read_row<'a>(
+        alloc: Global,
+        context: &Self::Context,
+        bytes: &'a [u8],
+    ) -> Result<(Self, &'a [u8]), LineFault>
         ensures { GivesLines (λ x. (x.0, x.1.now)) result (row_at context.now bytes.now) };
 }
 
 /// A line with the number of the lines behind it, and these lines.
 #[tactic(auto, unfolding(crate::specs::Lines::section_at))]
-pub(crate) fn section<'a, R: Row>(alloc: Global, context: &R::Context, bytes: &'a [u8], word: &[u8], most: u32) -> Result<(Rows<R>, &'a [u8]), LineFault>
+pub(crate) fn section<'a, R: Row>(
+    alloc: Global,
+    context: &R::Context,
+    bytes: &'a [u8],
+    word: &[u8],
+    most: u32,
+) -> Result<(Rows<R>, &'a [u8]), LineFault>
     ensures { GivesLines (λ x. (x.0, x.1.now)) result (section_at most word.now (R.row_at context.now) bytes.now) }
 {
     let (count, rest) = count(bytes, word, most)?;
@@ -35,7 +45,12 @@ pub(crate) fn section<'a, R: Row>(alloc: Global, context: &R::Context, bytes: &'
 }
 
 /// That many lines.
-fn rows<'a, R: Row>(alloc: Global, context: &R::Context, count: u32, bytes: &'a [u8]) -> Result<(Vec<R>, &'a [u8]), LineFault>
+fn rows<'a, R: Row>(
+    alloc: Global,
+    context: &R::Context,
+    count: u32,
+    bytes: &'a [u8],
+) -> Result<(Vec<R>, &'a [u8]), LineFault>
     ensures { GivesLines (λ x. (x.0.items, x.1.now)) result (each (R.row_at context.now) count bytes.now) }
 {
     let mut rows = Vec::new(alloc);
@@ -50,7 +65,11 @@ fn rows<'a, R: Row>(alloc: Global, context: &R::Context, count: u32, bytes: &'a 
 
 /// A line of the word and a number that is at most `most`.
 #[tactic(auto, unfolding(crate::specs::Lines::count_at))]
-pub(crate) fn count<'a>(bytes: &'a [u8], word: &[u8], most: u32) -> Result<(u32, &'a [u8]), LineFault>
+pub(crate) fn count<'a>(
+    bytes: &'a [u8],
+    word: &[u8],
+    most: u32,
+) -> Result<(u32, &'a [u8]), LineFault>
     ensures { GivesLines (λ x. (x.0, x.1.now)) result (count_at most word.now bytes.now) }
 {
     let left = bytes.len();
@@ -59,10 +78,16 @@ pub(crate) fn count<'a>(bytes: &'a [u8], word: &[u8], most: u32) -> Result<(u32,
             if count <= most {
                 Ok((count, rest))
             } else {
-                Err(LineFault::Bad { code: TOO_MANY, left })
+                Err(LineFault::Bad {
+                    code: TOO_MANY,
+                    left,
+                })
             }
         }
-        Err(PartFault::NotThere) => Err(LineFault::Bad { code: BAD_LINE, left }),
+        Err(PartFault::NotThere) => Err(LineFault::Bad {
+            code: BAD_LINE,
+            left,
+        }),
         Err(PartFault::OutOfMemory) => Err(LineFault::OutOfMemory),
     }
 }

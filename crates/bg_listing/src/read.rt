@@ -20,7 +20,11 @@ use std::alloc::Global;
 /// stands there, `Bad` tells the first line that is not of its form (code 1) or that has a number above its limit
 /// (code 2); where there is no such line, the first row whose label stood before (code 9).
 /// Linear in the bytes before the end of the listing, and quadratic in the number of controls.
-pub fn read_signature(alloc: Global, bytes: &[u8], at: Cursor) -> Result<(Signature, Cursor), ListingFault>
+pub fn read_signature(
+    alloc: Global,
+    bytes: &[u8],
+    at: Cursor,
+) -> Result<(Signature, Cursor), ListingFault>
     requires small { length bytes.now < 2 ^ 32 - 1 }
     requires placed { IsAt bytes.now at }
     ensures found { IfOk result (λ x. IsReadableSignature x.0 × Stands bytes.now at (signature_text x.0) x.1) }
@@ -34,7 +38,12 @@ pub fn read_signature(alloc: Global, bytes: &[u8], at: Cursor) -> Result<(Signat
 /// the cursor behind it. Else `Bad` tells the first line that is not of its form (code 1) or that has a number above
 /// its limit (code 2); where there is no such line, the first row that breaks a rule of bigraphs, with the least code
 /// (3 to 7). Linear in the bytes before the end of the listing, but for the look-up of controls and the check.
-pub fn read_big(alloc: Global, bytes: &[u8], at: Cursor, signature: &Signature) -> Result<(Big, Cursor), ListingFault>
+pub fn read_big(
+    alloc: Global,
+    bytes: &[u8],
+    at: Cursor,
+    signature: &Signature,
+) -> Result<(Big, Cursor), ListingFault>
     requires small { length bytes.now < 2 ^ 32 - 1 }
     requires placed { IsAt bytes.now at }
     ensures found { IfOk result (λ x. IsReadableBig signature.now x.0 × Stands bytes.now at (big_text signature.now x.0) x.1) }
@@ -48,18 +57,20 @@ pub fn read_big(alloc: Global, bytes: &[u8], at: Cursor, signature: &Signature) 
 /// No text is the listing of two signatures, whatever follows.
 pub fn signatures_have_one_text()
     ensures { (a b : List ControlValue) (x y : List ℕ) → IsReadableSignature a → IsReadableSignature b → signature_text a ++ x ≡ signature_text b ++ y → (a ≡ b) × (x ≡ y) }
-{
-}
+{}
 
 /// No text is the listing of two bigraphs under one signature, whatever follows.
 pub fn bigraphs_have_one_text()
     ensures { (signature : List ControlValue) (a b : BigValue) (x y : List ℕ) → IsSignature signature → IsReadableBig signature a → IsReadableBig signature b
         → big_text signature a ++ x ≡ big_text signature b ++ y → (a ≡ b) × (x ≡ y) }
-{
-}
+{}
 
 #[tactic(auto, unfolding(crate::specs::Verdict::signature_verdict))]
-fn judged_signature(alloc: Global, bytes: &[u8], at: Cursor) -> Result<(Signature, Cursor), ListingFault>
+fn judged_signature(
+    alloc: Global,
+    bytes: &[u8],
+    at: Cursor,
+) -> Result<(Signature, Cursor), ListingFault>
     requires small { length bytes.now < 2 ^ 32 - 1 }
     requires placed { IsAt bytes.now at }
     ensures exact { Answers bytes.now result (signature_verdict bytes.now at) }
@@ -70,13 +81,20 @@ fn judged_signature(alloc: Global, bytes: &[u8], at: Cursor) -> Result<(Signatur
             Ok(signature) => Ok((signature, cursor_before(bytes, rest))),
             Err(fault) => Err(fault),
         },
-        Err(LineFault::Bad { code, left }) => Err(ListingFault::Bad { code, line: line_before(bytes, left) }),
+        Err(LineFault::Bad { code, left }) => Err(ListingFault::Bad {
+            code,
+            line: line_before(bytes, left),
+        }),
         Err(LineFault::OutOfMemory) => Err(ListingFault::OutOfMemory),
     }
 }
 
 /// The signature of these rows, the first of which stands at the line, or the first row whose label stood before.
-fn without_repeat(alloc: Global, rows: Rows<Control>, first_line: u32) -> Result<Signature, ListingFault>
+fn without_repeat(
+    alloc: Global,
+    rows: Rows<Control>,
+    first_line: u32,
+) -> Result<Signature, ListingFault>
     requires lines { first_line + length rows < 2 ^ 32 }
     requires limits { AreCounted most_controls IsControl rows }
     ensures exact { Makes result (verdict.without_repeat (verdict.first_repeat rows) first_line rows) }
@@ -87,9 +105,12 @@ fn without_repeat(alloc: Global, rows: Rows<Control>, first_line: u32) -> Result
     while let Some(control) = rows.next() {
         let row = signature.len();
         let Control { label, arity, kind } = control;
-        match signature.add(label, arity, kind) {
+        match signature.add(alloc, label, arity, kind) {
             Ok(_) => {}
-            Err(SignatureFault::DuplicateControl) => return Err(ListingFault::Bad { code: DUPLICATE_LABEL, line: first_line + row }),
+            Err(SignatureFault::DuplicateControl) => return Err(ListingFault::Bad {
+                code: DUPLICATE_LABEL,
+                line: first_line + row,
+            }),
             Err(SignatureFault::OutOfMemory) => return Err(ListingFault::OutOfMemory),
             Err(SignatureFault::ArityTooLarge) => unreachable!(),
             Err(SignatureFault::TooManyControls) => unreachable!(),
@@ -100,7 +121,12 @@ fn without_repeat(alloc: Global, rows: Rows<Control>, first_line: u32) -> Result
 }
 
 #[tactic(auto, unfolding(crate::specs::Verdict::big_verdict))]
-fn judged_big(alloc: Global, bytes: &[u8], at: Cursor, signature: &Signature) -> Result<(Big, Cursor), ListingFault>
+fn judged_big(
+    alloc: Global,
+    bytes: &[u8],
+    at: Cursor,
+    signature: &Signature,
+) -> Result<(Big, Cursor), ListingFault>
     requires small { length bytes.now < 2 ^ 32 - 1 }
     requires placed { IsAt bytes.now at }
     ensures exact { Answers bytes.now result (big_verdict signature.now bytes.now at) }
@@ -109,10 +135,16 @@ fn judged_big(alloc: Global, bytes: &[u8], at: Cursor, signature: &Signature) ->
     match big_rows_at(alloc, bytes, at, signature) {
         Ok((big, rest)) => match big.check(alloc, signature) {
             Ok(()) => Ok((big, cursor_before(bytes, rest))),
-            Err(CheckFault::Malformed { code, part, row }) => Err(ListingFault::Bad { code, line: at.line + lines_before(part, &big) + row }),
+            Err(CheckFault::Malformed { code, part, row }) => Err(ListingFault::Bad {
+                code,
+                line: at.line + lines_before(part, &big) + row,
+            }),
             Err(CheckFault::OutOfMemory) => Err(ListingFault::OutOfMemory),
         },
-        Err(LineFault::Bad { code, left }) => Err(ListingFault::Bad { code, line: line_before(bytes, left) }),
+        Err(LineFault::Bad { code, left }) => Err(ListingFault::Bad {
+            code,
+            line: line_before(bytes, left),
+        }),
         Err(LineFault::OutOfMemory) => Err(ListingFault::OutOfMemory),
     }
 }

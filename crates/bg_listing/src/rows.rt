@@ -13,7 +13,9 @@ use crate::label::label;
 use crate::lines::{Row, number_line};
 use crate::names::{inner, link, name, place};
 use crate::number::number;
-use bg_base::{Control, InnerRow, Kind, Label, Link, Links, MOST_PORTS, Name, NodeRow, Place, Signature};
+use bg_base::{
+    Control, InnerRow, Kind, Label, Link, Links, MOST_PORTS, Name, NodeRow, Place, Signature,
+};
 use smallvec::SmallVec;
 use std::alloc::Global;
 
@@ -25,10 +27,17 @@ impl Row for u32 {
     ghost row_at = { λ _. edge_row };
 
     #[tactic(auto, unfolding(crate::specs::Lines::edge_row))]
-    fn read_row<'a>(_alloc: Global, _context: &(), bytes: &'a [u8]) -> Result<(u32, &'a [u8]), LineFault> {
+    fn read_row<'a>(
+        _alloc: Global,
+        _context: &(),
+        bytes: &'a [u8],
+    ) -> Result<(u32, &'a [u8]), LineFault> {
         match number_line(bytes) {
             Ok(row) => Ok(row),
-            Err(PartFault::NotThere) => Err(LineFault::Bad { code: BAD_LINE, left: bytes.len() }),
+            Err(PartFault::NotThere) => Err(LineFault::Bad {
+                code: BAD_LINE,
+                left: bytes.len(),
+            }),
             Err(PartFault::OutOfMemory) => Err(LineFault::OutOfMemory),
         }
     }
@@ -42,10 +51,17 @@ impl Row for Place {
     ghost row_at = { λ _. place_row };
 
     #[tactic(auto, unfolding(crate::specs::Lines::place_row))]
-    fn read_row<'a>(_alloc: Global, _context: &(), bytes: &'a [u8]) -> Result<(Place, &'a [u8]), LineFault> {
+    fn read_row<'a>(
+        _alloc: Global,
+        _context: &(),
+        bytes: &'a [u8],
+    ) -> Result<(Place, &'a [u8]), LineFault> {
         match place_line(bytes) {
             Ok(row) => Ok(row),
-            Err(PartFault::NotThere) => Err(LineFault::Bad { code: BAD_LINE, left: bytes.len() }),
+            Err(PartFault::NotThere) => Err(LineFault::Bad {
+                code: BAD_LINE,
+                left: bytes.len(),
+            }),
             Err(PartFault::OutOfMemory) => Err(LineFault::OutOfMemory),
         }
     }
@@ -67,10 +83,17 @@ impl Row for Name {
     ghost row_at = { λ _. name_row };
 
     #[tactic(auto, unfolding(crate::specs::Lines::name_row))]
-    fn read_row<'a>(alloc: Global, _context: &(), bytes: &'a [u8]) -> Result<(Name, &'a [u8]), LineFault> {
+    fn read_row<'a>(
+        alloc: Global,
+        _context: &(),
+        bytes: &'a [u8],
+    ) -> Result<(Name, &'a [u8]), LineFault> {
         match name_line(alloc, bytes) {
             Ok(row) => Ok(row),
-            Err(PartFault::NotThere) => Err(LineFault::Bad { code: BAD_LINE, left: bytes.len() }),
+            Err(PartFault::NotThere) => Err(LineFault::Bad {
+                code: BAD_LINE,
+                left: bytes.len(),
+            }),
             Err(PartFault::OutOfMemory) => Err(LineFault::OutOfMemory),
         }
     }
@@ -92,10 +115,17 @@ impl Row for InnerRow {
     ghost row_at = { λ _. inner_row };
 
     #[tactic(auto, unfolding(crate::specs::Lines::inner_row))]
-    fn read_row<'a>(alloc: Global, _context: &(), bytes: &'a [u8]) -> Result<(InnerRow, &'a [u8]), LineFault> {
+    fn read_row<'a>(
+        alloc: Global,
+        _context: &(),
+        bytes: &'a [u8],
+    ) -> Result<(InnerRow, &'a [u8]), LineFault> {
         match inner_line(alloc, bytes) {
             Ok(row) => Ok(row),
-            Err(PartFault::NotThere) => Err(LineFault::Bad { code: BAD_LINE, left: bytes.len() }),
+            Err(PartFault::NotThere) => Err(LineFault::Bad {
+                code: BAD_LINE,
+                left: bytes.len(),
+            }),
             Err(PartFault::OutOfMemory) => Err(LineFault::OutOfMemory),
         }
     }
@@ -117,17 +147,27 @@ impl Row for Control {
     ghost row_at = { λ _. control_row };
 
     #[tactic(auto, unfolding(crate::specs::Lines::control_row))]
-    fn read_row<'a>(alloc: Global, _context: &(), bytes: &'a [u8]) -> Result<(Control, &'a [u8]), LineFault> {
+    fn read_row<'a>(
+        alloc: Global,
+        _context: &(),
+        bytes: &'a [u8],
+    ) -> Result<(Control, &'a [u8]), LineFault> {
         let left = bytes.len();
         match control_line(alloc, bytes) {
             Ok((control, rest)) => {
                 if control.arity <= MOST_PORTS {
                     Ok((control, rest))
                 } else {
-                    Err(LineFault::Bad { code: TOO_MANY, left })
+                    Err(LineFault::Bad {
+                        code: TOO_MANY,
+                        left,
+                    })
                 }
             }
-            Err(PartFault::NotThere) => Err(LineFault::Bad { code: BAD_LINE, left }),
+            Err(PartFault::NotThere) => Err(LineFault::Bad {
+                code: BAD_LINE,
+                left,
+            }),
             Err(PartFault::OutOfMemory) => Err(LineFault::OutOfMemory),
         }
     }
@@ -175,10 +215,17 @@ impl Row for NodeRow {
     ghost row_at = { node_row };
 
     #[tactic(auto, unfolding(crate::specs::Lines::node_row))]
-    fn read_row<'a>(alloc: Global, signature: &Signature, bytes: &'a [u8]) -> Result<(NodeRow, &'a [u8]), LineFault> {
+    fn read_row<'a>(
+        alloc: Global,
+        signature: &Signature,
+        bytes: &'a [u8],
+    ) -> Result<(NodeRow, &'a [u8]), LineFault> {
         match node(alloc, signature, bytes) {
             Ok(row) => Ok(row),
-            Err(PartFault::NotThere) => Err(LineFault::Bad { code: BAD_LINE, left: bytes.len() }),
+            Err(PartFault::NotThere) => Err(LineFault::Bad {
+                code: BAD_LINE,
+                left: bytes.len(),
+            }),
             Err(PartFault::OutOfMemory) => Err(LineFault::OutOfMemory),
         }
     }
@@ -186,7 +233,11 @@ impl Row for NodeRow {
 
 /// The line of a node. A label that the signature does not have gets a number that it does not have.
 #[tactic(auto, unfolding(crate::specs::Lines::node_at))]
-fn node<'a>(alloc: Global, signature: &Signature, bytes: &'a [u8]) -> Result<(NodeRow, &'a [u8]), PartFault>
+fn node<'a>(
+    alloc: Global,
+    signature: &Signature,
+    bytes: &'a [u8],
+) -> Result<(NodeRow, &'a [u8]), PartFault>
     ensures { Gives (λ x. (x.0, x.1.now)) result (lines.node_at signature.now bytes.now) }
 {
     let (id, rest) = number(bytes)?;
@@ -196,7 +247,15 @@ fn node<'a>(alloc: Global, signature: &Signature, bytes: &'a [u8]) -> Result<(No
     let (parent, rest) = place(rest)?;
     let (links, rest) = links(alloc, rest)?;
     let control = control_of(signature, &label);
-    Ok((NodeRow { id, control, parent, links }, rest))
+    Ok((
+        NodeRow {
+            id,
+            control,
+            parent,
+            links,
+        },
+        rest,
+    ))
 }
 
 /// The number of the control with the label, or the number of controls where there is none.

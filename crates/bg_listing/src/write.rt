@@ -6,7 +6,9 @@ ghost use Rattle.bg_base.specs.Bigraph.{IsValidUnder};
 ghost use Rattle.bg_base.specs.declared.big.NodeRow.{NodeRow as NodeRowValue};
 ghost use Rattle.bg_listing.specs.Spelling.{label_text, node_line, section_text, signature_text, big_text};
 
-use crate::writing::{put_chain, put_count, put_label, put_lines, put_number, put_place, put_section};
+use crate::writing::{
+    put_chain, put_count, put_label, put_lines, put_number, put_place, put_section,
+};
 use bg_base::{Big, Control, InnerRow, Label, Link, Name, NodeRow, Place, Signature};
 use bg_lists::{Mem, Rows};
 use std::alloc::Global;
@@ -81,7 +83,12 @@ fn put_big(alloc: Global, signature: &Signature, big: &Big, out: &mut Vec<u8>) -
     Ok(())
 }
 
-fn put_node_section(alloc: Global, signature: &Signature, rows: &Rows<NodeRow>, out: &mut Vec<u8>) -> Mem<()>
+fn put_node_section(
+    alloc: Global,
+    signature: &Signature,
+    rows: &Rows<NodeRow>,
+    out: &mut Vec<u8>,
+) -> Mem<()>
     requires { All (λ (row : NodeRowValue). row.control < length signature.now) rows.now }
     ensures { OnOk result (out.new.items ≡ out.old.items ++ section_text (codes "nodes ") (node_line signature.now) rows.now) }
 {

@@ -135,7 +135,13 @@ impl Spelled for Link {
 }
 
 /// Each item behind the separator, and then the closing byte.
-pub(crate) fn put_chain<P: Spelled>(alloc: Global, closing_byte: u8, separator: u8, items: &[P], out: &mut Vec<u8>) -> Mem<()>
+pub(crate) fn put_chain<P: Spelled>(
+    alloc: Global,
+    closing_byte: u8,
+    separator: u8,
+    items: &[P],
+    out: &mut Vec<u8>,
+) -> Mem<()>
     ensures { OnOk result (out.new.items ≡ out.old.items ++ spelling.chain_text closing_byte separator P.text_of items.now) }
 {
     for item in items {
@@ -167,7 +173,12 @@ pub(crate) fn put_count(alloc: Global, word: &[u8], count: u32, out: &mut Vec<u8
 }
 
 /// The line of a number and the items' lines behind it.
-pub(crate) fn put_section<P: Spelled>(alloc: Global, word: &[u8], items: &Rows<P>, out: &mut Vec<u8>) -> Mem<()>
+pub(crate) fn put_section<P: Spelled>(
+    alloc: Global,
+    word: &[u8],
+    items: &Rows<P>,
+    out: &mut Vec<u8>,
+) -> Mem<()>
     ensures { OnOk result (out.new.items ≡ out.old.items ++ spelling.section_text word.now P.text_of items.now) }
 {
     put_count(alloc, word, items.len(), out)?;
