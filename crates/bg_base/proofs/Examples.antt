@@ -1,18 +1,11 @@
 -- The definitions, tried on small bigraphs.
-use Rattle.std.proofs.Common.{◌≡◌, ℕ, List, [], ◌∷◌, Option, Some, None, refl, length}
-use Rattle.bg_base.specs.declared.names.Name.{Name}
-use Rattle.bg_base.specs.declared.names.Name.TheVariants.{Plain}
+use Rattle.std.proofs.Common.{◌≡◌, ℕ, List, [], ◌∷◌, Some, None, refl}
 use Rattle.bg_base.specs.declared.names.Place.TheVariants.{Node, Region}
-use Rattle.bg_base.specs.declared.names.Link.TheVariants.{Edge, Outer}
-use Rattle.bg_base.specs.declared.big.NodeRow.{NodeRow}
-use Rattle.bg_base.specs.declared.big.InnerRow.{InnerRow}
 use Rattle.bg_base.specs.declared.big.Big.{Big}
 use Rattle.bg_base.specs.declared.signature.Control.{Control}
 use Rattle.bg_base.specs.declared.signature.Kind.TheVariants.{Normal, Atomic}
-use Rattle.bg_base.specs.declared.check.Part.{Part}
-use Rattle.bg_base.specs.declared.check.Part.TheVariants.{Sites, Nodes}
+use Rattle.bg_base.specs.declared.check.Part.TheVariants.{Nodes}
 use Rattle.bg_lists.specs.Lists.{sort, put}
-use Rattle.bg_base.specs.Bigraph
 use Rattle.bg_base.specs.Composition.{compose}
 use Rattle.bg_base.specs.Faults.{fault_of, sites_fault, inner_fault, outer_fault, edges_fault, nodes_fault}
 

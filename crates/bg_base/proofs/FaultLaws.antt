@@ -1,18 +1,16 @@
 -- A bigraph has no fault under a signature exactly where it is valid under it.
-use Rattle.std.proofs.Common.{◌≡◌, ℕ, zero, suc, ◌+◌, ◌<◌, ◌≤◌, Bool, true, false, not, cond, ◌&&◌, eqb, ltb, Option, Some, None, List, [], ◌∷◌, length, map, refl, sym, ap, ◌∙◌, subst, arith, IsTrue, ltb-true, lt-ltb, eq-eqb, ◌↔◌}
-use Rattle.std.specs.Option.{option_map}
+use Rattle.std.proofs.Common.{◌≡◌, ℕ, ◌<◌, Bool, true, false, not, cond, ◌&&◌, eqb, ltb, Option, Some, None, List, [], ◌∷◌, length, map, refl, sym, ap, ◌∙◌, arith, IsTrue, ltb-true, lt-ltb, eq-eqb, ◌↔◌}
 use Rattle.std.specs.List.{AllByRecursion, All, list_all}
 use Rattle.std.specs.List.Sorted.{IsStrictlySortedBy}
 use Rattle.std.specs.Ordering.{nat_cmp, is_lt, on}
 use Rattle.std.specs.Cmp.{IsTotalOrder}
 use Rattle.std.specs.declared.cmp.Ordering.{Ordering}
-use Rattle.std.specs.declared.cmp.Ordering.TheVariants.{Less, Equal, Greater}
-use Rattle.std.proofs.lemmas.Bool.{and_parts, false≢true, eqb-true}
+use Rattle.std.specs.declared.cmp.Ordering.TheVariants.{Less}
+use Rattle.std.proofs.lemmas.Bool.{and_parts, eqb-true}
 use Rattle.std.proofs.lemmas.Cmp.{nat_cmp_total}
 use Rattle.std.proofs.lemmas.List.Elements.{All-from_recursion, recursion_from_All}
 use Rattle.bg_base.specs.declared.names.Name.{Name}
 use Rattle.bg_base.specs.declared.names.Place.{Place}
-use Rattle.bg_base.specs.declared.names.Link.{Link}
 use Rattle.bg_base.specs.declared.big.NodeRow.{NodeRow}
 use Rattle.bg_base.specs.declared.big.InnerRow.{InnerRow}
 use Rattle.bg_base.specs.declared.big.Big.{Big}
@@ -24,9 +22,10 @@ use Rattle.std.specs.Result.{OnOk, IsErrAnd}
 use Rattle.bg_base.specs.declared.check.CheckFault.{CheckFault}
 use Rattle.bg_base.specs.declared.check.CheckFault.TheVariants.{Malformed, OutOfMemory}
 use Rattle.bg_base.specs.Lookup.{IsAnswer, IsMalformed}
+use Rattle.bg_lists.proofs.Comparisons.{Less-from_is_lt}
 use Rattle.bg_base.specs.Order.{name_cmp}
 use Rattle.bg_base.specs.OrderLaws.{name_cmp_total}
-use Rattle.bg_base.specs.Bigraph.{IsValid, IsValidUnder, node_cmp, inner_cmp, has_place, has_link, is_rooted, is_atomic, arity_of}
+use Rattle.bg_base.specs.Bigraph.{IsValidUnder, node_cmp, inner_cmp, has_place, has_link, is_rooted, is_atomic, arity_of}
 use Rattle.bg_base.specs.Faults.{rises, site_code, inner_code, outer_code, edge_code, node_code, is_known, codes_from, shifted, first_fault, or_else, sites_fault, inner_fault, outer_fault, edges_fault, nodes_fault, fault_of}
 
 -- no code is that of a broken rule
@@ -61,11 +60,6 @@ Above {K} {X} cmp key (Some last) rows = AllByRecursion (λ (row : X). cmp last 
 abbrev ordered_code : {K X : Type 0} → (K → K → Ordering) → (X → K) → (X → ℕ) → Option K → X → ℕ
 ordered_code cmp key rest last row = cond (not (rises cmp last (key row))) 3 (rest row)
 
-less_from_is_lt : (o : Ordering) → is_lt o ≡ true → o ≡ Less
-less_from_is_lt Less e = refl
-less_from_is_lt Equal e = absurd (false≢true e)
-less_from_is_lt Greater e = absurd (false≢true e)
-
 ordered_zero : (b : Bool) (rest : ℕ) → cond (not b) 3 rest ≡ 0 → (b ≡ true) × (rest ≡ 0)
 ordered_zero true rest e = (refl, e)
 ordered_zero false rest e = absurd (omega (arith, e))
@@ -75,7 +69,7 @@ module _ {K X : Type 0} (cmp : K → K → Ordering) (order : IsTotalOrder cmp) 
       → AllByRecursion (λ (later : X). cmp (key row) (key later) ≡ Less) rows → Above cmp key last (row ∷ rows)
   above_cons None row rows rise all = tt
   above_cons (Some last) row rows rise all =
-      let first = less_from_is_lt (cmp last (key row)) rise in (
+      let first = Less-from_is_lt (cmp last (key row)) rise in (
         first,
         all_weaker (λ (later : X). cmp (key row) (key later) ≡ Less) (λ (later : X). cmp last (key later) ≡ Less)
             (λ later less. order.trans last (key row) (key later) first less) rows all,
@@ -337,6 +331,9 @@ module _ (signature : List Control) (big : Big) where
   pub no_fault : (fault_of signature big ≡ None) ↔ IsValidUnder signature big
   no_fault = (valid_from_no_fault, no_fault_from_valid)
 
+no_some : (fault : Part × ℕ × ℕ) → Some fault ≡ None → ⊥
+no_some fault e = cc
+
 -- what an answer of the check says of validity
 pub valid_answer : (signature : List Control) (big : Big) (answer : Result (Unit {0}) CheckFault) → IsAnswer answer (fault_of signature big)
     → OnOk answer (IsValidUnder signature big)
@@ -348,5 +345,5 @@ pub malformed_answer : (signature : List Control) (big : Big) (answer : Result (
 malformed_answer signature big (Ok done) none is under = is
 malformed_answer signature big (Err (Malformed code part row)) tells is under =
     let none = no_fault_from_valid signature big under in
-    let clash : Some (part, row, code) ≡ None = sym tells ∙ none in cc
+    let clash : Some (part, row, code) ≡ None = sym tells ∙ none in no_some (part, row, code) clash
 malformed_answer signature big (Err OutOfMemory) tells is under = is

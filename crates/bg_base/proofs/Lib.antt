@@ -10,3 +10,4 @@ pub mod LookUps
 pub mod Climbs
 pub mod Composed
 pub mod ComposedValid
+pub mod CompositionTests

@@ -1,10 +1,9 @@
 -- What `Signature` keeps, as controls are added.
-use Rattle.std.proofs.Common.{◌≡◌, ℕ, suc, ◌+◌, ◌<◌, ◌≤◌, Bool, true, false, cond, ◌||◌, Option, Some, None, List, [], ◌∷◌, ◌++◌, length, lit≤, refl, sym, ap, ◌∙◌, arith, length-append, All, zero, ◌-◌, get_or, drop, zero-add, add-zero}
-use Rattle.std.specs.Option.{option_map, IsNone, IsSome}
-use Rattle.std.specs.Ordering.{eq_by_cmp, on}
+use Rattle.std.proofs.Common.{◌≡◌, ℕ, suc, ◌+◌, ◌<◌, ◌≤◌, Bool, true, false, cond, Option, Some, None, List, [], ◌∷◌, ◌++◌, length, lit≤, refl, sym, ap, ◌∙◌, arith, length-append, zero, ◌-◌, get_or, drop, zero-add, add-zero}
+use Rattle.std.specs.Option.{option_map}
 use Rattle.std.specs.Cmp.{IsEquivalence}
 use Rattle.std.specs.List.{IsDistinct, list_any}
-use Rattle.std.proofs.lemmas.Bool.{cases_Bool, false≢true}
+use Rattle.std.proofs.lemmas.Bool.{false≢true}
 use Rattle.std.proofs.lemmas.Cmp.{eq_by_cmp_equiv, on_equiv}
 use Rattle.std.proofs.lemmas.List.Elements.{All-nil, All-push}
 use Rattle.std.proofs.lemmas.Map.Keys.{IsDistinct-push}

@@ -1,5 +1,5 @@
 -- When a concrete bigraph is valid, and when it is valid under a signature (Milner, chapter 2).
-use Rattle.std.specs.Prelude.{◌≡◌, ℕ, zero, suc, ◌<◌, Bool, true, false, not, nat_lt, ◌==◌, Option, None, Some, IsTrue, is_some, unwrap_or, option_map, find, List, [], length, map, slice_get, All}
+use Rattle.std.specs.Prelude.{◌≡◌, ℕ, zero, suc, ◌<◌, Bool, true, false, nat_lt, ◌==◌, Option, IsTrue, is_some, unwrap_or, option_map, find, List, [], length, slice_get, All}
 use Rattle.std.specs.List.{list_all}
 use Rattle.std.specs.List.Sorted.{IsStrictlySortedBy}
 use Rattle.std.specs.Ordering.{nat_cmp, is_eq, on}

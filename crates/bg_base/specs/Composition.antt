@@ -1,6 +1,9 @@
 -- Composition of concrete bigraphs (Milner, chapter 2): G's sites take F's regions, G's inner names take F's outer names.
-use Rattle.std.specs.Prelude.{◌≡◌, ℕ, Option, IsNone, unwrap_or, option_map, List, ◌++◌, length, map, slice_index_or, All}
-use Rattle.std.specs.Ordering.{nat_cmp}
+use Rattle.std.specs.Prelude.{◌≡◌, ℕ, Bool, ◌&&◌, ◌==◌, not, is_some, IsNone, unwrap_or, option_map, List, ◌++◌, length, map, slice_index_or, All}
+use Rattle.std.specs.List.{list_all}
+use Rattle.std.specs.Cmp.Lexicographic.{pointwise}
+use Rattle.std.specs.Ordering.{nat_cmp, is_eq}
+use Rattle.bg_base.specs.Order.{name_cmp}
 use Rattle.bg_lists.specs.Lists.{sort}
 use Rattle.bg_lists.specs.Orders.{before}
 use Rattle.bg_base.specs.declared.names.Name.{Name}
@@ -26,6 +29,16 @@ pub record FacesAgree (g f : Big) : Type 0 where
 pub record SupportsApart (g f : Big) : Type 0 where
   pub nodes_apart : All (λ (row : NodeRow). IsNone (row_of g.nodes row.id)) f.nodes
   pub edges_apart : All (λ (edge : ℕ). IsNone (edge_of g.edges edge)) f.edges
+
+-- the tests of these two facts
+abbrev pub faces_agree : Big → Big → Bool
+faces_agree g f =
+    (f.regions == length g.sites) && pointwise (λ (x y : Name). is_eq (name_cmp x y)) f.outer (inner_names g.inner)
+
+abbrev pub supports_apart : Big → Big → Bool
+supports_apart g f =
+    list_all (λ (row : NodeRow). not (is_some (row_of g.nodes row.id))) f.nodes
+    && list_all (λ (edge : ℕ). not (is_some (edge_of g.edges edge))) f.edges
 
 -- where a place of F comes to lie: region j becomes the parent of G's site j
 abbrev pub place_through : Big → Place → Place

@@ -1,12 +1,12 @@
 -- The order of labels is a total order that tells equal labels alone as equal.
-use Rattle.std.specs.Prelude.{◌≡◌, ℕ, ℤ, pos, Bool, List, [], ◌∷◌, refl}
+use Rattle.std.specs.Prelude.{◌≡◌, ℕ, ℤ, pos, List, [], refl}
 use Rattle.std.specs.Ordering.{nat_cmp, int_cmp, ordering_then, eq_by_cmp, on, then_cmp}
 use Rattle.std.specs.Cmp.{IsTotalOrder, both_tied}
 use Rattle.std.specs.Cmp.Lexicographic.{slice_cmp, texts_ties, lists_ties}
 use Rattle.std.specs.declared.cmp.Ordering.{Ordering}
 use Rattle.std.specs.declared.cmp.Ordering.TheVariants.{Less, Equal, Greater}
-use Rattle.std.proofs.Common.{sym, ap, ◌∙◌}
-use Rattle.std.proofs.lemmas.Cmp.{on_total, then_total, nat_list_cmp_total, nat_cmp_total, int_cmp_total, lists_total, tied_itself}
+use Rattle.std.proofs.Common.{sym, ◌∙◌}
+use Rattle.std.proofs.lemmas.Cmp.{on_total, then_total, nat_list_cmp_total, nat_cmp_total, int_cmp_total, lists_total}
 use Rattle.bg_base.specs.declared.labels.Value.{Value}
 use Rattle.bg_base.specs.declared.labels.Value.TheVariants.{Int, Words}
 use Rattle.bg_base.specs.declared.labels.Label.{Label}

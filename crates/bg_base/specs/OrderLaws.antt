@@ -1,13 +1,12 @@
 -- The order of names is a total order that tells equal names alone as equal.
-use Rattle.std.specs.Prelude.{◌≡◌, ℕ, Bool, List, [], ◌∷◌, Some, Option, refl}
+use Rattle.std.specs.Prelude.{◌≡◌, ℕ, List, [], ◌∷◌, refl}
 use Rattle.std.specs.Ordering.{nat_cmp, ordering_then, eq_by_cmp}
-use Rattle.std.specs.Cmp.{IsTotalOrder, unsigned_ties, both_tied, partial_order_from_agreeing_total, IsPartialOrder}
+use Rattle.std.specs.Cmp.{IsTotalOrder, unsigned_ties, both_tied}
 use Rattle.std.specs.Cmp.Lexicographic.{slice_cmp, texts_ties}
 use Rattle.std.specs.declared.cmp.Ordering.{Ordering}
 use Rattle.std.specs.declared.cmp.Ordering.TheVariants.{Less, Equal, Greater}
-use Rattle.std.proofs.Common.{sym, ap, ◌∙◌, arith, cond}
-use Rattle.std.proofs.lemmas.Cmp.{on_total, nat_list_cmp_total, tied_itself, nat_cmp_total}
-use Rattle.std.proofs.lemmas.Bool.Decides.{nat_tests}
+use Rattle.std.proofs.Common.{sym, ap, ◌∙◌}
+use Rattle.std.proofs.lemmas.Cmp.{on_total, nat_list_cmp_total}
 use Rattle.bg_base.specs.declared.names.Name.{Name}
 use Rattle.bg_base.specs.declared.names.Name.TheVariants.{Plain, Port, Opened}
 use Rattle.bg_base.specs.contracts.names.NamePartialEq.TheImpl.{ghosts}

@@ -1,5 +1,5 @@
 -- How words are spelled, byte by byte.
-use Rattle.std.specs.Prelude.{ℕ, Bool, true, false, ◌&&◌, ◌||◌, not, nat_le, ◌==◌, List, [], ◌∷◌}
+use Rattle.std.specs.Prelude.{ℕ, Bool, false, ◌&&◌, ◌||◌, not, nat_le, ◌==◌, List, [], ◌∷◌}
 use Rattle.std.specs.List.{list_all}
 
 abbrev pub is_upper_case : ℕ → Bool

@@ -10,7 +10,7 @@ ghost use Rattle.bg_base.specs.Faults as fault;
 ghost use Rattle.bg_base.specs.Lookup.{IsFirstRow, IsIndex, IsLookup, IsSortedCopy, AreRooted, IsAnswer, IsMalformed};
 
 use crate::{Big, Control, InnerRow, Kind, Link, Name, NodeRow, Place, Signature};
-use bg_lists::{Duplicate, Mem, OutOfMemory};
+use bg_lists::{Mem, OutOfMemory, copies};
 use std::alloc::{AllocError, AllocFailed, Global};
 use std::collections::BTreeMap;
 
@@ -80,10 +80,7 @@ fn sorted_numbers(alloc: Global, numbers: &[u32]) -> Mem<Vec<u32>>
 fn sorted_names(alloc: Global, names: &[Name]) -> Mem<Vec<Name>>
     ensures { IfOk result (λ sorted. IsSortedCopy name_cmp names.now sorted.items) }
 {
-    let mut sorted = Vec::new(alloc);
-    for name in names {
-        sorted.push(name.copy(alloc)?)?;
-    }
+    let mut sorted = copies(alloc, names)?;
     sorted.sort_unstable();
     Ok(sorted)
 }

@@ -23,3 +23,6 @@ pub use links::Links;
 pub use names::{Link, Name, Place};
 pub use signature::{Control, Kind, MOST_CONTROLS, MOST_PORTS, Signature, SignatureFault};
 pub use text::{Ident, Text, is_ident, is_text, is_text_byte, is_word_byte};
+
+#[cfg(test)]
+mod tests;

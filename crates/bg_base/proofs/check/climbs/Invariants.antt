@@ -1,6 +1,3 @@
-use Rattle.std.proofs.Common.{◌≡◌, ◌≤◌, length}
-use Rattle.bg_base.specs.declared.names.Place.TheVariants.{Node}
-use Rattle.bg_base.specs.Bigraph.{reaches}
 use Rattle.bg_base.proofs.ClimbLaws.{Climbed}
 use Rattle.bg_base.proofs.check.climbs.Given as goal
 

@@ -1,4 +1,4 @@
-use Rattle.std.proofs.Common.{◌≤◌, length, arith}
+use Rattle.std.proofs.Common.{arith}
 use Rattle.bg_base.proofs.IndexLaws.{index_turn}
 use Rattle.bg_base.proofs.check.index_of.Goals as goal
 

@@ -1,4 +1,4 @@
-use Rattle.std.proofs.Common.{◌≡◌, ◌≤◌, length, drop}
+use Rattle.std.proofs.Common.{◌≤◌, length, drop}
 use Rattle.bg_base.specs.Lookup.{IsIndexOf}
 use Rattle.bg_base.proofs.check.index_of.Given as goal
 

@@ -1,4 +1,4 @@
-use Rattle.std.proofs.Common.{◌≡◌, length, IsTrue}
+use Rattle.std.proofs.Common.{length, IsTrue}
 use Rattle.bg_base.specs.Bigraph.{reaches}
 use Rattle.bg_base.specs.Lookup.{AreRooted}
 use Rattle.bg_base.proofs.check.mark_path.Given as goal

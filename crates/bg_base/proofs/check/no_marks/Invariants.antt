@@ -1,4 +1,4 @@
-use Rattle.std.proofs.Common.{◌≡◌, ℕ, length, true, Some, slice_get, vec_len}
+use Rattle.std.proofs.Common.{◌≡◌, ℕ, true, Some, slice_get, vec_len}
 use Rattle.bg_base.proofs.check.no_marks.Given as goal
 
 abbrev pub invariant-loop : goal.invariant-loop

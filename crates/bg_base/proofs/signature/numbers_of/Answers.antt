@@ -1,5 +1,5 @@
 use Rattle.std.proofs.Common.{arith}
-use Rattle.bg_base.proofs.SignatureLaws.{numbering_turn, numbering_whole}
+use Rattle.bg_base.proofs.SignatureLaws.{numbering_turn}
 use Rattle.bg_base.proofs.signature.numbers_of.Goals as goal
 
 pub loop-at-preserved : goal.loop-at-preserved

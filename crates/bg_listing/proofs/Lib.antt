@@ -1,0 +1,12 @@
+pub mod Combinators
+pub mod Numbers
+pub mod Parts
+pub mod FixedBytes
+pub mod Loops
+pub mod Listings
+pub mod Labels
+pub mod Values
+pub mod SixParts
+pub mod Rooms
+pub mod Passes
+pub mod Longest

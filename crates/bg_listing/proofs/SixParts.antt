@@ -1,0 +1,6 @@
+-- One text written behind the other.
+use Rattle.std.proofs.Common.{◌≡◌, ℕ, List, ◌++◌, append_assoc}
+
+pub six_parts : (before o1 o2 o3 o4 o5 o6 a b c d e f : List ℕ) → o1 ≡ before ++ a → o2 ≡ o1 ++ b → o3 ≡ o2 ++ c → o4 ≡ o3 ++ d → o5 ≡ o4 ++ e → o6 ≡ o5 ++ f
+    → o6 ≡ before ++ (a ++ (b ++ (c ++ (d ++ (e ++ f)))))
+six_parts before o1 o2 o3 o4 o5 o6 a b c d e f p1 p2 p3 p4 p5 p6 = rw (p6, p5, p4, p3, p2, p1) (simp append_assoc)

@@ -1,0 +1,37 @@
+-- How a call ends: its status, and what it has written.
+use Rattle.std.specs.Prelude.{◌≡◌, ◌≢◌, ℕ, List, ◌⊎◌}
+use Rattle.std.specs.declared.option.Option.{Option}
+use Rattle.std.specs.Io.KnownBytes.{Appends, Keeps}
+use Rattle.bg_io.specs.Transfers.{AppendsPrefix}
+use Rattle.bg_top.specs.Answer.{Answer, number}
+use Rattle.bg_top.specs.declared.reply.Status.{Status}
+use Rattle.bg_top.specs.declared.top.TheConstants.{READ_FAILURE, WRITE_FAILURE, NO_MEMORY}
+
+-- some right answer of which P holds
+abbrev pub SomeAnswer : (Answer → Type 0) → (Answer → Type 0) → Type 0
+SomeAnswer right P = (answer : Answer) × right answer × P answer
+
+-- a call ended with this status; what the sink holds went from old to new
+pub record Ended (right : Answer → Type 0) (status : ℕ) (read_failed write_failed : Type 0) (old new : Option (List ℕ)) : Type 0 where
+  -- after a failed read nothing is written
+  pub read_failure : status ≡ READ_FAILURE → read_failed × Keeps old new
+  -- after a failed write the start of a right text is written
+  pub write_failure : status ≡ WRITE_FAILURE → write_failed × SomeAnswer right (λ answer. AppendsPrefix old new answer.text)
+  -- for want of memory nothing is written, or the start of a right text
+  pub no_memory : status ≡ NO_MEMORY → Keeps old new ⊎ SomeAnswer right (λ answer. AppendsPrefix old new answer.text)
+  -- any other status is that of a right answer, whose text is written whole
+  pub answered : status ≢ READ_FAILURE → status ≢ WRITE_FAILURE → status ≢ NO_MEMORY
+      → SomeAnswer right (λ answer. (status ≡ number answer.status) × Appends old new answer.text)
+
+-- some text of which P holds was written whole
+abbrev pub Writes : (List ℕ → Type 0) → Option (List ℕ) → Option (List ℕ) → Type 0
+Writes P old new = (text : List ℕ) × P text × Appends old new text
+
+-- a read or a write failed, or there was no memory
+abbrev pub IsStopped : ℕ → Type 0
+IsStopped result = (result ≡ READ_FAILURE) ⊎ (result ≡ WRITE_FAILURE) ⊎ (result ≡ NO_MEMORY)
+
+-- the result is that of the status exactly where P holds, but for calls that were stopped
+pub record ComesWhere (result : ℕ) (status : Status) (P : Type 0) : Type 0 where
+  pub only : result ≡ number status → P
+  pub always : P → IsStopped result ⊎ (result ≡ number status)

@@ -1,0 +1,6 @@
+pub mod Answer
+pub mod Compose
+pub mod Ended
+pub mod Refusal
+pub mod Right
+pub mod Words

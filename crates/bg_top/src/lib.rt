@@ -1,0 +1,15 @@
+//! The top call: from the words of the command line and the bytes of the input to the text of the answer.
+#![tactic(auto)]
+
+mod command;
+mod composition;
+mod refusal;
+mod reply;
+#[cfg(test)]
+mod tests;
+mod top;
+
+pub use command::Command;
+pub use refusal::Refusal;
+pub use reply::Status;
+pub use top::{MOST, NO_MEMORY, engine};

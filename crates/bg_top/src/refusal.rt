@@ -1,0 +1,49 @@
+ghost use Rattle.std.specs.Prelude.{◌≡◌, Some};
+ghost use Rattle.bg_top.specs.Refusal.{fault_name};
+
+use std::fmt;
+
+/// Why an input is refused.
+#[derive(Clone, Copy, Debug, PartialEq, Eq)]
+pub enum Refusal {
+    /// A listing is refused: by which code, and at which line of the input, counted from 1.
+    Listing { code: u8, line: u32 },
+    /// The inner face of the first bigraph is not the outer face of the second.
+    FacesDiffer,
+    /// A node or an edge is in both bigraphs.
+    SupportMeets,
+}
+
+impl fmt::Display for Refusal {
+    ghost use Rattle.bg_top.specs.Refusal.{refusal_text};
+
+    ghost output = { λ refusal. Some (refusal_text refusal) };
+
+    fn fmt<W: fmt::Write>(&self, f: &mut fmt::Formatter<W>) -> fmt::Result {
+        match *self {
+            Refusal::Listing { code, line } => {
+                let name = fault_name(code);
+                write!(f, "refused {code} {name} at {line}")
+            }
+            Refusal::FacesDiffer => f.write_str("refused 11 FacesDiffer"),
+            Refusal::SupportMeets => f.write_str("refused 12 SupportMeets"),
+        }
+    }
+}
+
+/// The name of a code by which a listing is refused.
+fn fault_name(code: u8) -> &'static str
+    ensures { result.now ≡ fault_name code }
+{
+    match code {
+        1 => "BadLine",
+        2 => "TooMany",
+        3 => "NotAscending",
+        4 => "Unknown",
+        5 => "WrongPorts",
+        6 => "AtomicHasChild",
+        7 => "Cycle",
+        8 => "Extra",
+        _ => "DuplicateLabel",
+    }
+}

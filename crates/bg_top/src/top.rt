@@ -1,0 +1,127 @@
+ghost use Rattle.std.specs.Prelude.{◌≡◌, ◌≢◌, ◌≤◌, ◌<◌, ◌+◌, ◌⊎◌, None, length, IfOk, IfSome, IsErrOf};
+ghost use Rattle.std.specs.Option.{IsSomeAnd};
+ghost use Rattle.bg_io.specs.Faults.{Rose};
+ghost use Rattle.bg_top.specs.Words.{asked};
+ghost use Rattle.bg_top.specs.Answer.{number, answer_of};
+ghost use Rattle.bg_top.specs.Right.{IsReply, IsRight, IsTextOf, IsRefused, IsAccepted};
+ghost use Rattle.bg_top.specs.Ended.{Ended, Writes, ComesWhere};
+
+use crate::command::{Command, command_of};
+use crate::composition::compose;
+use crate::reply::{Reply, Status};
+use bg_io::{ReadAllFault, Sink, SinkFault, Source, read_all, write_all};
+use std::alloc::{AllocError, Global};
+
+/// So many bytes of an input are read; a longer one is refused.
+pub const MOST: u32 = 8_388_608;
+
+/// The status where a read failed.
+pub const READ_FAILURE: u8 = 3;
+
+/// The status where a write failed.
+pub const WRITE_FAILURE: u8 = 4;
+
+/// The status where there was no memory.
+pub const NO_MEMORY: u8 = 5;
+
+/// Does all that the program does: reads the words, then the source, and writes the answer to the sink.
+///
+/// `words` are those of the command line, the program's name first. The answer is made whole before its
+/// first byte is written, and each written line ends with a line feed.
+///
+/// | Status | Written | When |
+/// |---|---|---|
+/// | 0 | the command's text | all else |
+/// | 1 | a line `refused ..` | exactly where the input is refused |
+/// | 2 | `words` | exactly where the words are refused; the source is not read |
+/// | 3 | nothing | only where the source's count of faults rose |
+/// | 4 | a prefix of the text | only where the sink's count of faults rose |
+/// | 5 | a prefix of the text | want of memory |
+/// | 8 | `too long` | exactly where the source gave `MOST + 1` bytes |
+///
+/// 3, 4 and 5 come before the others: "exactly where" is said of the calls that end with none of them.
+pub fn engine<S: Source, K: Sink>(
+    alloc: Global,
+    words: &[String],
+    source: &mut S,
+    sink: &mut K,
+) -> u8
+    // every status, and what is written with it
+    ensures ended { Ended (IsRight MOST (asked words.now) (S.left source.old)) result
+        (Rose (S.faults source.old) (S.faults source.new)) (Rose (K.faults sink.old) (K.faults sink.new))
+        (K.held sink.old) (K.held sink.new) }
+
+    // refused words
+    ensures wrong_words { ComesWhere result Status.WrongWords (asked words.now ≡ None) }
+    ensures unread { asked words.now ≡ None → (source.new ≡ source.old) × (result ≢ READ_FAILURE) }
+
+    // the source is read until its end, or just past the most
+    ensures few_reads { S.reads source.new ≤ S.reads source.old + MOST + 1 }
+
+    // refused inputs
+    ensures too_long { IfSome (S.left source.old) (λ input.
+        ComesWhere result Status.TooLong (IsSomeAnd (asked words.now) (λ command. MOST < length input))) }
+    ensures refused { IfSome (S.left source.old) (λ input.
+        ComesWhere result Status.Refused (IsSomeAnd (asked words.now) (λ command. (length input ≤ MOST) × IsRefused command input))) }
+
+    // an input that is accepted is answered, and the text that the command makes of it is written
+    ensures written { IfSome (S.left source.old) (λ input. result ≡ number Status.Done →
+        IsSomeAnd (asked words.now) (λ command. Writes (IsTextOf command input) (K.held sink.old) (K.held sink.new))) }
+    ensures complete { IsAccepted MOST (asked words.now) (S.left source.old)
+        → ¬ Rose (S.faults source.old) (S.faults source.new) → ¬ Rose (K.faults sink.old) (K.faults sink.new)
+        → (result ≡ number Status.Done) ⊎ (result ≡ NO_MEMORY) }
+{
+    run(alloc, words, source, sink)
+}
+
+/// The body of `engine`, whose other clauses follow from this one.
+fn run<S: Source, K: Sink>(alloc: Global, words: &[String], source: &mut S, sink: &mut K) -> u8
+    ensures ended { Ended (IsRight MOST (asked words.now) (S.left source.old)) result
+        (Rose (S.faults source.old) (S.faults source.new)) (Rose (K.faults sink.old) (K.faults sink.new))
+        (K.held sink.old) (K.held sink.new) }
+    ensures unread { asked words.now ≡ None → (source.new ≡ source.old) × (result ≢ READ_FAILURE) }
+    ensures few_reads { S.reads source.new ≤ S.reads source.old + MOST + 1 }
+{
+    let Some(command) = command_of(words) else {
+        return respond(sink, Status::WrongWords, b"words\n");
+    };
+    let input = match read_all(alloc, source, MOST) {
+        Ok(input) => input,
+        Err(ReadAllFault::ReadFault) => return READ_FAILURE,
+        Err(ReadAllFault::TooLong) => return respond(sink, Status::TooLong, b"too long\n"),
+        Err(ReadAllFault::OutOfMemory) => return NO_MEMORY,
+    };
+    answer(alloc, command, input.as_slice(), sink)
+}
+
+/// Makes the answer of a command to its input, and writes it.
+fn answer<K: Sink>(alloc: Global, command: Command, input: &[u8], sink: &mut K) -> u8
+    ensures { Ended (IsReply command input.now) result
+        ⊥ (Rose (K.faults sink.old) (K.faults sink.new)) (K.held sink.old) (K.held sink.new) }
+{
+    match reply_to(alloc, command, input) {
+        Ok(reply) => respond(sink, reply.status, reply.text.as_slice()),
+        Err(AllocError) => NO_MEMORY,
+    }
+}
+
+/// The answer of a command to its input.
+fn reply_to(alloc: Global, command: Command, input: &[u8]) -> Result<Reply, AllocError>
+    ensures { IfOk result (λ reply. IsReply command input.now (answer_of reply)) }
+{
+    match command {
+        Command::Compose => compose(alloc, input),
+    }
+}
+
+/// Writes an answer, and gives the status with which the program ends.
+fn respond<K: Sink>(sink: &mut K, status: Status, text: &[u8]) -> u8
+    ensures { Ended (λ answer. answer ≡ record { status = status; text = text.now }) result
+        ⊥ (Rose (K.faults sink.old) (K.faults sink.new)) (K.held sink.old) (K.held sink.new) }
+{
+    match write_all(sink, text) {
+        Ok(()) => status.number(),
+        Err(SinkFault::Failed) => WRITE_FAILURE,
+        Err(SinkFault::OutOfMemory) => NO_MEMORY,
+    }
+}
