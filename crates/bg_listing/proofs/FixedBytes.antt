@@ -1,5 +1,5 @@
 -- What stands in front of the bytes.
-use Rattle.std.proofs.Common.{◌≡◌, ℕ, suc, Bool, true, false, nat_eq, cond, eqb, List, [], ◌∷◌, length, take, drop, Ok, Err, Result, refl, arith}
+use Rattle.std.proofs.Common.{◌≡◌, ℕ, Bool, true, false, nat_eq, cond, eqb, List, [], ◌∷◌, length, take, drop, Ok, Err, refl}
 use Rattle.std.specs.Cmp.Lexicographic.{pointwise}
 use Rattle.std.proofs.lemmas.Bool.{and_parts}
 use Rattle.bg_listing.specs.Combinators.{after}

@@ -1,24 +1,17 @@
 -- The laws of lines, of sections and of whole listings.
-use Rattle.std.proofs.Common.{◌≡◌, ℕ, zero, suc, ◌+◌, ◌-◌, ◌<◌, ◌≤◌, Bool, true, false, leb, List, [], ◌∷◌, ◌++◌, length, map, Result, Ok, Err, refl, sym, ap, subst, ◌∙◌, append_assoc, lit≤, arith}
+use Rattle.std.proofs.Common.{◌≡◌, ℕ, ◌≤◌, leb, List, ◌++◌, length, map, Result, refl, sym, ap, ◌∙◌, append_assoc, lit≤, arith}
 use Rattle.std.specs.Prelude.{codes}
 use Rattle.std.specs.List.{flat_map, AllByRecursion}
 use Rattle.std.specs.Fmt.{decimal}
 use Rattle.std.proofs.lemmas.Bool.{leb-true, le-leb}
-use Rattle.bg_base.specs.declared.names.Name.{Name}
-use Rattle.bg_base.specs.declared.names.Place.{Place}
-use Rattle.bg_base.specs.declared.names.Link.{Link}
-use Rattle.bg_base.specs.declared.labels.Label.{Label}
 use Rattle.bg_base.specs.declared.signature.Control.{Control}
-use Rattle.bg_base.specs.declared.big.InnerRow.{InnerRow}
-use Rattle.bg_base.specs.declared.big.NodeRow.{NodeRow}
 use Rattle.bg_base.specs.declared.big.Big.{Big}
-use Rattle.bg_listing.specs.Spelling.{space, line_feed, chain_text, place_text, name_text, link_text, label_text, kind_text, edge_line, place_line, name_line, inner_line, control_line, count_line, section_text, signature_text}
+use Rattle.bg_listing.specs.Spelling.{space, line_feed, chain_text, place_text, link_text, label_text, edge_line, place_line, name_line, inner_line, control_line, count_line, section_text, signature_text}
 use Rattle.bg_listing.specs.Limits.{greatest, most_rows, most_controls, most_ports, IsNumber, IsPlace, IsName, IsLink, IsInner, IsLabel, IsControl, AreCounted}
-use Rattle.bg_listing.specs.Combinators.{◌>>=◌, mapped, behind, line, only_if, both, each, chain}
-use Rattle.bg_listing.specs.Reading.{number_at, place_at, name_at, link_at, inner_at, label_at, control_at}
-use Rattle.bg_listing.specs.Lines.{Bad, bad_line, too_many, or_bad_line, row, count_at, section_at, edge_row, place_row, name_row, inner_row, control_row, control_of, NodeParts, row_of, links_at, node_at, node_row, signature_at, Sections, big_of, big_at}
+use Rattle.bg_listing.specs.Combinators.{each}
+use Rattle.bg_listing.specs.Lines.{Bad, bad_line, too_many, or_bad_line, row, count_at, section_at, edge_row, place_row, name_row, inner_row, control_row, NodeParts, row_of, links_at, node_at, node_row, signature_at, Sections, big_of, big_at}
 use Rattle.bg_listing.proofs.Combinators.{Holds, found, refused, Reads, Anything, holds_bind, mapped_reads, viewed_reads, fits_reads, map_same, behind_reads, line_reads, only_if_reads, both_read, chain_reads, chain_begins, AreThisMany, each_reads, each_again}
-use Rattle.bg_listing.proofs.Numbers.{IsEnded, number_reads}
+use Rattle.bg_listing.proofs.Numbers.{IsEnded}
 use Rattle.bg_listing.proofs.Parts.{listed_numbers, place_reads, name_reads, link_reads, inner_reads, label_reads, control_reads}
 
 or_bad_line_holds : {D X : Type 0} {v : D → X} {t : D → List ℕ} {F : D → Type 0} (bytes : List ℕ) (r : Result (X × List ℕ) (Unit {0})) → Holds v t F bytes r → Holds v t F bytes (or_bad_line r bytes)

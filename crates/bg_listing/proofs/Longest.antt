@@ -1,22 +1,20 @@
 -- The longest number and the longest label at an offset.
-use Rattle.std.proofs.Common.{◌≡◌, ℕ, zero, suc, ◌+◌, ◌-◌, ◌<◌, ◌≤◌, ◌^◌, Bool, true, false, cond, List, [], ◌∷◌, ◌++◌, length, take, drop, Option, Some, None, Result, Ok, Err, refl, sym, ap, subst, ◌∙◌, append_assoc, arith}
-use Rattle.std.specs.Prelude.{IfOk, IfSome, IfNone, codes}
-use Rattle.std.specs.List.{list_all, prefix_len, AllByRecursion}
+use Rattle.std.proofs.Common.{◌≡◌, ℕ, suc, ◌+◌, ◌-◌, ◌<◌, ◌≤◌, ◌^◌, Bool, true, false, cond, List, [], ◌∷◌, ◌++◌, length, take, drop, Result, Ok, Err, refl, sym, ap, subst, ◌∙◌, append_assoc, arith}
+use Rattle.std.specs.List.{prefix_len, AllByRecursion}
 use Rattle.std.specs.Char.{is_ascii_digit}
 use Rattle.std.specs.Fmt.{decimal}
 use Rattle.std.specs.Str.Parse.{digits_value}
-use Rattle.std.proofs.lemmas.Bool.{eqb-true}
-use Rattle.std.proofs.lemmas.List.{length-append, length-drop, append-nil}
+use Rattle.std.proofs.lemmas.List.{length-append, length-drop}
 use Rattle.std.proofs.Math.Seq.{take-append-add, drop-append-add}
 use Rattle.bg_base.specs.Spelling.{is_word_byte, is_upper_case}
 use Rattle.bg_base.specs.declared.labels.Label.{Label}
 use Rattle.bg_base.specs.declared.labels.Value.{Value}
 use Rattle.bg_listing.specs.Spelling.{label_text, args_text}
-use Rattle.bg_listing.specs.Limits.{begins, IsWord, IsValue, IsLabel}
-use Rattle.bg_listing.specs.Combinators.{◌>>=◌, mapped, only_if, run, both}
-use Rattle.bg_listing.specs.Reading.{not_there, is_numeral_up_to, number_at, word_at, args_at, args_or_none, optional_args_at, label_at}
+use Rattle.bg_listing.specs.Limits.{IsWord, IsValue, IsLabel}
+use Rattle.bg_listing.specs.Combinators.{mapped}
+use Rattle.bg_listing.specs.Reading.{is_numeral_up_to, number_at, word_at, args_at, args_or_none, label_at}
 use Rattle.bg_listing.specs.Verdict.{IsNumberAt, IsLabelAt}
-use Rattle.bg_listing.proofs.Combinators.{Holds, found, refused, Reads, IsNoMore, done_is, prefix_len-append}
+use Rattle.bg_listing.proofs.Combinators.{Holds, found, Reads, IsNoMore, done_is, prefix_len-append}
 use Rattle.bg_listing.proofs.Numbers.{whole_number_reads, whole_word_reads}
 use Rattle.bg_listing.proofs.Parts.{args_read, optional_reads, label_reads}
 use Rattle.bg_listing.proofs.Rooms.{suffix}

@@ -1,5 +1,5 @@
 -- Reading one after the other, as a loop does.
-use Rattle.std.proofs.Common.{◌≡◌, ℕ, suc, ◌-◌, ◌+◌, ◌≤◌, ◌<◌, List, [], ◌∷◌, ◌++◌, Option, Some, None, Result, Ok, Err, refl, sym, ap, ◌∙◌, append_assoc, arith}
+use Rattle.std.proofs.Common.{◌≡◌, ℕ, suc, ◌-◌, ◌+◌, ◌≤◌, ◌<◌, List, [], ◌∷◌, ◌++◌, Some, None, Result, Ok, Err, refl, sym, ap, ◌∙◌, append_assoc, arith}
 use Rattle.std.proofs.lemmas.List.{append-nil}
 use Rattle.bg_listing.specs.declared.fault.PartFault.{PartFault}
 use Rattle.bg_listing.specs.declared.fault.PartFault.TheVariants as part
@@ -7,7 +7,7 @@ use Rattle.bg_listing.specs.declared.fault.LineFault.{LineFault}
 use Rattle.bg_listing.specs.declared.fault.LineFault.TheVariants as lines
 use Rattle.bg_listing.specs.Lines.{Bad}
 use Rattle.bg_listing.specs.Answers.{Fails, FailsLines}
-use Rattle.bg_listing.specs.Combinators.{◌>>=◌, with_front, further, next, chain_within, each}
+use Rattle.bg_listing.specs.Combinators.{with_front, next, chain_within, each}
 
 regroup : {A E : Type 0} (front : List A) (a : A) (read : Result (List A × List ℕ) E) → with_front front (with_front (a ∷ []) read) ≡ with_front (front ++ a ∷ []) read
 regroup front a (Ok x) = ap (λ ys. Ok (ys, x.1)) (simp append_assoc)

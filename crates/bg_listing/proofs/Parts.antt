@@ -1,10 +1,10 @@
 -- The laws of the parts of a line.
-use Rattle.std.proofs.Common.{◌≡◌, ℕ, zero, suc, ◌+◌, ◌-◌, ◌<◌, ◌≤◌, ◌^◌, Bool, true, false, not, ◌&&◌, cond, eqb, leb, List, [], ◌∷◌, ◌++◌, length, map, Result, Ok, Err, refl, sym, ap, subst, ◌∙◌, append_assoc, lit<, arith}
-use Rattle.std.specs.Prelude.{ℤ, pos, negsuc, codes}
-use Rattle.std.specs.List.{list_all, prefix_len, AllByRecursion}
+use Rattle.std.proofs.Common.{◌≡◌, ℕ, suc, ◌-◌, ◌<◌, ◌≤◌, ◌^◌, true, false, not, ◌&&◌, cond, eqb, List, [], ◌∷◌, ◌++◌, length, Result, Ok, Err, refl, sym, ap, ◌∙◌, lit<, arith}
+use Rattle.std.specs.Prelude.{pos, negsuc, codes}
+use Rattle.std.specs.List.{list_all, AllByRecursion}
 use Rattle.std.specs.Char.{is_ascii_digit}
 use Rattle.std.specs.Fmt.{decimal, signed_decimal}
-use Rattle.std.proofs.lemmas.Bool.{eqb-true, eq-eqb, and_parts, and_from}
+use Rattle.std.proofs.lemmas.Bool.{eqb-true, and_parts}
 use Rattle.std.proofs.lemmas.Fmt.{digits_decimal, decimal_nonempty}
 use Rattle.bg_base.specs.Spelling.{is_word_byte, is_text_byte, is_lower_case, is_upper_case}
 use Rattle.bg_base.specs.declared.names.Name.{Name}
@@ -15,17 +15,14 @@ use Rattle.bg_base.specs.declared.names.Link.{Link}
 use Rattle.bg_base.specs.declared.names.Link.TheVariants.{Edge, Outer}
 use Rattle.bg_base.specs.declared.labels.Value.{Value}
 use Rattle.bg_base.specs.declared.labels.Value.TheVariants.{Int, Words}
-use Rattle.bg_base.specs.declared.labels.Label.{Label}
 use Rattle.bg_base.specs.declared.signature.Kind.{Kind}
 use Rattle.bg_base.specs.declared.signature.Kind.TheVariants.{Normal, Atomic}
-use Rattle.bg_base.specs.declared.signature.Control.{Control}
-use Rattle.bg_base.specs.declared.big.InnerRow.{InnerRow}
-use Rattle.bg_listing.specs.Spelling.{chain_text, space, line_feed, comma, closing_bracket, place_text, name_text, link_text, value_text, args_text, label_text, kind_text}
-use Rattle.bg_listing.specs.Limits.{greatest, greatest_int, begins, IsNumber, IsPlace, IsWord, IsName, IsLink, IsInner, IsInt, IsValue, IsLabel}
-use Rattle.bg_listing.specs.Combinators.{◌>>=◌, mapped, after, behind, ended, only_if, run, or_else, both, chain}
+use Rattle.bg_listing.specs.Spelling.{chain_text, comma, closing_bracket, place_text, name_text, link_text, value_text, args_text, label_text, kind_text}
+use Rattle.bg_listing.specs.Limits.{greatest, greatest_int, IsPlace, IsName, IsLink, IsInner, IsInt, IsValue, IsLabel}
+use Rattle.bg_listing.specs.Combinators.{◌>>=◌, mapped, after, or_else, chain}
 use Rattle.bg_listing.specs.Reading.{not_there, number_at, place_at, word_at, port_at, name_at, link_at, inner_at, negative_at, quoted_at, value_at, args_at, args_or_none, optional_args_at, label_at, kind_at, control_at}
-use Rattle.bg_listing.proofs.Combinators.{Holds, found, refused, Reads, Anything, IsAfter, after_sound, after_again, holds_if, holds_bind, as_reads, mapped_reads, next_reads, behind_reads, ended_reads, line_reads, only_if_reads, run_reads, both_read, chain_reads, chain_begins, viewed_reads, map_same, IsNoMore}
-use Rattle.bg_listing.proofs.Numbers.{stops, IsEnded, ended_word, ended_digits, own, digits_all, number_reads, word_reads, whole_word_reads}
+use Rattle.bg_listing.proofs.Combinators.{Holds, found, refused, Reads, Anything, IsAfter, after_sound, holds_if, as_reads, mapped_reads, behind_reads, ended_reads, only_if_reads, run_reads, both_read, chain_reads, chain_begins, viewed_reads, map_same, IsNoMore}
+use Rattle.bg_listing.proofs.Numbers.{IsEnded, ended_word, own, digits_all, number_reads, word_reads, whole_word_reads}
 
 -- what stands behind a byte that tells its kind
 tagged : {D C : Type 0} {t : D → List ℕ} {F : D → Type 0} (text : C → List ℕ) (Fits : C → Type 0) (make : D → C) (tag b : ℕ) (bytes : List ℕ) (r : Result (D × List ℕ) (Unit {0}))

@@ -1,11 +1,10 @@
 -- What the two passes answer.
-use Rattle.std.proofs.Common.{◌≡◌, ℕ, zero, suc, ◌+◌, ◌-◌, ◌<◌, ◌≤◌, Bool, true, false, cond, eqb, Option, Some, None, List, [], ◌∷◌, ◌++◌, length, map, drop, Result, Ok, Err, refl, sym, ap, subst, ◌∙◌, append_assoc, arith}
-use Rattle.std.specs.Prelude.{IfOk, IfSome, option_map, is_some, All}
+use Rattle.std.proofs.Common.{◌≡◌, ℕ, suc, ◌+◌, ◌<◌, ◌≤◌, Bool, true, false, cond, eqb, Option, Some, None, List, [], ◌∷◌, ◌++◌, length, map, drop, Result, Ok, Err, refl, sym, ap, subst, ◌∙◌, arith}
+use Rattle.std.specs.Prelude.{IfOk, IfSome, option_map, is_some}
 use Rattle.std.specs.List.{AllByRecursion}
-use Rattle.std.proofs.lemmas.List.{length-append, length-map, append-nil}
+use Rattle.std.proofs.lemmas.List.{length-append, length-map}
 use Rattle.bg_base.specs.declared.signature.Control.{Control}
 use Rattle.bg_base.specs.declared.big.Big.{Big}
-use Rattle.bg_base.specs.declared.big.NodeRow.{NodeRow}
 use Rattle.bg_base.specs.declared.check.Part.{Part}
 use Rattle.bg_base.specs.declared.check.Part.TheVariants.{Sites, Inner, Outer, Edges, Nodes}
 use Rattle.bg_base.specs.Signatures.{number_of, IsSignature}
@@ -19,7 +18,7 @@ use Rattle.bg_listing.specs.Spelling.{signature_text, big_text}
 use Rattle.bg_listing.specs.Limits.{most_controls, AreCounted, IsControl, IsReadableSignature, IsReadableBig}
 use Rattle.bg_listing.specs.Lines as lines
 use Rattle.bg_listing.specs.Lines.{signature_at, big_at}
-use Rattle.bg_listing.specs.Verdict.{IsAt, Stands, Refusal, judged, repeat_among, first_repeat, without_repeat, signature_verdict, rows_of, lines_before, without_fault, big_verdict, Tells, Answers, Reads}
+use Rattle.bg_listing.specs.Verdict.{Stands, Refusal, judged, repeat_among, first_repeat, without_repeat, signature_verdict, rows_of, lines_before, without_fault, big_verdict, Answers, Reads}
 use Rattle.bg_listing.proofs.Combinators.{done_is}
 use Rattle.bg_listing.proofs.Labels.{no_repeat, all_here}
 use Rattle.bg_listing.proofs.Values.{big_found, big_again, signature_found, signature_again, readable_signature}

@@ -1,5 +1,5 @@
 -- Each line takes a byte, and what stands behind a listing is the end of the input.
-use Rattle.std.proofs.Common.{◌≡◌, ℕ, zero, suc, ◌+◌, ◌-◌, ◌<◌, ◌≤◌, List, [], ◌∷◌, ◌++◌, length, map, take, drop, Result, Ok, Err, refl, sym, ap, subst, ◌∙◌, append_assoc, arith}
+use Rattle.std.proofs.Common.{◌≡◌, ℕ, ◌+◌, ◌-◌, ◌<◌, ◌≤◌, List, [], ◌∷◌, ◌++◌, length, take, drop, Result, Ok, Err, sym, ap, subst, ◌∙◌, append_assoc, arith}
 use Rattle.std.specs.Prelude.{IfOk, codes, ◌==◌}
 use Rattle.std.specs.List.{flat_map}
 use Rattle.std.specs.Fmt.{decimal}
@@ -14,13 +14,12 @@ use Rattle.bg_base.specs.declared.big.Big.{Big}
 use Rattle.bg_listing.specs.declared.fault.LineFault.{LineFault}
 use Rattle.bg_listing.specs.declared.cursor.Cursor.{Cursor}
 use Rattle.bg_listing.specs.Spelling.{label_text, kind_text, place_text, name_text, link_text, place_line, inner_line, name_line, edge_line, control_line, count_line, section_text, signature_text}
-use Rattle.bg_listing.specs.Limits.{most_controls, AreCounted, IsControl}
-use Rattle.bg_listing.specs.Lines.{Bad, NodeParts, row_of, Sections, signature_at, big_at}
+use Rattle.bg_listing.specs.Lines.{Bad, NodeParts, Sections, signature_at, big_at}
 use Rattle.bg_listing.specs.Answers.{GivesLines}
 use Rattle.bg_listing.specs.Verdict.{IsAt, rows_of, LeavesRoom, SignatureLeft}
-use Rattle.bg_listing.proofs.Combinators.{Holds, found, refused, Reads}
+use Rattle.bg_listing.proofs.Combinators.{Holds, found}
 use Rattle.bg_listing.proofs.Listings.{parts_line, parts_text, AreSections, seen_by, sections_read}
-use Rattle.bg_listing.proofs.Values.{IsSignatureText, signature_found}
+use Rattle.bg_listing.proofs.Values.{signature_found}
 
 longer : {A : Type 0} (text : A → List ℕ) → ((x : A) → 0 < length (text x)) → (xs : List A) → length xs ≤ length (flat_map text xs)
 longer text some [] = omega arith

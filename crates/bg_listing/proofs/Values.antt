@@ -1,19 +1,18 @@
 -- What is read of the text of a value is that value, and what was read is spelled so.
-use Rattle.std.proofs.Common.{◌≡◌, ℕ, zero, suc, ◌+◌, ◌<◌, ◌≤◌, List, [], ◌∷◌, ◌++◌, length, map, Result, Ok, Err, All, refl, sym, ap, subst, ◌∙◌, append_assoc, arith}
+use Rattle.std.proofs.Common.{◌≡◌, ℕ, ◌<◌, ◌≤◌, List, [], ◌∷◌, ◌++◌, length, map, Ok, All, refl, sym, ap, subst, ◌∙◌}
 use Rattle.std.specs.Prelude.{codes}
-use Rattle.std.specs.List.{flat_map, AllByRecursion, IsDistinct}
+use Rattle.std.specs.List.{AllByRecursion, IsDistinct}
 use Rattle.std.proofs.lemmas.List.{length-map}
 use Rattle.std.proofs.lemmas.List.Folds.{flat_map-map}
-use Rattle.std.proofs.lemmas.List.Elements.{recursion_from_All, All-from_recursion}
-use Rattle.bg_base.specs.declared.labels.Label.{Label}
+use Rattle.std.proofs.lemmas.List.Elements.{recursion_from_All}
 use Rattle.bg_base.specs.declared.signature.Control.{Control}
 use Rattle.bg_base.specs.declared.big.NodeRow.{NodeRow}
 use Rattle.bg_base.specs.declared.big.Big.{Big}
 use Rattle.bg_base.specs.Signatures.{same_label, IsSignature}
-use Rattle.bg_listing.specs.Spelling.{label_of, place_line, inner_line, name_line, edge_line, count_line, section_text, node_line, signature_text, big_text}
-use Rattle.bg_listing.specs.Limits.{most_rows, most_controls, IsLabel, IsControl, IsNode, AreCounted, IsReadableSignature, IsSpelledBig}
+use Rattle.bg_listing.specs.Spelling.{label_of, place_line, inner_line, name_line, edge_line, count_line, section_text, signature_text, big_text}
+use Rattle.bg_listing.specs.Limits.{most_controls, IsLabel, IsControl, IsNode, AreCounted, IsReadableSignature, IsSpelledBig}
 use Rattle.bg_listing.specs.Lines.{Bad, control_of, NodeParts, row_of, Sections, big_of, signature_at, big_at}
-use Rattle.bg_listing.proofs.Combinators.{Holds, found, refused, Reads, Anything}
+use Rattle.bg_listing.proofs.Combinators.{Holds, found}
 use Rattle.bg_listing.proofs.Listings.{parts_line, AreParts, parts_text, AreSections, seen_by, controls_read, sections_read}
 use Rattle.bg_listing.proofs.Labels.{label_back, control_own}
 

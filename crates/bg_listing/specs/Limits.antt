@@ -1,5 +1,5 @@
 -- What has a spelling that a reader of listings takes.
-use Rattle.std.specs.Prelude.{◌≡◌, ℕ, ◌<◌, ◌≤◌, ◌^◌, ℤ, pos, negsuc, Bool, true, false, not, ◌&&◌, ◌==◌, List, [], ◌∷◌, length, IsTrue}
+use Rattle.std.specs.Prelude.{ℕ, ◌≤◌, ℤ, pos, negsuc, Bool, false, List, [], ◌∷◌, length, IsTrue}
 use Rattle.std.specs.List.{list_all, AllByRecursion}
 use Rattle.bg_base.specs.Spelling.{is_word_byte, is_text_byte, is_lower_case, is_upper_case}
 use Rattle.bg_base.specs.declared.names.Name.{Name}

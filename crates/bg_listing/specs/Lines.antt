@@ -1,5 +1,5 @@
 -- The reading functions of lines and of listings. They refuse with a code and the bytes left at the bad line.
-use Rattle.std.specs.Prelude.{ℕ, nat_le, Bool, List, Result, Ok, Err, length, codes, unwrap_or}
+use Rattle.std.specs.Prelude.{ℕ, nat_le, List, Result, Ok, Err, length, codes, unwrap_or}
 use Rattle.bg_base.specs.declared.names.Name.{Name}
 use Rattle.bg_base.specs.declared.names.Place.{Place}
 use Rattle.bg_base.specs.declared.names.Link.{Link}

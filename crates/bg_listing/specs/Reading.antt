@@ -1,5 +1,5 @@
 -- The reading function of each part of a line.
-use Rattle.std.specs.Prelude.{ℕ, ◌-◌, ℤ, pos, negsuc, Bool, not, ◌&&◌, ◌||◌, nat_lt, nat_le, ◌==◌, if◌then◌else◌, List, [], ◌∷◌, Result, Ok, Err, length, slice_index, codes}
+use Rattle.std.specs.Prelude.{ℕ, ◌-◌, pos, negsuc, Bool, not, ◌&&◌, ◌||◌, nat_lt, nat_le, ◌==◌, if◌then◌else◌, List, [], ◌∷◌, Result, Ok, Err, length, slice_index, codes}
 use Rattle.std.specs.Char.{is_ascii_digit}
 use Rattle.std.specs.Str.Parse.{digits_value}
 use Rattle.bg_base.specs.Spelling.{is_word_byte, is_text_byte, is_lower_case, is_upper_case}
@@ -17,7 +17,7 @@ use Rattle.bg_base.specs.declared.signature.Kind.TheVariants.{Normal, Atomic}
 use Rattle.bg_base.specs.declared.signature.Control.{Control}
 use Rattle.bg_base.specs.declared.big.InnerRow.{InnerRow}
 use Rattle.bg_listing.specs.Combinators.{◌>>=◌, mapped, after, behind, ended, only_if, run, or_else, both, chain}
-use Rattle.bg_listing.specs.Spelling.{space, line_feed, comma, closing_bracket}
+use Rattle.bg_listing.specs.Spelling.{comma, closing_bracket}
 use Rattle.bg_listing.specs.Limits.{greatest, greatest_int, begins}
 
 -- the refusal of a part of a line

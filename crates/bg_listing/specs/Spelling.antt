@@ -1,6 +1,6 @@
 -- The one spelling of each kind of thing in a listing. `decimal` and `signed_decimal` write a number in decimal
 -- digits without leading zeros, the second with `-` in front of a negative one.
-use Rattle.std.specs.Prelude.{ℕ, ℤ, List, [], ◌∷◌, ◌++◌, length, codes, slice_get, option_map, unwrap_or}
+use Rattle.std.specs.Prelude.{ℕ, List, [], ◌∷◌, ◌++◌, length, codes, slice_get, option_map, unwrap_or}
 use Rattle.std.specs.List.{flat_map}
 use Rattle.std.specs.Fmt.{decimal, signed_decimal}
 use Rattle.bg_base.specs.declared.names.Name.{Name}

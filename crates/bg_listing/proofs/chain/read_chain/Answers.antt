@@ -1,4 +1,4 @@
-use Rattle.std.proofs.Common.{◌≡◌, ◌++◌, ◌∷◌, [], length}
+use Rattle.std.proofs.Common.{length}
 use Rattle.std.proofs.lemmas.Result.{err_from_is_err_and}
 use Rattle.bg_listing.specs.Combinators.{chain}
 use Rattle.bg_listing.proofs.Loops.{chain_goes_on, chain_closes, chain_fails, chain_too_long}

@@ -1,4 +1,3 @@
-use Rattle.std.proofs.Common.{◌≡◌, ◌++◌, ◌∷◌, []}
 use Rattle.std.proofs.lemmas.Result.{err_from_is_err_and}
 use Rattle.bg_listing.specs.Combinators.{each}
 use Rattle.bg_listing.proofs.Loops.{rows_go_on, rows_fail, rows_done}

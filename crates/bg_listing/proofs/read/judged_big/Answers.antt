@@ -1,4 +1,4 @@
-use Rattle.std.proofs.Common.{◌≡◌, arith}
+use Rattle.std.proofs.Common.{arith}
 use Rattle.bg_listing.proofs.Passes.{line_of_fault}
 use Rattle.bg_listing.proofs.read.judged_big.Goals as goal
 

@@ -1,4 +1,4 @@
-use Rattle.std.proofs.Common.{◌≡◌, ◌++◌, ◌∷◌, ◌∙◌, refl, sym, ap, arith}
+use Rattle.std.proofs.Common.{◌++◌, ◌∙◌, refl, sym, ap, arith}
 use Rattle.std.specs.Vec.Iter.{into_iter_items}
 use Rattle.bg_listing.proofs.Passes.{control_fits}
 use Rattle.bg_listing.proofs.read.without_repeat.Goals as goal
