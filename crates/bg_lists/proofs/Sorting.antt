@@ -128,13 +128,6 @@ module _ {X : Type 0} {cmp : X → X → Ordering} (total : IsTotalOrder cmp) wh
       same_ascending (Less-not_back total) (sort (before cmp) xs) ys (Ascending-sort xs distinct) up
       (λ x m. into x (Mem-unsort (before cmp) xs m)) (λ x m. Mem-sort (before cmp) xs (back x m))
 
-  -- lists with the same members, which are apart in both, are one list in order
-  pub sort-members : (xs ys : List X) → IsDistinct (eq_by_cmp cmp) xs → IsDistinct (eq_by_cmp cmp) ys
-      → ((x : X) → Mem x xs → Mem x ys) → ((x : X) → Mem x ys → Mem x xs) → sort (before cmp) xs ≡ sort (before cmp) ys
-  sort-members xs ys distinct also into back =
-      sort-same xs (sort (before cmp) ys) distinct (Ascending-sort ys also)
-      (λ x m. Mem-sort (before cmp) ys (into x m)) (λ x m. back x (Mem-unsort (before cmp) ys m))
-
 -- members that are apart
 pub IsDistinct-from_Ascending : {X : Type 0} {cmp : X → X → Ordering} (xs : List X)
     → Ascending (λ a b. cmp a b ≡ Less) xs → IsDistinct (eq_by_cmp cmp) xs
