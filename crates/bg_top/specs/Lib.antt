@@ -1,6 +1,7 @@
 pub mod Answer
 pub mod Compose
 pub mod Ended
+pub mod Failure
 pub mod Refusal
 pub mod Right
 pub mod Words

@@ -1,27 +1,28 @@
 -- Which answers are right: one line for each command.
-use Rattle.std.specs.Prelude.{◌≡◌, ℕ, ◌≤◌, List, length, nat_lt, IfSome, Ok, IsOk, IsErr, MatchOption, MatchBool}
+use Rattle.std.specs.Prelude.{◌≡◌, ℕ, ◌≤◌, List, length, nat_lt, IfSome, Ok, Err, MatchOption, MatchBool}
 use Rattle.std.specs.Option.{IsSomeAnd}
 use Rattle.std.specs.declared.option.Option.{Option}
 use Rattle.bg_top.specs.Answer.{Answer, wrong_words, too_long}
-use Rattle.bg_top.specs.Compose.{composed, compose_answer}
+use Rattle.bg_top.specs.Compose.{IsOutcome, IsComposeAnswer}
+use Rattle.bg_top.specs.declared.refusal.Refusal.{Refusal}
 use Rattle.bg_top.specs.declared.command.Command.{Command}
 use Rattle.bg_top.specs.declared.command.Command.TheVariants.{Compose}
 
 -- a right answer of the command to the input
 abbrev pub IsReply : Command → List ℕ → Answer → Type 0
-IsReply Compose input answer = answer ≡ compose_answer input
+IsReply Compose input answer = IsComposeAnswer input answer
 
 -- the command refuses the input
 abbrev pub IsRefused : Command → List ℕ → Type 0
-IsRefused Compose input = IsErr (composed input)
+IsRefused Compose input = (refusal : Refusal) × IsOutcome input (Err refusal)
 
 -- the text that the command makes of the input
 abbrev pub IsTextOf : Command → List ℕ → List ℕ → Type 0
-IsTextOf Compose input text = composed input ≡ Ok text
+IsTextOf Compose input text = IsOutcome input (Ok text)
 
 -- the command takes the input
 abbrev pub IsTaken : Command → List ℕ → Type 0
-IsTaken Compose input = IsOk (composed input)
+IsTaken Compose input = (text : List ℕ) × IsOutcome input (Ok text)
 
 -- the input is what was left, where that is told
 abbrev pub IsLeft : Option (List ℕ) → List ℕ → Type 0

@@ -3,6 +3,8 @@
 
 mod command;
 mod composition;
+mod failure;
+mod operands;
 mod refusal;
 mod reply;
 #[cfg(test)]

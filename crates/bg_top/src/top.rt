@@ -40,6 +40,7 @@ pub const NO_MEMORY: u8 = 5;
 /// | 8 | `too long` | exactly where the source gave `MOST + 1` bytes |
 ///
 /// 3, 4 and 5 come before the others: "exactly where" is said of the calls that end with none of them.
+#[tactic(auto, using(crate::proofs::Outcomes::not_refused))]
 pub fn engine<S: Source, K: Sink>(
     alloc: Global,
     words: &[String],
@@ -96,6 +97,7 @@ fn run<S: Source, K: Sink>(alloc: Global, words: &[String], source: &mut S, sink
 
 /// Makes the answer of a command to its input, and writes it.
 fn answer<K: Sink>(alloc: Global, command: Command, input: &[u8], sink: &mut K) -> u8
+    requires { length input.now ≤ MOST }
     ensures { Ended (IsReply command input.now) result
         ⊥ (Rose (K.faults sink.old) (K.faults sink.new)) (K.held sink.old) (K.held sink.new) }
 {
@@ -107,6 +109,7 @@ fn answer<K: Sink>(alloc: Global, command: Command, input: &[u8], sink: &mut K) 
 
 /// The answer of a command to its input.
 fn reply_to(alloc: Global, command: Command, input: &[u8]) -> Result<Reply, AllocError>
+    requires { length input.now ≤ MOST }
     ensures { IfOk result (λ reply. IsReply command input.now (answer_of reply)) }
 {
     match command {

@@ -1,0 +1,51 @@
+//! Why a command gives no text.
+ghost use Rattle.std.specs.Prelude.{◌≡◌};
+
+use crate::refusal::Refusal;
+use bg_algebra::AlgebraFault;
+use bg_listing::ListingFault;
+use bg_lists::OutOfMemory;
+
+/// Why a command gives no text: its input is refused, or there was no memory.
+#[derive(Clone, Copy, Debug, PartialEq, Eq)]
+pub(crate) enum Failure {
+    Refused(Refusal),
+    OutOfMemory,
+}
+
+impl From<ListingFault> for Failure {
+    ghost use Rattle.bg_top.specs.Failure.{of_listing};
+
+    ghost from_gives = { λ fault failure. failure ≡ of_listing fault };
+
+    fn from(fault: ListingFault) -> Failure {
+        match fault {
+            ListingFault::Bad { code, line } => Failure::Refused(Refusal::Listing { code, line }),
+            ListingFault::OutOfMemory => Failure::OutOfMemory,
+        }
+    }
+}
+
+impl From<AlgebraFault> for Failure {
+    ghost use Rattle.bg_top.specs.Failure.{of_algebra};
+
+    ghost from_gives = { λ fault failure. failure ≡ of_algebra fault };
+
+    fn from(fault: AlgebraFault) -> Failure {
+        match fault {
+            AlgebraFault::FacesDiffer => Failure::Refused(Refusal::FacesDiffer),
+            AlgebraFault::SupportMeets => Failure::Refused(Refusal::SupportMeets),
+            AlgebraFault::OutOfMemory => Failure::OutOfMemory,
+        }
+    }
+}
+
+impl From<OutOfMemory> for Failure {
+    ghost use Rattle.bg_top.specs.declared.failure.Failure.TheVariants.{OutOfMemory};
+
+    ghost from_gives = { λ _ failure. failure ≡ OutOfMemory };
+
+    fn from(_: OutOfMemory) -> Failure {
+        Failure::OutOfMemory
+    }
+}
