@@ -54,7 +54,8 @@ signature_is_found bytes at (Ok x) a kept =
     (readable_signature x.0 text.counted kept, record { text_there = text.there; behind = a.1 })
 signature_is_found bytes at (Err f) a kept = tt
 
-signature_verdict_is : (bytes : List ℕ) (at : Cursor) (controls : List Control) (rest : List ℕ) → IsReadableSignature controls → drop at.offset bytes ≡ signature_text controls ++ rest → signature_verdict bytes at ≡ Ok (controls, rest)
+-- a listing of a signature that stands there is the verdict
+pub signature_verdict_is : (bytes : List ℕ) (at : Cursor) (controls : List Control) (rest : List ℕ) → IsReadableSignature controls → drop at.offset bytes ≡ signature_text controls ++ rest → signature_verdict bytes at ≡ Ok (controls, rest)
 unfolding signature_verdict
 signature_verdict_is bytes at controls rest f e =
     let here : signature_at (drop at.offset bytes) ≡ Ok (controls, rest) = ap signature_at e ∙ signature_again controls rest f in
@@ -119,7 +120,8 @@ big_is_found signature bytes at (Ok x) a valid =
     (record { valid = valid; spelled = text.spelled }, record { text_there = text.there; behind = a.1 })
 big_is_found signature bytes at (Err f) a valid = tt
 
-big_verdict_is : (signature : List Control) → IsSignature signature → (bytes : List ℕ) (at : Cursor) (big : Big) (rest : List ℕ) → IsReadableBig signature big → drop at.offset bytes ≡ big_text signature big ++ rest
+-- a listing of a bigraph that stands there is the verdict
+pub big_verdict_is : (signature : List Control) → IsSignature signature → (bytes : List ℕ) (at : Cursor) (big : Big) (rest : List ℕ) → IsReadableBig signature big → drop at.offset bytes ≡ big_text signature big ++ rest
     → big_verdict signature bytes at ≡ Ok (big, rest)
 unfolding big_verdict
 big_verdict_is signature kept bytes at big rest f e =
