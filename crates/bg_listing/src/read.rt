@@ -50,6 +50,7 @@ pub fn read_big(
     ensures only { (big : BigValue) (rest : List ℕ) → IsReadableBig signature.now big → drop at.offset bytes.now ≡ big_text signature.now big ++ rest → Reads bytes.now result big rest }
     ensures exact { Answers bytes.now result (big_verdict signature.now bytes.now at) }
 {
+    // What a signature keeps, labels that differ among it, is known from here on.
     prove!(signature.len() <= 4096);
     judged_big(alloc, bytes, at, signature)
 }
@@ -116,6 +117,7 @@ fn without_repeat(
             Err(SignatureFault::TooManyControls) => unreachable!(),
         }
     }
+    // What a signature keeps is known here.
     prove!(signature.len() <= 4096);
     Ok(signature)
 }
