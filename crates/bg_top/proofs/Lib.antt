@@ -1,3 +1,6 @@
+mod Ends
+mod Joined
+mod Law
 mod Reading
-mod Outcomes
 mod Right
+mod Verdicts

@@ -1,20 +1,40 @@
--- What `compose` answers to its input: a signature and two bigraphs under it, the upper one first.
-use Rattle.std.specs.Prelude.{◌≡◌, ℕ, ◌-◌, List, length, nat_lt, Ok, Err, if◌then◌else◌}
-use Rattle.std.specs.Result.{IsOkAnd}
+-- What `compose` answers to its input: the listings of a signature and of two bigraphs under it, the upper one first.
+use Rattle.std.specs.Prelude.{◌≡◌, ℕ, ◌-◌, not, List, [], ◌∷◌, ◌++◌, length, Ok, Err, if◌then◌else◌}
 use Rattle.std.specs.declared.result.Result.{Result}
 use Rattle.bg_base.specs.declared.signature.Control.{Control}
 use Rattle.bg_base.specs.declared.big.Big.{Big}
-use Rattle.bg_base.specs.Composition.{FacesAgree, SupportsApart, compose}
+use Rattle.bg_base.specs.Composition.{FacesAgree, SupportsApart, faces_agree, supports_apart, compose}
 use Rattle.bg_listing.specs.declared.cursor.Cursor.{Cursor}
 use Rattle.bg_listing.specs.Combinators.{◌>>=◌}
-use Rattle.bg_listing.specs.Spelling.{big_text}
+use Rattle.bg_listing.specs.Limits.{IsReadableSignature, IsReadableBig}
+use Rattle.bg_listing.specs.Spelling.{signature_text, big_text}
 use Rattle.bg_listing.specs.Verdict.{signature_verdict, big_verdict, line_of}
-use Rattle.bg_top.specs.declared.operands.Operands.{Operands}
 use Rattle.bg_top.specs.Answer.{Answer, line}
 use Rattle.bg_top.specs.Refusal.{refusal_text}
+use Rattle.bg_top.specs.declared.operands.Operands.{Operands}
 use Rattle.bg_top.specs.declared.reply.Status.TheVariants.{Done, Refused}
 use Rattle.bg_top.specs.declared.refusal.Refusal.{Refusal}
 use Rattle.bg_top.specs.declared.refusal.Refusal.TheVariants.{Listing, FacesDiffer, SupportMeets}
+
+-- ---- in the words of the field
+
+-- the input lists these operands
+pub record Lists (input : List ℕ) (operands : Operands) : Type 0 where
+  pub signature_readable : IsReadableSignature operands.signature
+  pub upper_readable : IsReadableBig operands.signature operands.upper
+  pub lower_readable : IsReadableBig operands.signature operands.lower
+  pub text : input ≡ signature_text operands.signature
+      ++ (big_text operands.signature operands.upper ++ big_text operands.signature operands.lower)
+
+-- the input lists G and F under a signature, and the output lists G after F
+pub record IsComposition (input output : List ℕ) : Type 0 where
+  pub operands : Operands
+  pub listed : Lists input operands
+  pub faces : FacesAgree operands.upper operands.lower
+  pub supports : SupportsApart operands.upper operands.lower
+  pub output_is : output ≡ big_text operands.signature (compose operands.upper operands.lower)
+
+-- ---- with the refusals
 
 -- the place where the input begins
 abbrev pub start : Cursor
@@ -24,33 +44,38 @@ start = record { offset = 0; line = 1 }
 abbrev pub cursor_before : List ℕ → List ℕ → Cursor
 cursor_before input rest = record { offset = length input - length rest; line = line_of input (length rest) }
 
--- the bigraph that is listed where this much is left, and what stands behind it; or a code and a line
-abbrev pub big_in : List Control → List ℕ → List ℕ → Result (Big × List ℕ) (ℕ × ℕ)
-big_in signature input rest = big_verdict signature input (cursor_before input rest)
+-- what is listed, or the refusal by a code and a line
+abbrev pub listed : {A : Type 0} → Result A (ℕ × ℕ) → Result A Refusal
+listed (Ok found) = Ok found
+listed (Err fault) = Err (Listing fault.0 fault.1)
 
--- nothing stands behind; else 8, and the line that does
-abbrev pub ended : {A : Type 0} → List ℕ → List ℕ → A → Result A (ℕ × ℕ)
-ended input rest found = if nat_lt 0 (length rest) then Err (8, line_of input (length rest)) else Ok found
+-- the bigraph that is listed where this much is left, and what stands behind it
+abbrev pub big_in : List Control → List ℕ → List ℕ → Result (Big × List ℕ) Refusal
+big_in signature input rest = listed (big_verdict signature input (cursor_before input rest))
 
--- the signature and the two bigraphs that the input lists; or a code and a line
-unfoldable pub operands : List ℕ → Result Operands (ℕ × ℕ)
+-- nothing stands behind; else the refusal of the line that does
+abbrev pub ended : {A : Type 0} → List ℕ → List ℕ → A → Result A Refusal
+ended input [] found = Ok found
+ended input (byte ∷ rest) found = Err (Listing 8 (line_of input (length (byte ∷ rest))))
+
+-- the signature and the two bigraphs that the input lists
+unfoldable pub operands : List ℕ → Result Operands Refusal
 operands input =
-    signature_verdict input start >>= λ s. big_in s.0 input s.1 >>= λ g. big_in s.0 input g.1 >>= λ f.
+    listed (signature_verdict input start) >>= λ s. big_in s.0 input s.1 >>= λ g. big_in s.0 input g.1 >>= λ f.
     ended input f.1 (record { signature = s.0; upper = g.0; lower = f.0 })
 
--- how `compose` ends on the input: with the listing of the composition, or a refusal
-unfoldable pub IsOutcome : List ℕ → Result (List ℕ) Refusal → Type 0
-IsOutcome input (Ok text) = IsOkAnd (operands input) (λ o.
-    FacesAgree o.upper o.lower × SupportsApart o.upper o.lower × (text ≡ big_text o.signature (compose o.upper o.lower)))
-IsOutcome input (Err FacesDiffer) = IsOkAnd (operands input) (λ o. ¬ FacesAgree o.upper o.lower)
-IsOutcome input (Err SupportMeets) = IsOkAnd (operands input) (λ o. FacesAgree o.upper o.lower × ¬ SupportsApart o.upper o.lower)
-IsOutcome input (Err (Listing code at)) = operands input ≡ Err (code, at)
+-- the composition of G and F
+abbrev pub joined : Big → Big → Result Big Refusal
+joined g f = if not (faces_agree g f) then Err FacesDiffer else (if not (supports_apart g f) then Err SupportMeets else Ok (compose g f))
+
+-- the listing of the composition of what the input lists
+unfoldable pub composed : List ℕ → Result (List ℕ) Refusal
+composed input = operands input >>= λ o. joined o.upper o.lower >>= λ whole. Ok (big_text o.signature whole)
 
 -- a text, or the line that refuses the input, as an answer
 abbrev pub told : Result (List ℕ) Refusal → Answer
 told (Ok text) = record { status = Done; text = text }
 told (Err refusal) = record { status = Refused; text = line (refusal_text refusal) }
 
--- the answer tells how `compose` ends on the input
-abbrev pub IsComposeAnswer : List ℕ → Answer → Type 0
-IsComposeAnswer input answer = (outcome : Result (List ℕ) Refusal) × IsOutcome input outcome × (answer ≡ told outcome)
+abbrev pub compose_answer : List ℕ → Answer
+compose_answer input = told (composed input)

@@ -1,13 +1,13 @@
--- Why a command gives no text.
-use Rattle.std.specs.Prelude.{ℕ, List, Err}
+-- Why a command gives no text, and how what it returns tells the outcome.
+use Rattle.std.specs.Prelude.{◌≡◌, ℕ, List, Result, Ok, Err}
 use Rattle.bg_listing.specs.declared.fault.ListingFault.{ListingFault}
 use Rattle.bg_listing.specs.declared.fault.ListingFault.TheVariants as listing
 use Rattle.bg_algebra.specs.declared.fault.AlgebraFault.{AlgebraFault}
 use Rattle.bg_algebra.specs.declared.fault.AlgebraFault.TheVariants as algebra
+use Rattle.bg_top.specs.declared.refusal.Refusal.{Refusal}
 use Rattle.bg_top.specs.declared.refusal.Refusal.TheVariants.{Listing, FacesDiffer, SupportMeets}
 use Rattle.bg_top.specs.declared.failure.Failure.{Failure}
 use Rattle.bg_top.specs.declared.failure.Failure.TheVariants.{Refused, OutOfMemory}
-use Rattle.bg_top.specs.Compose.{IsOutcome}
 
 abbrev pub of_listing : ListingFault → Failure
 of_listing (listing.Bad code line) = Refused (Listing code line)
@@ -18,7 +18,12 @@ of_algebra algebra.FacesDiffer = Refused FacesDiffer
 of_algebra algebra.SupportMeets = Refused SupportMeets
 of_algebra algebra.OutOfMemory = OutOfMemory
 
--- the failure is the outcome of `compose` on the input, or want of memory
-abbrev pub Tells : List ℕ → Failure → Type 0
-Tells input (Refused refusal) = IsOutcome input (Err refusal)
-Tells input OutOfMemory = Unit {0}
+-- the failure is the refusal, or want of memory
+abbrev pub Tells : {A : Type 0} → Failure → Result A Refusal → Type 0
+Tells (Refused refusal) outcome = outcome ≡ Err refusal
+Tells OutOfMemory outcome = Unit {0}
+
+-- the value as view shows it, or the refusal, or want of memory
+abbrev pub Gives : {A B : Type 0} → (A → B) → Result A Failure → Result B Refusal → Type 0
+Gives view (Ok made) outcome = outcome ≡ Ok (view made)
+Gives view (Err failure) outcome = Tells failure outcome

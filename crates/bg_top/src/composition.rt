@@ -1,22 +1,25 @@
 //! The command `compose`.
-ghost use Rattle.std.specs.Prelude.{◌≡◌, ◌-◌, ◌<◌, ◌^◌, length, Ok, Err, IfOk, MatchResult};
+ghost use Rattle.std.specs.Prelude.{◌≡◌, ◌-◌, ◌<◌, ◌^◌, List, length, Err, IfOk};
+ghost use Rattle.bg_base.specs.declared.signature.Control.{Control};
+ghost use Rattle.bg_base.specs.Bigraph.{IsValid, IsValidUnder};
 ghost use Rattle.bg_top.specs.Answer.{answer_of};
-ghost use Rattle.bg_top.specs.Compose.{IsOutcome, IsComposeAnswer, told};
-ghost use Rattle.bg_top.specs.Failure.{Tells};
+ghost use Rattle.bg_top.specs.Compose.{composed, compose_answer, joined, told};
+ghost use Rattle.bg_top.specs.Failure.{Gives};
 
 use crate::failure::Failure;
 use crate::operands::read_operands;
 use crate::refusal::Refusal;
 use crate::reply::{Reply, Status};
+use bg_base::Big;
 use bg_listing::write_big;
 use std::alloc::{AllocError, Global};
 
 /// The answer of `compose` to its input: the listing of the composition, or the line that refuses it.
 pub(crate) fn compose(alloc: Global, input: &[u8]) -> Result<Reply, AllocError>
     requires { length input.now < 2 ^ 32 - 1 }
-    ensures { IfOk result (λ reply. IsComposeAnswer input.now (answer_of reply)) }
+    ensures { IfOk result (λ reply. answer_of reply ≡ compose_answer input.now) }
 {
-    match composed(alloc, input) {
+    match composition(alloc, input) {
         Ok(text) => Ok(Reply {
             status: Status::Done,
             text,
@@ -27,16 +30,27 @@ pub(crate) fn compose(alloc: Global, input: &[u8]) -> Result<Reply, AllocError>
 }
 
 /// The listing of the composition.
-#[tactic(auto, unfolding(crate::specs::Compose::IsOutcome))]
-fn composed(alloc: Global, input: &[u8]) -> Result<Vec<u8>, Failure>
+#[tactic(auto, unfolding(crate::specs::Compose::composed))]
+fn composition(alloc: Global, input: &[u8]) -> Result<Vec<u8>, Failure>
     requires { length input.now < 2 ^ 32 - 1 }
-    ensures { MatchResult result (λ text. IsOutcome input.now (Ok text.items)) (Tells input.now) }
+    ensures { Gives (λ text. text.items) result (composed input.now) }
 {
     let operands = read_operands(alloc, input)?;
-    let whole = bg_algebra::compose(alloc, &operands.upper, &operands.lower)?;
+    let whole = join(alloc, &operands.upper, &operands.lower)?;
     let mut text = Vec::new(alloc);
     write_big(alloc, &operands.signature, &whole, &mut text)?;
     Ok(text)
+}
+
+/// The composition of G, the upper bigraph, and F, the lower one.
+fn join(alloc: Global, upper: &Big, lower: &Big) -> Result<Big, Failure>
+    requires upper_valid { IsValid upper.now }
+    requires lower_valid { IsValid lower.now }
+    ensures exact { Gives (λ whole. whole) result (joined upper.now lower.now) }
+    ensures fits { (signature : List Control) → IsValidUnder signature upper.now → IsValidUnder signature lower.now
+        → IfOk result (IsValidUnder signature) }
+{
+    Ok(bg_algebra::compose(alloc, upper, lower)?)
 }
 
 /// The answer to an input that is refused.

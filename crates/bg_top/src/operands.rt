@@ -1,10 +1,12 @@
 //! What `compose` reads.
 ghost use Rattle.std.specs.Prelude.{◌-◌, ◌<◌, ◌^◌, length, IfOk};
 ghost use Rattle.bg_base.specs.Bigraph.{IsValidUnder};
-ghost use Rattle.bg_listing.specs.Verdict.{Makes};
+ghost use Rattle.bg_top.specs.Failure.{Gives};
 
+use crate::failure::Failure;
+use crate::refusal::Refusal;
 use bg_base::{Big, Signature};
-use bg_listing::{Cursor, ListingFault, read_big, read_signature};
+use bg_listing::{Cursor, read_big, read_signature};
 use std::alloc::Global;
 
 /// The code by which a line behind the second bigraph is refused.
@@ -22,9 +24,9 @@ ghost use Rattle.bg_top.specs.Compose.{operands};
 
 /// Reads the signature, G and F, behind which nothing may stand.
 #[tactic(auto, unfolding(crate::specs::Compose::operands))]
-pub(crate) fn read_operands(alloc: Global, input: &[u8]) -> Result<Operands, ListingFault>
+pub(crate) fn read_operands(alloc: Global, input: &[u8]) -> Result<Operands, Failure>
     requires { length input.now < 2 ^ 32 - 1 }
-    ensures exact { Makes result (operands input.now) }
+    ensures exact { Gives (λ o. o) result (operands input.now) }
     ensures valid { IfOk result (λ o. IsValidUnder o.signature o.upper × IsValidUnder o.signature o.lower) }
 {
     let start = Cursor { offset: 0, line: 1 };
@@ -32,10 +34,11 @@ pub(crate) fn read_operands(alloc: Global, input: &[u8]) -> Result<Operands, Lis
     let (upper, behind_upper) = read_big(alloc, input, behind_signature, &signature)?;
     let (lower, end) = read_big(alloc, input, behind_upper, &signature)?;
     if (end.offset as usize) < input.len() {
-        return Err(ListingFault::Bad {
+        let refusal = Refusal::Listing {
             code: EXTRA,
             line: end.line,
-        });
+        };
+        return Err(Failure::Refused(refusal));
     }
     Ok(Operands {
         signature,

@@ -3,15 +3,34 @@ use bg_io::{MemorySink, MemorySource};
 use std::alloc::{AllocError, Global};
 use std::test::Fail;
 
-/// A signature with a normal and an atomic control, and a bigraph with a site in its node.
-const UPPER: &str = "signature 2\nA 0 normal\nB 0 atomic\n\
-bigraph 1\nsites 1\nn0\ninner 0\nouter 0\nedges 0\nnodes 1\n0 A r0\n";
+/// A signature with a normal and an atomic control, a bigraph with a site in its node, and one with a
+/// node.
+const INPUT: &str = "signature 2\nA 0 normal\nB 0 atomic\n\
+bigraph 1\nsites 1\nn0\ninner 0\nouter 0\nedges 0\nnodes 1\n0 A r0\n\
+bigraph 1\nsites 0\ninner 0\nouter 0\nedges 0\nnodes 1\n1 B r0\n";
 
-/// A bigraph with one node.
-const LOWER: &str = "bigraph 1\nsites 0\ninner 0\nouter 0\nedges 0\nnodes 1\n1 B r0\n";
-
-/// The listing of the one after the other.
+/// The listing of the one bigraph after the other.
 const COMPOSED: &str = "bigraph 1\nsites 0\ninner 0\nouter 0\nedges 0\nnodes 2\n0 A r0\n1 B n0\n";
+
+/// A line of the input, counted from 1, and what stands there in its place.
+type Edit = (u32, &'static str);
+
+/// The input, where some lines are replaced.
+fn edited(alloc: Global, edits: &[Edit]) -> Result<Vec<u8>, AllocError> {
+    let mut bytes = Vec::new(alloc);
+    let mut number = 0u32;
+    for line in INPUT.lines() {
+        number = number.saturating_add(1);
+        match edits.iter().find(|edit| edit.0 == number) {
+            Some(edit) => bytes.extend_from_slice(edit.1.as_bytes())?,
+            None => {
+                bytes.extend_from_slice(line.as_bytes())?;
+                bytes.push(b'\n')?;
+            }
+        }
+    }
+    Ok(bytes)
+}
 
 /// How a call ended: the status, and the bytes that the sink then held.
 #[derive(Drop)]
@@ -45,27 +64,22 @@ fn end_of(
     })
 }
 
-/// A source of the two texts, one after the other, that gives at most 8 bytes a read and fails at these.
-fn source_of(
-    alloc: Global,
-    upper: &str,
-    lower: &str,
-    failing_reads: &[u32],
-) -> Result<MemorySource, AllocError> {
-    let mut bytes = upper.as_bytes().to_vec(alloc)?;
-    bytes.extend_from_slice(lower.as_bytes())?;
+/// A source of the input that gives at most 8 bytes a read, and fails at these reads.
+fn source_of(alloc: Global, failing_reads: &[u32]) -> Result<MemorySource, AllocError> {
+    let bytes = INPUT.as_bytes().to_vec(alloc)?;
     Ok(MemorySource::new(bytes, 8, failing_reads.to_vec(alloc)?))
 }
 
-/// Calls `engine` for `compose` on the two texts, one after the other, where nothing fails.
-fn composed(alloc: Global, upper: &str, lower: &str) -> Result<End, AllocError> {
-    let source = source_of(alloc, upper, lower, &[])?;
+/// Calls `engine` for `compose` on these bytes, where nothing fails.
+fn composed(alloc: Global, bytes: Vec<u8>) -> Result<End, AllocError> {
+    let source = MemorySource::new(bytes, 4096, Vec::new(alloc));
     end_of(alloc, &["bigengine", "compose"], source, &[])
 }
 
 #[test]
 fn composes_a_node_into_a_site(rt: HostRuntime) -> Result<(), Fail> {
-    let end = composed(rt.alloc(), UPPER, LOWER)?;
+    let alloc = rt.alloc();
+    let end = composed(alloc, edited(alloc, &[])?)?;
     assert_eq!(rt; end.status, 0);
     assert_eq!(rt; end.written.as_slice(), COMPOSED.as_bytes());
     Ok(())
@@ -74,30 +88,25 @@ fn composes_a_node_into_a_site(rt: HostRuntime) -> Result<(), Fail> {
 #[test]
 fn what_cannot_be_composed_is_refused_with_its_line(rt: HostRuntime) -> Result<(), Fail> {
     let alloc = rt.alloc();
-    let refused = [
+    let refused: [(&[Edit], &str); 12] = [
+        (&[(2, "A 1 normal\n")], "refused 5 WrongPorts at 11\n"),
+        (&[(3, "A 0 atomic\n")], "refused 9 DuplicateLabel at 3\n"),
+        (&[(4, "bigraph 300000\n")], "refused 2 TooMany at 4\n"),
+        (&[(5, "sites 01\n")], "refused 1 BadLine at 5\n"),
+        (&[(6, "n3\n")], "refused 4 Unknown at 6\n"),
+        (&[(11, "0 B r0\n")], "refused 6 AtomicHasChild at 6\n"),
+        (&[(11, "0 A n0\n")], "refused 7 Cycle at 11\n"),
         (
-            "bigraph 1\nsites 0\ninner 0\nouter 1\nx\nedges 0\nnodes 1\n1 B r0\n",
-            "refused 11 FacesDiffer\n",
+            &[(6, "n1\n"), (10, "nodes 2\n"), (11, "1 A r0\n1 A r0\n")],
+            "refused 3 NotAscending at 12\n",
         ),
-        (
-            "bigraph 1\nsites 0\ninner 0\nouter 0\nedges 0\nnodes 1\n0 B r0\n",
-            "refused 12 SupportMeets\n",
-        ),
-        (
-            "bigraph 1\nsites 0\ninner 0\nouter 0\nedges 0\nnodes 1\n",
-            "refused 1 BadLine at 18\n",
-        ),
-        (
-            "bigraph 1\nsites 0\ninner 0\nouter 0\nedges 0\nnodes 1\n1 B n1\n",
-            "refused 6 AtomicHasChild at 18\n",
-        ),
-        (
-            "bigraph 1\nsites 0\ninner 0\nouter 0\nedges 0\nnodes 1\n1 B r0\n\n",
-            "refused 8 Extra at 19\n",
-        ),
+        (&[(18, "1 B r0\nx\n")], "refused 8 Extra at 19\n"),
+        (&[(15, "outer 1\nx\n")], "refused 11 FacesDiffer\n"),
+        (&[(18, "0 B r0\n")], "refused 12 SupportMeets\n"),
+        (&[(18, "")], "refused 1 BadLine at 18\n"),
     ];
-    for (lower, line) in refused {
-        let end = composed(alloc, UPPER, lower)?;
+    for (edits, line) in refused {
+        let end = composed(alloc, edited(alloc, edits)?)?;
         assert_eq!(rt; end.status, 1);
         assert_eq!(rt; end.written.as_slice(), line.as_bytes());
     }
@@ -115,7 +124,7 @@ fn other_words_are_refused_and_nothing_is_read(rt: HostRuntime) -> Result<(), Fa
         &["bigengine", "compose "],
     ];
     for texts in refused {
-        let source = source_of(alloc, UPPER, LOWER, &[1])?;
+        let source = source_of(alloc, &[1])?;
         let end = end_of(alloc, texts, source, &[])?;
         assert_eq!(rt; end.status, 2);
         assert_eq!(rt; end.written.as_slice(), b"words\n".as_slice());
@@ -126,9 +135,7 @@ fn other_words_are_refused_and_nothing_is_read(rt: HostRuntime) -> Result<(), Fa
 #[test]
 fn an_input_of_a_byte_too_many_is_too_long(rt: HostRuntime) -> Result<(), Fail> {
     let alloc = rt.alloc();
-    let bytes = vec![in alloc; b' '; 8_388_609]?;
-    let source = MemorySource::new(bytes, 4096, Vec::new(alloc));
-    let end = end_of(alloc, &["bigengine", "compose"], source, &[])?;
+    let end = composed(alloc, vec![in alloc; b' '; 8_388_609]?)?;
     assert_eq!(rt; end.status, 8);
     assert_eq!(rt; end.written.as_slice(), b"too long\n".as_slice());
     Ok(())
@@ -151,7 +158,7 @@ fn an_input_of_the_most_bytes_is_judged(rt: HostRuntime) -> Result<(), Fail> {
 #[test]
 fn a_read_that_fails_leaves_nothing_written(rt: HostRuntime) -> Result<(), Fail> {
     let alloc = rt.alloc();
-    let source = source_of(alloc, UPPER, LOWER, &[2])?;
+    let source = source_of(alloc, &[2])?;
     let end = end_of(alloc, &["bigengine", "compose"], source, &[])?;
     assert_eq!(rt; end.status, 3);
     assert!(rt; end.written.is_empty());
@@ -161,7 +168,7 @@ fn a_read_that_fails_leaves_nothing_written(rt: HostRuntime) -> Result<(), Fail>
 #[test]
 fn a_write_that_fails_leaves_the_start_of_the_text(rt: HostRuntime) -> Result<(), Fail> {
     let alloc = rt.alloc();
-    let source = source_of(alloc, UPPER, LOWER, &[])?;
+    let source = source_of(alloc, &[])?;
     let end = end_of(alloc, &["bigengine", "compose"], source, &[4])?;
     assert_eq!(rt; end.status, 4);
     assert_eq!(rt; end.written.as_slice(), b"big".as_slice());

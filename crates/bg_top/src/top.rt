@@ -3,8 +3,8 @@ ghost use Rattle.std.specs.Option.{IsSomeAnd};
 ghost use Rattle.bg_io.specs.Faults.{Rose};
 ghost use Rattle.bg_top.specs.Words.{asked};
 ghost use Rattle.bg_top.specs.Answer.{number, answer_of};
-ghost use Rattle.bg_top.specs.Right.{IsReply, IsRight, IsTextOf, IsRefused, IsAccepted};
-ghost use Rattle.bg_top.specs.Ended.{Ended, Writes, ComesWhere};
+ghost use Rattle.bg_top.specs.Right.{IsReply, IsRight, Answers, IsRefused, IsAccepted};
+ghost use Rattle.bg_top.specs.Ended.{Ended, ComesWhere};
 
 use crate::command::{Command, command_of};
 use crate::composition::compose;
@@ -40,7 +40,6 @@ pub const NO_MEMORY: u8 = 5;
 /// | 8 | `too long` | exactly where the source gave `MOST + 1` bytes |
 ///
 /// 3, 4 and 5 come before the others: "exactly where" is said of the calls that end with none of them.
-#[tactic(auto, using(crate::proofs::Outcomes::not_refused))]
 pub fn engine<S: Source, K: Sink>(
     alloc: Global,
     words: &[String],
@@ -66,8 +65,8 @@ pub fn engine<S: Source, K: Sink>(
         ComesWhere result Status.Refused (IsSomeAnd (asked words.now) (λ command. (length input ≤ MOST) × IsRefused command input))) }
 
     // an input that is accepted is answered, and the text that the command makes of it is written
-    ensures written { IfSome (S.left source.old) (λ input. result ≡ number Status.Done →
-        IsSomeAnd (asked words.now) (λ command. Writes (IsTextOf command input) (K.held sink.old) (K.held sink.new))) }
+    ensures written { result ≡ number Status.Done →
+        IsSomeAnd (asked words.now) (λ command. Answers command (S.left source.old) (K.held sink.old) (K.held sink.new)) }
     ensures complete { IsAccepted MOST (asked words.now) (S.left source.old)
         → ¬ Rose (S.faults source.old) (S.faults source.new) → ¬ Rose (K.faults sink.old) (K.faults sink.new)
         → (result ≡ number Status.Done) ⊎ (result ≡ NO_MEMORY) }

@@ -1,4 +1,4 @@
-use Rattle.bg_top.proofs.composition.composed.Goals as goal
+use Rattle.bg_top.proofs.composition.composition.Goals as goal
 
 pub write_big-requires : goal.write_big-requires
 write_big-requires c =
