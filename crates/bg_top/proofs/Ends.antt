@@ -4,11 +4,10 @@ use Rattle.std.specs.Prelude.{IfSome}
 use Rattle.std.specs.Option.{IsSomeAnd}
 use Rattle.std.proofs.lemmas.Bool.Decides.{nat_tests, eqb_tells, leb_tells}
 use Rattle.std.specs.declared.option.Option.{Option}
-use Rattle.std.specs.Io.KnownBytes.{Appends}
-use Rattle.bg_top.specs.Answer.{Answer, number, wrong_words, too_long}
+use Rattle.bg_top.specs.Answer.{Answer, number, too_long}
 use Rattle.bg_top.specs.Compose.{IsComposition, composed, told}
 use Rattle.bg_top.specs.Right.{IsReply, IsTextOf, IsTaken, IsRefused, IsRight, IsAccepted, Answers}
-use Rattle.bg_top.specs.Ended.{Ended, SomeAnswer, IsStopped, ComesWhere}
+use Rattle.bg_top.specs.Ended.{Ended, IsStopped, ComesWhere}
 use Rattle.bg_top.specs.declared.command.Command.{Command}
 use Rattle.bg_top.specs.declared.command.Command.TheVariants.{Compose}
 use Rattle.bg_top.specs.declared.refusal.Refusal.{Refusal}

@@ -1,5 +1,5 @@
 -- Why a command gives no text, and how what it returns tells the outcome.
-use Rattle.std.specs.Prelude.{◌≡◌, ℕ, List, Result, Ok, Err}
+use Rattle.std.specs.Prelude.{◌≡◌, Result, Ok, Err}
 use Rattle.bg_listing.specs.declared.fault.ListingFault.{ListingFault}
 use Rattle.bg_listing.specs.declared.fault.ListingFault.TheVariants as listing
 use Rattle.bg_algebra.specs.declared.fault.AlgebraFault.{AlgebraFault}

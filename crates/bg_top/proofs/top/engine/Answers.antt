@@ -1,4 +1,3 @@
-use Rattle.std.proofs.Common.{rules}
 use Rattle.bg_top.proofs.Ends.{written_from, refused_from, complete_from}
 use Rattle.bg_top.proofs.top.engine.Goals as goal
 
