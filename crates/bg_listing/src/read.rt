@@ -19,7 +19,7 @@ use std::alloc::Global;
 /// Reads the signature whose listing stands at the cursor, whatever follows, and the cursor behind it. Where none
 /// stands there, `Bad` tells the first line that is not of its form (code 1) or that has a number above its limit
 /// (code 2); where there is no such line, the first row whose label stood before (code 9).
-/// Linear in the bytes before the end of the listing, and quadratic in the number of controls.
+/// Linear in the bytes before the end of the listing, but for a look-up of each label among those before.
 pub fn read_signature(
     alloc: Global,
     bytes: &[u8],
@@ -37,7 +37,8 @@ pub fn read_signature(
 /// Reads the bigraph whose listing stands at the cursor, whatever follows, where it is valid under the signature, and
 /// the cursor behind it. Else `Bad` tells the first line that is not of its form (code 1) or that has a number above
 /// its limit (code 2); where there is no such line, the first row that breaks a rule of bigraphs, with the least code
-/// (3 to 7). Linear in the bytes before the end of the listing, but for the look-up of controls and the check.
+/// (3 to 7). Linear in the bytes before the end of the listing, but for a look-up of the label of each node and the
+/// check.
 pub fn read_big(
     alloc: Global,
     bytes: &[u8],
