@@ -1,0 +1,5 @@
+pub mod RunLaws
+pub mod Longest
+pub mod PieceLaws
+pub mod Cutting
+pub mod Unique

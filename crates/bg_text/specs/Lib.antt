@@ -1,0 +1,5 @@
+pub mod Places
+pub mod Spelling
+pub mod Tokens
+pub mod Pieces
+pub mod Answers
