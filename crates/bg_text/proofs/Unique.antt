@@ -1,12 +1,12 @@
 -- A text is cut in one way, and where it is refused in none.
-use Rattle.std.proofs.Common.{◌≡◌, ℕ, zero, suc, ◌+◌, ◌<◌, ◌≤◌, Bool, true, false, not, cond, eqb, List, [], ◌∷◌, Option, Some, None, length, get_or, take, drop, refl, sym, ap, subst, ◌∙◌, arith}
+use Rattle.std.proofs.Common.{◌≡◌, ℕ, zero, suc, ◌+◌, ◌<◌, ◌≤◌, Bool, true, false, cond, eqb, List, [], ◌∷◌, Option, Some, None, get_or, take, drop, refl, sym, ap, subst, ◌∙◌, arith}
 use Rattle.std.specs.List.{prefix_len}
 use Rattle.std.specs.Char.{is_ascii_digit}
 use Rattle.bg_text.specs.declared.token.TokenKind.{TokenKind}
 use Rattle.bg_text.specs.declared.token.TokenKind.TheVariants.{Text}
 use Rattle.bg_text.specs.declared.token.Token.{Token}
 use Rattle.bg_text.specs.Spelling.{is_text_byte, is_space, is_closed, only, number_kind, mark, kind_of}
-use Rattle.bg_text.specs.Tokens.{IsGap, space, comment, is_not_line_feed, is_inside, IsLongest, IsToken, number_fault, Refuses, bad_byte, bad_in_text, open_text, bad_number, Cuts, stop, gap, token, AreTokens, IsRefusal}
+use Rattle.bg_text.specs.Tokens.{IsGap, space, comment, is_inside, IsLongest, IsToken, number_fault, Refuses, bad_byte, bad_in_text, open_text, bad_number, Cuts, stop, gap, token, AreTokens, IsRefusal}
 use Rattle.bg_text.proofs.RunLaws.{IsClosed, closed_is, text_run_inside}
 use Rattle.bg_text.proofs.Longest.{text_at, digits_longest}
 use Rattle.bg_text.proofs.PieceLaws.{nothing_spelled}

@@ -1,4 +1,4 @@
-use Rattle.std.proofs.Common.{◌≡◌, ◌+◌, ◌≤◌, List, length, refl, arith}
+use Rattle.std.proofs.Common.{◌+◌, refl, arith}
 use Rattle.bg_text.specs.Tokens.{IsRefusal}
 use Rattle.bg_text.proofs.Cutting.{after_gap, after_token, whole_cut, refused_there}
 use Rattle.bg_text.proofs.Unique.{tokens_once, refused_has_none, refused_once}
