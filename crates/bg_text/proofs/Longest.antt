@@ -1,14 +1,14 @@
 -- The longest token by its first byte.
-use Rattle.std.proofs.Common.{◌≡◌, ℕ, zero, suc, ◌+◌, ◌<◌, ◌≤◌, Bool, true, false, not, ◌&&◌, ◌||◌, cond, eqb, leb, List, [], ◌∷◌, Option, Some, None, length, get_or, take, drop, refl, sym, ap, ◌∙◌, arith}
+use Rattle.std.proofs.Common.{◌≡◌, ℕ, zero, suc, ◌<◌, ◌≤◌, Bool, true, false, ◌&&◌, cond, eqb, List, [], ◌∷◌, Option, Some, None, length, get_or, take, refl, sym, ap, ◌∙◌, arith}
 use Rattle.std.specs.List.{prefix_len, list_all}
 use Rattle.std.specs.Char.{is_ascii_digit, is_ascii_lowercase, is_ascii_uppercase}
 use Rattle.std.proofs.lemmas.List.Sums.{prefix_len-le-length}
 use Rattle.bg_text.specs.declared.token.TokenKind.{TokenKind}
 use Rattle.bg_text.specs.declared.token.TokenKind.TheVariants.{Upper, Text, Arrow, BarBar}
-use Rattle.bg_text.specs.Spelling.{is_word_byte, is_text_byte, is_closed, is_space, lower_kind, number_kind, mark, symbol, only, kind_of}
-use Rattle.bg_text.specs.Tokens.{IsGap, space, comment, is_not_line_feed, is_inside, IsLongest}
+use Rattle.bg_text.specs.Spelling.{is_word_byte, is_text_byte, is_closed, lower_kind, number_kind, mark, symbol, only, kind_of}
+use Rattle.bg_text.specs.Tokens.{IsLongest}
 use Rattle.bg_text.specs.Pieces.{begins_otherwise, begins_arrow, begins_bars}
-use Rattle.bg_text.proofs.RunLaws.{run_passes, run_fails, IsClosed, closed_is, closes}
+use Rattle.bg_text.proofs.RunLaws.{run_passes, run_fails, closed_is, closes}
 
 -- a run is longest, where the bytes in front are a token exactly where they pass the test
 pub run_longest : (p : ℕ → Bool) (kind : List ℕ → TokenKind) (bytes : List ℕ) → 0 < prefix_len p bytes

@@ -1,14 +1,14 @@
 -- A text is cut in one way, and where it is refused in none.
-use Rattle.std.proofs.Common.{◌≡◌, ℕ, zero, suc, ◌+◌, ◌<◌, ◌≤◌, Bool, true, false, not, cond, eqb, List, [], ◌∷◌, Option, Some, None, length, get_or, take, drop, refl, sym, ap, subst, ◌∙◌, arith}
+use Rattle.std.proofs.Common.{◌≡◌, ℕ, zero, suc, ◌+◌, ◌<◌, ◌≤◌, Bool, true, false, cond, eqb, List, [], ◌∷◌, Option, Some, None, get_or, take, drop, refl, sym, ap, subst, ◌∙◌, arith}
 use Rattle.std.specs.List.{prefix_len}
 use Rattle.std.specs.Char.{is_ascii_digit}
 use Rattle.bg_text.specs.declared.token.TokenKind.{TokenKind}
 use Rattle.bg_text.specs.declared.token.TokenKind.TheVariants.{Text}
 use Rattle.bg_text.specs.declared.token.Token.{Token}
-use Rattle.bg_text.specs.Spelling.{is_text_byte, is_space, is_closed, only, mark, kind_of}
-use Rattle.bg_text.specs.Tokens.{IsGap, space, comment, is_not_line_feed, is_inside, IsLongest, IsToken, number_fault, Refuses, bad_byte, bad_in_text, open_text, bad_number, Cuts, stop, gap, token, AreTokens, IsRefusal}
+use Rattle.bg_text.specs.Spelling.{is_text_byte, is_space, is_closed, only, number_kind, mark, kind_of}
+use Rattle.bg_text.specs.Tokens.{IsGap, space, comment, is_inside, IsLongest, IsToken, number_fault, Refuses, bad_byte, bad_in_text, open_text, bad_number, Cuts, stop, gap, token, AreTokens, IsRefusal}
 use Rattle.bg_text.proofs.RunLaws.{IsClosed, closed_is, text_run_inside}
-use Rattle.bg_text.proofs.Longest.{text_at}
+use Rattle.bg_text.proofs.Longest.{text_at, digits_longest}
 use Rattle.bg_text.proofs.PieceLaws.{nothing_spelled}
 
 -- ---- a gap or a token, one of each
@@ -238,3 +238,65 @@ pub refused_has_none : (bytes : List ℕ) (code offset : ℕ) → IsRefusal byte
 refused_has_none bytes code offset r ts a =
     let same = same_cuts r.cut (refused_nothing r.left code r.apart r.refused) a at_end in
     refuses_something code r.apart (subst (λ y. Refuses y code r.apart) same.left_is r.refused)
+
+-- ---- one refusal
+
+quote_begins : (b : ℕ) → b ≡ 34 → ((word : List ℕ) → kind_of (b ∷ word) ≡ None) → ⊥
+quote_begins b e h = clash (b ∷ 34 ∷ []) Text (h (34 ∷ [])) (text_at b (34 ∷ []) e 1)
+
+spells_none : (b : ℕ) (bytes : List ℕ) (size : ℕ) (kind : TokenKind) → ((word : List ℕ) → kind_of (b ∷ word) ≡ None) → 0 < size → kind_of (take size (b ∷ bytes)) ≡ Some kind → ⊥
+spells_none b bytes zero kind h l s = omega arith
+spells_none b bytes (suc size) kind h l s = clash (b ∷ take size bytes) kind (h (take size bytes)) s
+
+quote_digit : (b : ℕ) → b ≡ 34 → is_ascii_digit b ≡ true → ⊥
+quote_digit b e f = grind arith
+
+faulty : (b : ℕ) (bytes : List ℕ) (v : Bool) → is_ascii_digit b ≡ v → 0 < number_fault (b ∷ bytes) → is_ascii_digit b ≡ true
+unfolding number_fault
+faulty b bytes true e l = e
+faulty b bytes false e l = let h : number_fault (b ∷ bytes) ≡ 0 = rw e refl in absurd (omega arith)
+
+digit_begins : (b : ℕ) (bytes : List ℕ) (code : ℕ) → 0 < code → number_fault (b ∷ bytes) ≡ code → ((word : List ℕ) → kind_of (b ∷ word) ≡ None) → ⊥
+digit_begins b bytes code l e h =
+    let d : is_ascii_digit b ≡ true = faulty b bytes (is_ascii_digit b) refl (omega arith) in
+    let longest = digits_longest (b ∷ []) d in
+    let size = nothing_spelled (b ∷ []) (prefix_len is_ascii_digit (b ∷ [])) (number_kind (take (prefix_len is_ascii_digit (b ∷ [])) (b ∷ []))) longest.spelled in
+    spells_none b [] (prefix_len is_ascii_digit (b ∷ [])) (number_kind (take (prefix_len is_ascii_digit (b ∷ [])) (b ∷ []))) h size longest.spelled
+
+quote_no_fault : (b : ℕ) (bytes : List ℕ) (code : ℕ) → b ≡ 34 → 0 < code → number_fault (b ∷ bytes) ≡ code → ⊥
+quote_no_fault b bytes code e l f =
+    let d : is_ascii_digit b ≡ true = faulty b bytes (is_ascii_digit b) refl (omega arith) in quote_digit b e d
+
+record IsSameFault (code other apart away : ℕ) : Type 0 where
+  code_is : code ≡ other
+  apart_is : apart ≡ away
+
+one_refusal : (bytes : List ℕ) (code other apart away : ℕ) → Refuses bytes code apart → Refuses bytes other away → IsSameFault code other apart away
+one_refusal [] code other apart away r s = absurd (refuses_something code apart r)
+one_refusal (b ∷ bytes) code other apart away (bad_byte g t) (bad_byte h u) = record { code_is = refl; apart_is = refl }
+one_refusal (b ∷ bytes) code other apart away (bad_byte g t) (bad_in_text e q l) = absurd (quote_begins b e t)
+one_refusal (b ∷ bytes) code other apart away (bad_byte g t) (open_text e q) = absurd (quote_begins b e t)
+one_refusal (b ∷ bytes) code other apart away (bad_byte g t) (bad_number l f) = absurd (digit_begins b bytes other l f t)
+one_refusal (b ∷ bytes) code other apart away (bad_in_text e q l) (bad_byte h u) = absurd (quote_begins b e u)
+one_refusal (b ∷ bytes) code other apart away (bad_in_text e q l) (bad_in_text f r m) = record { code_is = refl; apart_is = refl }
+one_refusal (b ∷ bytes) code other apart away (bad_in_text e q l) (open_text f r) = absurd (r q)
+one_refusal (b ∷ bytes) code other apart away (bad_in_text e q l) (bad_number m f) = absurd (quote_no_fault b bytes other e m f)
+one_refusal (b ∷ bytes) code other apart away (open_text e q) (bad_byte h u) = absurd (quote_begins b e u)
+one_refusal (b ∷ bytes) code other apart away (open_text e q) (bad_in_text f r m) = absurd (q r)
+one_refusal (b ∷ bytes) code other apart away (open_text e q) (open_text f r) = record { code_is = refl; apart_is = refl }
+one_refusal (b ∷ bytes) code other apart away (open_text e q) (bad_number m f) = absurd (quote_no_fault b bytes other e m f)
+one_refusal (b ∷ bytes) code other apart away (bad_number l e) (bad_byte h u) = absurd (digit_begins b bytes code l e u)
+one_refusal (b ∷ bytes) code other apart away (bad_number l e) (bad_in_text f r m) = absurd (quote_no_fault b bytes code f l e)
+one_refusal (b ∷ bytes) code other apart away (bad_number l e) (open_text f r) = absurd (quote_no_fault b bytes code f l e)
+one_refusal (b ∷ bytes) code other apart away (bad_number l e) (bad_number m f) = record { code_is = sym e ∙ f; apart_is = refl }
+
+-- a text has at most one refusal
+pub refused_once : (bytes : List ℕ) (code offset other away : ℕ) → IsRefusal bytes code offset → IsRefusal bytes other away → (other ≡ code) × (away ≡ offset)
+refused_once bytes code offset other away r s =
+    let same = same_cuts r.cut (refused_nothing r.left code r.apart r.refused) s.cut (refused_nothing s.left other s.apart s.refused) in
+    let fault = one_refusal s.left code other r.apart s.apart (subst (λ y. Refuses y code r.apart) same.left_is r.refused) s.refused in
+    let place = same.place in
+    let apart = fault.apart_is in
+    let here = r.offset_is in
+    let there = s.offset_is in
+    (sym fault.code_is, omega arith)

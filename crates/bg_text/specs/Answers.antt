@@ -5,7 +5,13 @@ use Rattle.bg_text.specs.declared.fault.LexFault.{LexFault}
 use Rattle.bg_text.specs.declared.fault.LexFault.TheVariants.{Bad, OutOfMemory}
 use Rattle.bg_text.specs.Tokens.{AreTokens, IsRefusal}
 
--- the first refusal of the text, which then has no list of tokens; or want of memory
+-- the refusal of the text: no other code and offset is one, and the text has no list of tokens
+pub record IsOnlyRefusal (bytes : List ℕ) (code offset : ℕ) : Type 0 where
+  pub refusal : IsRefusal bytes code offset
+  pub once : (other away : ℕ) → IsRefusal bytes other away → (other ≡ code) × (away ≡ offset)
+  pub no_tokens : (tokens : List Token) → AreTokens bytes tokens → ⊥
+
+-- the refusal of the text, or want of memory
 abbrev pub IsLexFault : List ℕ → LexFault → Type 0
-IsLexFault bytes (Bad code offset) = IsRefusal bytes code offset × ((tokens : List Token) → AreTokens bytes tokens → ⊥)
+IsLexFault bytes (Bad code offset) = IsOnlyRefusal bytes code offset
 IsLexFault bytes OutOfMemory = Unit {0}

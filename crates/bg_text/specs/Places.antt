@@ -1,5 +1,5 @@
 -- The line and the column of an offset.
-use Rattle.std.specs.Prelude.{ℕ, suc, ◌+◌, Bool, not, ◌==◌, List, take, reverse, count_by}
+use Rattle.std.specs.Prelude.{ℕ, ◌+◌, not, ◌==◌, List, take, reverse, count_by}
 use Rattle.std.specs.List.{prefix_len}
 
 -- one more than there are line feeds before the offset

@@ -36,18 +36,18 @@ const REFUSED: [(&str, u8, u32); 13] = [
     ("# a\n\"", 22, 4),
 ];
 
+fn token((kind, start, end): (TokenKind, u32, u32)) -> Token {
+    Token { kind, start, end }
+}
+
 #[test]
 fn cuts_texts(rt: HostRuntime) -> Result<(), Fail> {
-    for (text, expected) in CUT {
+    for (text, [first, second, third]) in CUT {
         let found = tokens(rt.alloc(), text.as_bytes())
             .ok()
             .ok_or("the text has tokens")?;
-        assert_eq!(rt; found.len(), 3, "{text}");
-        for (token, (kind, start, end)) in found.iter().zip(expected.iter()) {
-            assert_eq!(rt; token.kind, *kind, "{text}");
-            assert_eq!(rt; token.start, *start, "{text}");
-            assert_eq!(rt; token.end, *end, "{text}");
-        }
+        let expected = [token(first), token(second), token(third)];
+        assert_eq!(rt; found.as_slice(), expected.as_slice(), "{text}");
     }
     let none = tokens(rt.alloc(), b"")
         .ok()

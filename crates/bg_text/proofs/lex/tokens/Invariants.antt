@@ -1,5 +1,4 @@
-use Rattle.std.proofs.Common.{◌≡◌, ℕ, ◌-◌, ◌≤◌, ◌++◌, List, length, drop}
-use Rattle.bg_text.specs.Tokens.{Cuts}
+use Rattle.std.proofs.Common.{◌-◌, ◌≤◌, length}
 use Rattle.bg_text.proofs.Cutting.{GoesOn}
 use Rattle.bg_text.proofs.lex.tokens.Given as goal
 
