@@ -1,0 +1,8 @@
+use Rattle.std.proofs.Common.{ap, ◌∙◌}
+use Rattle.bg_place.specs.Places.{child_sites_of}
+use Rattle.bg_place.proofs.GroupLaws.{same_numbers}
+use Rattle.bg_place.proofs.forest.Forest.child_sites.Goals as goal
+
+pub returns : goal.returns
+returns c =
+    c.members_of.ensures ∙ same_numbers c.args.place _ _ c.self.invariant.sites_are ∙ ap (λ places. child_sites_of places c.args.place) c.self.view_is
