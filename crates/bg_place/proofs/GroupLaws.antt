@@ -6,13 +6,18 @@ use Rattle.std.proofs.lemmas.Bool.{false_from_ne_true, cond-true, cond-false}
 use Rattle.std.proofs.lemmas.Bool.Decides.{nat_tests}
 use Rattle.std.proofs.lemmas.List.{take-append-drop, take-map, drop-map}
 use Rattle.std.proofs.lemmas.List.Elements.{filter-append, filter_agree}
+use Rattle.std.proofs.Common.{Less}
+use Rattle.std.specs.List.Sorted.{IsStrictlySortedBy}
+use Rattle.bg_lists.specs.Orders.{Ascending, asc_nil, asc_cons}
+use Rattle.bg_lists.proofs.Comparisons.{nat_cmp-lt}
+use Rattle.bg_lists.proofs.Ascents.{Ascending-map, Ascending-filter, Ascending-from_sorted, sorted_from_Ascending}
 use Rattle.bg_lists.specs.Lists.{Mem, here, there}
 use Rattle.bg_lists.proofs.Places.{At-from_Mem, At-below, get_or-At}
 use Rattle.bg_base.specs.declared.names.Place.{Place}
 use Rattle.bg_base.specs.declared.names.Place.TheVariants.{Node, Region}
 use Rattle.bg_place.specs.declared.graph.ParentRow.{ParentRow}
-use Rattle.bg_place.specs.Places.{same_place, number_of, numbers_in}
-use Rattle.bg_place.specs.Rows.{place_rank, row_rank, IsGroups, HasGroups}
+use Rattle.bg_place.specs.Places.{same_place, number_of, numbers_in, numbered}
+use Rattle.bg_place.specs.Rows.{parent_cmp, place_rank, row_rank, IsGroups, HasGroups}
 
 -- ---- places by their positions
 
@@ -150,3 +155,25 @@ searched place all rows others numbers parts wanted start count groups w e f g i
     (upper (subst (IsPartitionedBy (λ y. leb (row_rank y) wanted)) (sym whole) (IsPartitionedBy-leb row_rank (drop start others) wanted (IsNonDecreasingBy-drop row_rank start others also)))) in
     numbers_are place all parts start count (g ∙ groups.same) (subst (λ xs. start ≤ length xs) e inside)
     (subst (λ r. Lower r all) w (subst (Lower wanted) e low)) (subst (λ r. Upper r all) w (subst (Upper wanted) f high))
+
+-- ---- order
+
+-- numbers of rows that ascend
+pub numbers_ascend : (test : ParentRow → Bool) (rows : List ParentRow) → IsStrictlySortedBy parent_cmp rows
+    → IsStrictlySortedBy nat_cmp (map number_of (filter test rows))
+numbers_ascend test rows up =
+    sorted_from_Ascending {cmp = nat_cmp} (map number_of (filter test rows))
+    (Ascending-map number_of (filter test rows) (λ x y less. less) (Ascending-filter test rows (Ascending-from_sorted rows up)))
+
+later : (number : ℕ) (places : List Place) (row : ParentRow) → Mem row (numbered number places) → number ≤ row.node
+later number [] row m = elim m [ ]
+later number (place ∷ places) row (here e) = let same = ap number_of e in omega (arith, same)
+later number (place ∷ places) row (there m) = let more = later (number + 1) places row m in omega (arith, more)
+
+rises : (number : ℕ) (places : List Place) → Ascending (λ x y. parent_cmp x y ≡ Less) (numbered number places)
+rises number [] = asc_nil
+rises number (place ∷ places) =
+    asc_cons (λ y m. nat_cmp-lt number y.node (let more = later (number + 1) places y m in omega (arith, more))) (rises (number + 1) places)
+
+pub numbered_ascends : (number : ℕ) (places : List Place) → IsStrictlySortedBy parent_cmp (numbered number places)
+numbered_ascends number places = sorted_from_Ascending {cmp = parent_cmp} (numbered number places) (rises number places)

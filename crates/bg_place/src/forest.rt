@@ -1,6 +1,7 @@
 //! The place forest of a bigraph.
 ghost use Rattle.std.specs.Prelude.{◌≡◌, IsTrue, IfOk, Some};
 ghost use Rattle.std.specs.List.Sorted.{IsStrictlySortedBy};
+ghost use Rattle.std.specs.Ordering.{nat_cmp};
 ghost use Rattle.bg_base.specs.Bigraph.{IsValid};
 ghost use Rattle.bg_place.specs.Places as defined;
 ghost use Rattle.bg_place.specs.Rows.{parent_cmp};
@@ -71,7 +72,8 @@ impl Forest {
     /// The nodes that lie in the place, ascending; none where the place is not there. Takes no memory; logarithmic in
     /// the number of nodes.
     pub fn children(&self, place: Place) -> &[u32]
-        ensures { result.now ≡ defined.children_of self.now place }
+        ensures exact { result.now ≡ defined.children_of self.now place }
+        ensures ascending { IsStrictlySortedBy nat_cmp result.now }
     {
         self.children.members_of(place)
     }
@@ -79,7 +81,8 @@ impl Forest {
     /// The sites that lie in the place, ascending; none where the place is not there. Takes no memory; logarithmic in
     /// the number of sites.
     pub fn child_sites(&self, place: Place) -> &[u32]
-        ensures { result.now ≡ defined.child_sites_of self.now place }
+        ensures exact { result.now ≡ defined.child_sites_of self.now place }
+        ensures ascending { IsStrictlySortedBy nat_cmp result.now }
     {
         self.sites.members_of(place)
     }
@@ -108,8 +111,10 @@ impl Forest {
     /// the number of nodes for each node and each node that it lies in.
     pub fn subtree(&self, alloc: Global, node: u32) -> Mem<Vec<u32>>
         requires there { IsTrue (defined.has_node self.now node) }
-        ensures { IfOk result (λ nodes. nodes.items ≡ defined.subtree_of self.now node) }
+        ensures exact { IfOk result (λ nodes. nodes.items ≡ defined.subtree_of self.now node) }
+        ensures ascending { IfOk result (λ nodes. IsStrictlySortedBy nat_cmp nodes.items) }
     {
-        nodes_within(alloc, &self.places.parents, node)
+        let nodes = nodes_within(alloc, self.places.parents.as_slice(), node)?;
+        Ok(nodes)
     }
 }
