@@ -58,6 +58,16 @@ impl Forest {
         })
     }
 
+    /// Whether the node is there. Logarithmic in the number of nodes.
+    pub fn contains(&self, node: u32) -> bool
+        ensures { result ≡ defined.has_node self.now node }
+    {
+        match position(&self.places.parents, node) {
+            Some(_) => true,
+            None => false,
+        }
+    }
+
     /// Where the node lies. Logarithmic in the number of nodes.
     pub fn parent(&self, node: u32) -> Place
         requires there { IsTrue (defined.has_node self.now node) }
