@@ -1,0 +1,62 @@
+-- Ancestry in a valid bigraph: a climb of as many moves as there are nodes is whole, so the ancestors of a node in a node
+-- are that node and its ancestors.
+use Rattle.std.proofs.Common.{◌≡◌, ℕ, zero, suc, ◌≤◌, ◌==◌, Bool, true, false, cond, Option, Some, None, option_map, unwrap_or, List, [], ◌∷◌, map, refl, sym, ap, ◌∙◌, arith}
+use Rattle.std.proofs.lemmas.Bool.{false≢true}
+use Rattle.bg_base.specs.declared.names.Place.{Place}
+use Rattle.bg_base.specs.declared.names.Place.TheVariants.{Node, Region}
+use Rattle.bg_base.specs.declared.big.NodeRow.{NodeRow}
+use Rattle.bg_base.specs.Bigraph.{row_of as node_row, reaches}
+use Rattle.bg_place.specs.declared.graph.ParentRow.{ParentRow}
+use Rattle.bg_place.specs.Places.{parent_row, row_of, parent_in, climb}
+use Rattle.bg_place.proofs.ClimbLaws.{climb_region}
+
+-- a node has the parent row that its row makes
+found_in : (test : Bool) (row : NodeRow) (rest : Option NodeRow) (parents : Option ParentRow) → parents ≡ option_map parent_row rest
+    → cond test (Some (parent_row row)) parents ≡ option_map parent_row (cond test (Some row) rest)
+found_in true row rest parents e = refl
+found_in false row rest parents e = e
+
+pub find_parent_row : (rows : List NodeRow) (node : ℕ) → row_of (map parent_row rows) node ≡ option_map parent_row (node_row rows node)
+find_parent_row [] node = refl
+find_parent_row (row ∷ rows) node =
+    found_in (row.id == node) row (node_row rows node) (row_of (map parent_row rows) node) (find_parent_row rows node)
+
+pub find_parent : (rows : List NodeRow) (node : ℕ)
+    → parent_in (map parent_row rows) node ≡ option_map (λ (row : ParentRow). row.parent) (option_map parent_row (node_row rows node))
+find_parent rows node = ap (option_map (λ (row : ParentRow). row.parent)) (find_parent_row rows node)
+
+module _ (rows : List NodeRow) (regions : ℕ) where
+  -- past a place whose climb is whole, more moves meet no more nodes
+  onward : (moves more : ℕ) → ((place : Place) → reaches rows regions moves place ≡ true → climb (map parent_row rows) more place ≡ climb (map parent_row rows) moves place)
+      → (found : Option NodeRow) → unwrap_or (option_map (λ (row : NodeRow). reaches rows regions moves row.parent) found) false ≡ true
+      → unwrap_or (option_map (climb (map parent_row rows) more) (option_map (λ (row : ParentRow). row.parent) (option_map parent_row found))) []
+      ≡ unwrap_or (option_map (climb (map parent_row rows) moves) (option_map (λ (row : ParentRow). row.parent) (option_map parent_row found))) []
+  onward moves more each None e = refl
+  onward moves more each (Some row) e = each row.parent e
+
+  pub climb_enough : (moves more : ℕ) (place : Place) → reaches rows regions moves place ≡ true → moves ≤ more
+      → climb (map parent_row rows) more place ≡ climb (map parent_row rows) moves place
+  climb_enough zero more (Node node) e le = absurd (false≢true e)
+  climb_enough zero more (Region region) e le = climb_region (map parent_row rows) more region
+  climb_enough (suc moves) more (Region region) e le = climb_region (map parent_row rows) more region
+  climb_enough (suc moves) zero (Node node) e le = absurd (omega (arith, le))
+  climb_enough (suc moves) (suc more) (Node node) e le =
+      let Rest : ℕ → Option Place → List ℕ = λ m found. node ∷ unwrap_or (option_map (climb (map parent_row rows) m) found) [] in
+      ap (Rest more) (find_parent rows node)
+      ∙ ap (λ xs. node ∷ xs) (onward moves more (λ place r. climb_enough moves more place r (omega (arith, le))) (node_row rows node) e)
+      ∙ sym (ap (Rest moves) (find_parent rows node))
+
+  -- the ancestors of what lies in a node are that node and its ancestors
+  above_it : (moves : ℕ) (upper : ℕ) (found : Option NodeRow) → unwrap_or (option_map (λ (row : NodeRow). reaches rows regions moves row.parent) found) false ≡ true
+      → unwrap_or (option_map (climb (map parent_row rows) moves) (option_map (λ (row : ParentRow). row.parent) (option_map parent_row found))) []
+      ≡ unwrap_or (option_map (climb (map parent_row rows) (suc moves)) (option_map (λ (row : ParentRow). row.parent) (option_map parent_row found))) []
+  above_it moves upper found e =
+      sym (onward moves (suc moves) (λ place r. climb_enough moves (suc moves) place r (omega arith)) found e)
+
+  pub climb_from_node : (moves upper : ℕ) → reaches rows regions moves (Node upper) ≡ true
+      → climb (map parent_row rows) moves (Node upper) ≡ upper ∷ unwrap_or (option_map (climb (map parent_row rows) moves) (parent_in (map parent_row rows) upper)) []
+  climb_from_node zero upper e = absurd (false≢true e)
+  climb_from_node (suc moves) upper e =
+      let Rest : ℕ → Option Place → List ℕ = λ m found. upper ∷ unwrap_or (option_map (climb (map parent_row rows) m) found) [] in
+      ap (Rest moves) (find_parent rows upper) ∙ ap (λ xs. upper ∷ xs) (above_it moves upper (node_row rows upper) e)
+      ∙ sym (ap (Rest (suc moves)) (find_parent rows upper))

@@ -1,0 +1,4 @@
+pub mod RowLaws
+pub mod GroupLaws
+pub mod ClimbLaws
+pub mod AncestryLaws
