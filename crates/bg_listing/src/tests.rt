@@ -80,7 +80,7 @@ fn writes_what_it_reads(rt: HostRuntime) -> Result<(), Fail> {
 }
 
 /// Texts of a signature and a bigraph that are refused, with the code and the line.
-const REFUSED: [(&str, u8, u32); 26] = [
+const REFUSED: [(&str, u8, u32); 30] = [
     // The end of input counts as a line, and every line ends with a line feed.
     ("", 1, 1),
     ("signature 0", 1, 1),
@@ -90,11 +90,15 @@ const REFUSED: [(&str, u8, u32); 26] = [
     ("signature 00\nbigraph 0\n", 1, 1),
     ("signature 0\r\n", 1, 1),
     ("signature  0\n", 1, 1),
+    ("signature 0\0\n", 1, 1),
     ("signature 0\n\nbigraph 0\n", 1, 2),
     // A number that is too large for a listing is bad, one above its limit is too many.
     ("signature 4097\n", 2, 1),
     ("signature 2147483647\n", 2, 1),
     ("signature 2147483648\n", 1, 1),
+    ("signature 0\nbigraph 2147483647\n", 2, 2),
+    ("signature 0\nbigraph 2147483648\n", 1, 2),
+    ("signature 0\nbigraph 65536\nsites 65536\n", 1, 4),
     ("signature 1\nA 17 normal\n", 2, 2),
     ("signature 1\nA 17 odd\n", 1, 2),
     ("signature 1\nA() 0 normal\n", 1, 2),
