@@ -12,9 +12,8 @@ ghost use Rattle.bg_base.specs.Bigraph.{IsValid, IsValidUnder, node_cmp, inner_c
 ghost use Rattle.bg_base.specs.Composition.{FacesAgree, SupportsApart, inner_names, row_through, compose as composition};
 
 use crate::AlgebraFault;
-use crate::look_up::{find_node, has_edge};
 use crate::through::{inner_through, push_rows_through, sites_through};
-use bg_base::{Big, InnerRow, Name, NodeRow};
+use bg_base::{Big, InnerRow, Name, NodeRow, find_node, has_edge};
 use bg_lists::{Duplicate, Mem, Rows};
 use std::alloc::Global;
 

@@ -4,8 +4,7 @@ ghost use Rattle.std.specs.List.Sorted.{IsStrictlySortedBy};
 ghost use Rattle.bg_base.specs.Bigraph.{inner_cmp};
 ghost use Rattle.bg_base.specs.Composition as composition;
 
-use crate::find_inner;
-use bg_base::{Big, InnerRow, Link, Links, NodeRow, Place};
+use bg_base::{Big, InnerRow, Link, NodeRow, Place, PortLinks, find_inner};
 use bg_lists::{Duplicate, Mem, Rows};
 use smallvec::SmallVec;
 use std::alloc::Global;
@@ -35,13 +34,13 @@ pub fn link_through<'a>(g: &'a Big, link: &'a Link) -> &'a Link
 }
 
 /// The links of a node of the lower bigraph, in the composition.
-pub fn links_through(alloc: Global, g: &Big, links: &[Link]) -> Mem<Links>
+pub fn links_through(alloc: Global, g: &Big, links: &[Link]) -> Mem<PortLinks>
     requires ascending { IsStrictlySortedBy inner_cmp g.now.inner }
     requires small { length links.now < 2 ^ 32 - 1 }
     ensures { IfOk result (λ made. made ≡ map (composition.link_through g.now) links.now) }
 {
     let items = link_list_through(alloc, g, links)?;
-    Ok(Links::from_small_vec(items))
+    Ok(PortLinks::from_small_vec(items))
 }
 
 fn link_list_through(alloc: Global, g: &Big, links: &[Link]) -> Mem<SmallVec<Link, 4>>

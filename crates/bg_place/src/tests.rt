@@ -1,6 +1,6 @@
 //! A forest of two regions with nested nodes and sites.
 use crate::Forest;
-use bg_base::{Big, Ident, Kind, Label, Links, NodeRow, Place, Signature, SignatureFault};
+use bg_base::{Big, Ident, Kind, Label, NodeRow, Place, PortLinks, Signature, SignatureFault};
 use bg_lists::{OutOfMemory, Rows};
 use smallvec::SmallVec;
 use std::alloc::Global;
@@ -34,7 +34,7 @@ fn big(
             id: *id,
             control: 0,
             parent: *parent,
-            links: Links::from_small_vec(SmallVec::new(alloc)),
+            links: PortLinks::from_small_vec(SmallVec::new(alloc)),
         })?;
     }
     Ok(Big {

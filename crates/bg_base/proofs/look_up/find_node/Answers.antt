@@ -2,7 +2,7 @@ use Rattle.std.proofs.Common.{rules, Some, Ok, Err, ap, sym, ◌∙◌}
 use Rattle.std.proofs.lemmas.List.Sorted.{answers_always}
 use Rattle.bg_base.specs.declared.big.NodeRow.{NodeRow}
 use Rattle.bg_base.proofs.LookUps.{row_of-search}
-use Rattle.bg_algebra.proofs.look_up.find_node.Goals as goal
+use Rattle.bg_base.proofs.look_up.find_node.Goals as goal
 
 pub returns-in-Ok : goal.returns-in-Ok
 returns-in-Ok c =

@@ -2,9 +2,10 @@
 ghost use Rattle.std.specs.Prelude.{◌≡◌, is_some, option_copied};
 ghost use Rattle.std.specs.List.Sorted.{IsStrictlySortedBy};
 ghost use Rattle.std.specs.Ordering.{nat_cmp};
-ghost use Rattle.bg_base.specs.Bigraph.{node_cmp, inner_cmp, row_of, edge_of, inner_of};
+ghost use Rattle.bg_base.specs.Bigraph.{node_cmp, inner_cmp, row_of, edge_of, inner_of, outer_of};
+ghost use Rattle.bg_base.specs.Order.{name_cmp};
 
-use bg_base::{InnerRow, Name, NodeRow};
+use crate::{InnerRow, Name, NodeRow};
 
 /// The row of the node, in rows that ascend by number, or `None` where no row has that number.
 /// Takes no memory; logarithmic in the number of rows.
@@ -24,6 +25,15 @@ pub fn has_edge(edges: &[u32], edge: u32) -> bool
     ensures { result ≡ is_some (edge_of edges.now edge) }
 {
     edges.binary_search(&edge).is_ok()
+}
+
+/// Whether the outer name is there, in names that ascend. Takes no memory; logarithmic in the number of names, with one
+/// comparison of names at each step.
+pub fn has_outer(names: &[Name], name: &Name) -> bool
+    requires ascending { IsStrictlySortedBy name_cmp names.now }
+    ensures { result ≡ is_some (outer_of names.now name.now) }
+{
+    names.binary_search(name).is_ok()
 }
 
 /// The row of the inner name, in rows that ascend by name, or `None` where no row has that name.

@@ -1,6 +1,6 @@
 use Rattle.std.proofs.Common.{◌∙◌}
 use Rattle.bg_base.proofs.LookUps.{edge_of-search}
-use Rattle.bg_algebra.proofs.look_up.has_edge.Goals as goal
+use Rattle.bg_base.proofs.look_up.has_edge.Goals as goal
 
 pub returns : goal.returns
 returns c =

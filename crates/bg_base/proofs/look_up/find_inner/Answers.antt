@@ -3,7 +3,7 @@ use Rattle.std.proofs.lemmas.Fn.{always_returns_same}
 use Rattle.bg_base.specs.declared.big.InnerRow.{InnerRow}
 use Rattle.bg_base.specs.Order.{name_cmp}
 use Rattle.bg_base.proofs.LookUps.{inner_of-search}
-use Rattle.bg_algebra.proofs.look_up.find_inner.Goals as goal
+use Rattle.bg_base.proofs.look_up.find_inner.Goals as goal
 
 pub returns-in-Ok : goal.returns-in-Ok
 returns-in-Ok c =
