@@ -147,7 +147,8 @@ module _ (f g : Big) (names : List Name) where
               links = λ row. sym (map-id row.links);
               region_there = λ region below. has_region (beside f g names) (omega arith);
               region_climb = λ region below. at_region refl (omega arith);
-              link_there = left_link;
+              link_there = λ row link m k has. left_link link has;
+              inner_link_there = λ row m has. left_link row.link has;
             }
 
         pub right_part : IsPart g (beside f g names) (place_beside f.regions) (λ link. link) (row_beside f.regions)
@@ -160,7 +161,8 @@ module _ (f g : Big) (names : List Name) where
               links = λ row. sym (map-id row.links);
               region_there = λ region below. has_region (beside f g names) (omega arith);
               region_climb = λ region below. at_region refl (omega arith);
-              link_there = right_link;
+              link_there = λ row link m k has. right_link link has;
+              inner_link_there = λ row m has. right_link row.link has;
             }
 
         each_row : (P : NodeRow → Type 0) → ((row : NodeRow) → Mem row f.nodes → P row)

@@ -1,2 +1,3 @@
 pub mod Parts
 pub mod Beside
+pub mod Changes

@@ -75,7 +75,8 @@ pub record IsPart (part whole : Big) (place_in : Place → Place) (link_in : Lin
   pub links : (row : NodeRow) → (row_in row).links ≡ map link_in row.links
   pub region_there : (region : ℕ) → region < part.regions → has_place whole (place_in (Region region)) ≡ true
   pub region_climb : (region : ℕ) → region < part.regions → Climb whole.nodes whole.regions (place_in (Region region))
-  pub link_there : (link : Link) → has_link part link ≡ true → has_link whole (link_in link) ≡ true
+  pub link_there : (row : NodeRow) (link : Link) → Mem row part.nodes → Mem link row.links → has_link part link ≡ true → has_link whole (link_in link) ≡ true
+  pub inner_link_there : (row : InnerRow) → Mem row part.inner → has_link part row.link ≡ true → has_link whole (link_in row.link) ≡ true
 
 module _ {part whole : Big} {place_in : Place → Place} {link_in : Link → Link} {row_in : NodeRow → NodeRow}
     (whole_up : IsStrictlySortedBy node_cmp whole.nodes) (stands : IsPart part whole place_in link_in row_in) where
@@ -105,7 +106,7 @@ module _ {part whole : Big} {place_in : Place → Place} {link_in : Link → Lin
           links_there = subst (λ ls. list_all (has_link whole) ls ≡ true) (sym (stands.links row))
               (list_all-from_members (has_link whole) (map link_in row.links)
               (λ link k. let w = Mem-unmap link_in row.links k in
-              subst (λ l. has_link whole l ≡ true) w.2 (stands.link_there w.0 (list_all-member (has_link part) row.links links w.1))));
+              subst (λ l. has_link whole l ≡ true) w.2 (stands.link_there row w.0 m w.1 (list_all-member (has_link part) row.links links w.1))));
           climb = subst (λ p. Climb whole.nodes whole.regions p) (sym (stands.parent row))
               (climb_there (Climb-from_place part valid row.parent has));
         }
@@ -115,7 +116,7 @@ module _ {part whole : Big} {place_in : Place → Place} {link_in : Link → Lin
 
     pub inner_link_there : (row : InnerRow) → Mem row part.inner → has_link whole (link_in row.link) ≡ true
     inner_link_there row m =
-        stands.link_there row.link (All-member (λ (r : InnerRow). IsTrue (has_link part r.link)) part.inner valid.inner_links_there m)
+        stands.inner_link_there row m (All-member (λ (r : InnerRow). IsTrue (has_link part r.link)) part.inner valid.inner_links_there m)
 
   -- ---- under a signature, where no region of the part comes to lie in an atomic node
 
