@@ -1,7 +1,6 @@
 -- Two bigraphs side by side: the rows of each are there, they ascend, and the whole is valid.
-use Rattle.std.proofs.Common.{◌≡◌, ℕ, ◌+◌, ◌<◌, true, false, Bool, ◌++◌, List, [], map, length, nat_cmp, is_eq, is_some, refl, sym, ap, subst, ◌∙◌, ◌⊎◌, inl, inr, arith, Less, Equal}
+use Rattle.std.proofs.Common.{◌≡◌, ℕ, true, false, ◌++◌, List, [], map, nat_cmp, is_eq, is_some, refl, sym, ap, subst, ◌∙◌, ◌⊎◌, inl, inr, arith}
 use Rattle.std.specs.Ordering.{eq_by_cmp}
-use Rattle.std.specs.Cmp.{IsTotalOrder}
 use Rattle.std.specs.List.{IsDistinct}
 use Rattle.std.specs.List.Sorted.{IsStrictlySortedBy}
 use Rattle.std.proofs.lemmas.Bool.{false≢true, cases_Bool}
@@ -12,12 +11,11 @@ use Rattle.bg_lists.specs.Orders.{before, set_of}
 use Rattle.bg_lists.proofs.Members.{Mem-append_left, Mem-append_right, Mem-append_cases, Mem-map, Mem-unmap, Mem-same}
 use Rattle.bg_lists.proofs.Ascents.{Ascending-from_sorted, sorted_from_Ascending, Ascending-map}
 use Rattle.bg_lists.proofs.Sorting.{Mem-sort, Mem-unsort, Ascending-sort, IsDistinct-from_Ascending, IsDistinct-append}
-use Rattle.bg_lists.proofs.Sets.{Mem-set_of, Mem-unset_of, Ascending-set_of, set_of-sort}
+use Rattle.bg_lists.proofs.Sets.{Mem-set_of, Ascending-set_of, set_of-sort}
 use Rattle.bg_lists.proofs.Words.{All-member}
 use Rattle.bg_base.specs.OrderLaws.{name_cmp_total}
 use Rattle.bg_base.specs.declared.names.Name.{Name}
 use Rattle.bg_base.specs.declared.names.Place.{Place}
-use Rattle.bg_base.specs.declared.names.Place.TheVariants.{Node, Region}
 use Rattle.bg_base.specs.declared.names.Link.{Link}
 use Rattle.bg_base.specs.declared.names.Link.TheVariants.{Edge, Outer}
 use Rattle.bg_base.specs.declared.big.NodeRow.{NodeRow}
@@ -29,8 +27,8 @@ use Rattle.bg_base.specs.Bigraph.{IsValid, IsValidUnder, node_cmp, inner_cmp, ha
 use Rattle.bg_base.specs.Composition.{SupportsApart}
 use Rattle.bg_base.specs.Products.{InnerApart, OuterApart, beside, place_beside, row_beside, tensor, parallel}
 use Rattle.bg_base.proofs.NameLaws.{same_name, same_name_from_test}
-use Rattle.bg_base.proofs.LookUps.{node_cmp_total, inner_cmp_total, apart_numbers, has_row, has_edge, has_outer, has_inner, has_region, member_from_has_edge, member_from_has_outer}
-use Rattle.bg_base.proofs.Climbs.{Climb, at_region}
+use Rattle.bg_base.proofs.LookUps.{node_cmp_total, inner_cmp_total, apart_numbers, has_edge, has_outer, has_inner, has_region, member_from_has_edge, member_from_has_outer}
+use Rattle.bg_base.proofs.Climbs.{at_region}
 use Rattle.bg_base.proofs.Composed.{nodes_apart, edges_apart}
 use Rattle.bg_algebra.proofs.Parts.{IsPart, IsSound, Fits, valid_from_rows, valid_under_from_rows, row_sound, site_there, inner_link_there, row_fits, site_fits}
 

@@ -1,5 +1,5 @@
 -- One region in place of all, a name closed, idle edges dropped: each of a valid bigraph is valid.
-use Rattle.std.proofs.Common.{◌≡◌, ℕ, ◌<◌, true, false, Bool, ◌||◌, not, List, [], ◌∷◌, map, filter, length, cond, is_eq, nat_cmp, refl, sym, ap, subst, ◌∙◌, inl, inr, arith, eq-eqb}
+use Rattle.std.proofs.Common.{◌≡◌, ℕ, true, false, Bool, ◌||◌, not, List, map, filter, is_eq, nat_cmp, refl, sym, subst, arith, eq-eqb}
 use Rattle.std.specs.List.{list_any}
 use Rattle.std.specs.List.Sorted.{IsStrictlySortedBy}
 use Rattle.std.proofs.lemmas.Bool.{cond_both, not_from_false}
@@ -7,13 +7,11 @@ use Rattle.std.proofs.lemmas.Cmp.{nat_cmp_total}
 use Rattle.std.proofs.lemmas.List.{map-id}
 use Rattle.bg_lists.specs.Lists.{Mem, put}
 use Rattle.bg_lists.specs.Orders.{before}
-use Rattle.bg_lists.proofs.Members.{Mem-map, Mem-unmap, Mem-filter, Mem-unfilter}
+use Rattle.bg_lists.proofs.Members.{Mem-map, Mem-unmap, Mem-filter}
 use Rattle.bg_lists.proofs.Ascents.{Ascending-from_sorted, sorted_from_Ascending, Ascending-map, Ascending-filter}
 use Rattle.bg_lists.proofs.Sorting.{Mem-put_here, Mem-put_there, Ascending-put}
 use Rattle.bg_lists.proofs.Words.{list_any-from_member}
 use Rattle.bg_base.specs.declared.names.Name.{Name}
-use Rattle.bg_base.specs.declared.names.Place.{Place}
-use Rattle.bg_base.specs.declared.names.Place.TheVariants.{Node, Region}
 use Rattle.bg_base.specs.declared.names.Link.{Link}
 use Rattle.bg_base.specs.declared.names.Link.TheVariants.{Edge, Outer}
 use Rattle.bg_base.specs.declared.big.NodeRow.{NodeRow}
@@ -28,7 +26,7 @@ use Rattle.bg_base.proofs.LookUps.{apart_numbers, has_edge, has_outer, has_regio
 use Rattle.bg_base.proofs.Climbs.{at_region}
 use Rattle.bg_algebra.proofs.Parts.{IsPart, IsSound, Fits, valid_from_rows, valid_under_from_rows, row_sound, site_there, inner_link_there, row_fits, site_fits}
 
-mapped : {X : Type 0} (f : X → X) (P : X → Type 0) (xs : List X) → ((x : X) → Mem x xs → P (f x)) → (y : X) → Mem y (map f xs) → P y
+pub mapped : {X : Type 0} (f : X → X) (P : X → Type 0) (xs : List X) → ((x : X) → Mem x xs → P (f x)) → (y : X) → Mem y (map f xs) → P y
 mapped f P xs each y m = let w = Mem-unmap f xs m in subst P w.2 (each w.0 w.1)
 
 first_holds : (a b : Bool) → a ≡ true → (a || b) ≡ true

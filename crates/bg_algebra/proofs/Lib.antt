@@ -1,3 +1,5 @@
 pub mod Parts
 pub mod Beside
 pub mod Changes
+pub mod Renamed
+pub mod Nested

@@ -1,6 +1,6 @@
 -- A bigraph that is a part of another: its rows stand there, each through a map of places and a map of links. A bigraph
 -- whose rows all come from valid parts is valid.
-use Rattle.std.proofs.Common.{◌≡◌, ℕ, ◌<◌, true, false, List, map, length, All, IsTrue, Some, unwrap_or, option_map, refl, sym, ap, subst, ◌∙◌}
+use Rattle.std.proofs.Common.{◌≡◌, ℕ, ◌<◌, true, false, List, map, length, IsTrue, Some, unwrap_or, option_map, refl, sym, ap, subst, ◌∙◌}
 use Rattle.std.specs.List.{list_all}
 use Rattle.std.specs.List.Sorted.{IsStrictlySortedBy}
 use Rattle.std.specs.Ordering.{nat_cmp}
