@@ -1,15 +1,16 @@
 -- One region in place of all, a name closed, idle edges dropped: each of a valid bigraph is valid.
-use Rattle.std.proofs.Common.{◌≡◌, ℕ, true, false, Bool, ◌||◌, not, List, map, filter, is_eq, nat_cmp, refl, sym, subst, arith, eq-eqb}
-use Rattle.std.specs.List.{list_any}
+use Rattle.std.proofs.Common.{◌≡◌, ℕ, true, false, Bool, ◌||◌, not, List, map, filter, is_eq, nat_cmp, refl, sym, subst, ◌∙◌, arith, eq-eqb, is_some, ap, ◌∷◌, []}
+use Rattle.std.specs.Ordering.{eq_by_cmp}
+use Rattle.std.specs.List.{list_any, IsDistinct}
 use Rattle.std.specs.List.Sorted.{IsStrictlySortedBy}
-use Rattle.std.proofs.lemmas.Bool.{cond_both, not_from_false}
+use Rattle.std.proofs.lemmas.Bool.{cond_both, not_from_false, false≢true}
 use Rattle.std.proofs.lemmas.Cmp.{nat_cmp_total}
 use Rattle.std.proofs.lemmas.List.{map-id}
-use Rattle.bg_lists.specs.Lists.{Mem, put}
+use Rattle.bg_lists.specs.Lists.{Mem, put, sort}
 use Rattle.bg_lists.specs.Orders.{before}
 use Rattle.bg_lists.proofs.Members.{Mem-map, Mem-unmap, Mem-filter}
-use Rattle.bg_lists.proofs.Ascents.{Ascending-from_sorted, sorted_from_Ascending, Ascending-map, Ascending-filter}
-use Rattle.bg_lists.proofs.Sorting.{Mem-put_here, Mem-put_there, Ascending-put}
+use Rattle.bg_lists.proofs.Ascents.{Ascending-from_sorted, sorted_from_Ascending, Ascending-map, Ascending-filter, all_of_members}
+use Rattle.bg_lists.proofs.Sorting.{Mem-put_here, Mem-put_there, Ascending-put, sort-ascending, IsDistinct-from_Ascending}
 use Rattle.bg_lists.proofs.Words.{list_any-from_member}
 use Rattle.bg_base.specs.declared.names.Name.{Name}
 use Rattle.bg_base.specs.declared.names.Link.{Link}
@@ -19,7 +20,7 @@ use Rattle.bg_base.specs.declared.big.InnerRow.{InnerRow}
 use Rattle.bg_base.specs.declared.big.Big.{Big}
 use Rattle.bg_base.specs.declared.signature.Control.{Control}
 use Rattle.bg_base.specs.Order.{name_cmp}
-use Rattle.bg_base.specs.Bigraph.{IsValid, IsValidUnder, node_cmp, inner_cmp, has_place, has_link, is_atomic}
+use Rattle.bg_base.specs.Bigraph.{IsValid, IsValidUnder, node_cmp, inner_cmp, has_place, has_link, is_atomic, edge_of}
 use Rattle.bg_base.specs.Products.{in_one_region, place_in_one, row_in_one, link_closed, row_closed, inner_closed, close, same_link, has_point, lean}
 use Rattle.bg_base.proofs.NameLaws.{test_same_name}
 use Rattle.bg_base.proofs.LookUps.{apart_numbers, has_edge, has_outer, has_region, member_from_has_edge, member_from_has_outer}
@@ -82,6 +83,23 @@ module _ (big : Big) (valid : IsValid big) where
       (site_fits one_up one_part signature fits (λ region below. refl)))
 
 -- ---- a closed name
+
+pub edge_is_new : (edges : List ℕ) (edge : ℕ) → is_some (edge_of edges edge) ≡ false → Mem edge edges → ⊥
+edge_is_new edges edge none m = false≢true (sym none ∙ has_edge edges m)
+
+-- the edge, which is not there, in front of the edges
+pub with_edge_distinct : (edges : List ℕ) (edge : ℕ) → IsStrictlySortedBy nat_cmp edges → is_some (edge_of edges edge) ≡ false
+    → IsDistinct (eq_by_cmp nat_cmp) (edge ∷ edges)
+unfolding IsDistinct
+with_edge_distinct edges edge up none = (
+  all_of_members (λ other. is_eq (nat_cmp edge other) ≡ false) edges
+      (λ other m. apart_numbers edge other (λ e. edge_is_new edges edge none (subst (λ n. Mem n edges) (sym e) m))),
+  IsDistinct-from_Ascending edges (Ascending-from_sorted edges up),
+)
+
+pub put_is_sort : (edges : List ℕ) (edge : ℕ) → IsStrictlySortedBy nat_cmp edges → sort (before nat_cmp) (edge ∷ edges) ≡ put (before nat_cmp) edge edges
+unfolding sort
+put_is_sort edges edge up = ap (put (before nat_cmp) edge) (sort-ascending nat_cmp_total edges (Ascending-from_sorted edges up))
 
 module _ (f : Big) (name : Name) (edge : ℕ) where
   pub close_nodes : (close f name edge).nodes ≡ map (row_closed name edge) f.nodes

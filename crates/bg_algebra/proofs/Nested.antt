@@ -1,7 +1,7 @@
 -- Elementary bigraphs are valid; a nesting of valid bigraphs is valid.
 use Rattle.std.proofs.Common.{◌≡◌, ℕ, zero, suc, ◌+◌, ◌<◌, ◌≤◌, true, false, List, [], ◌∷◌, ◌++◌, map, length, refl, sym, ap, subst, ◌∙◌, arith, append-nil, inl, inr, is_some, All}
 use Rattle.std.specs.List.Sorted.{IsStrictlySortedBy}
-use Rattle.std.proofs.lemmas.List.{length-map, map-id}
+use Rattle.std.proofs.lemmas.List.{length-map, map-id, map-append}
 use Rattle.bg_lists.specs.Lists.{Mem, here, there, sort}
 use Rattle.bg_lists.specs.Orders.{before, set_of, asc_nil, asc_cons}
 use Rattle.bg_lists.proofs.Members.{Mem-cons_cases, Mem-unmap, map-map}
@@ -44,6 +44,25 @@ unfolding counted
 length-counted first zero = refl
 length-counted first (suc count) = ap suc (length-counted (suc first) count)
 
+pub counted_more : (first count : ℕ) → counted first (count + 1) ≡ counted first count ++ (first + count) ∷ []
+unfolding counted
+counted_more first zero = ap (λ n. n ∷ []) (let e : first ≡ first + 0 = omega arith in e)
+counted_more first (suc count) =
+    let e : suc first + count ≡ first + suc count = omega arith in
+    let more : suc count + 1 ≡ suc (count + 1) = omega arith in
+    ap (counted first) more ∙ ap (λ ns. first ∷ ns) (counted_more (suc first) count ∙ ap (λ n. counted (suc first) count ++ n ∷ []) e)
+
+-- a list that so many values were pushed on, one for each number
+pub pushed_counted : {X : Type 0} (f : ℕ → X) (xs ys : List X) (count : ℕ) (x : X) → xs ≡ map f (counted 0 count) → ys ≡ xs ++ x ∷ [] → x ≡ f count
+    → ys ≡ map f (counted 0 (count + 1))
+pushed_counted f xs ys count x old new is =
+    new ∙ ap (λ zs. zs ++ x ∷ []) old ∙ ap (λ z. map f (counted 0 count) ++ z ∷ []) (is ∙ ap f (let e : count ≡ 0 + count = omega arith in e))
+    ∙ sym (map-append f (counted 0 count) ((0 + count) ∷ [])) ∙ ap (map f) (sym (counted_more 0 count))
+
+pub counted_few : {X : Type 0} (f : ℕ → X) (xs : List X) (count most : ℕ) → xs ≡ map f (counted 0 count) → count < most → length xs < most
+counted_few f xs count most is few =
+    let e : length xs ≡ count = ap length is ∙ length-map (counted 0 count) f ∙ length-counted 0 count in omega (arith, e)
+
 -- ---- bigraphs without nodes
 
 module _ (width : ℕ) (names : List Name) (up : IsStrictlySortedBy name_cmp names) where
@@ -65,6 +84,7 @@ module _ (width : ℕ) (names : List Name) (up : IsStrictlySortedBy name_cmp nam
       valid_under_from_rows signature (identity width names) identity_valid (λ row m. elim m [ ])
       (λ place m. let w = Mem-unmap Region (counted 0 width) m in subst (λ p. is_atomic signature (identity width names) p ≡ false) w.2 refl)
 
+module _ (names : List Name) (up : IsStrictlySortedBy name_cmp names) where
   pub idle_valid : IsValid (idle names)
   unfolding idle IsStrictlySortedBy
   idle_valid = valid_from_rows (idle names) tt tt tt up (λ row m. elim m [ ]) (λ place m. elim m [ ]) (λ row m. elim m [ ])

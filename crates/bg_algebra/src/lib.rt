@@ -4,11 +4,15 @@
 //! - [`AlgebraFault`]: why an operation gives no bigraph.
 #![tactic(auto)]
 
+mod closing;
 mod composition;
+mod elementary;
 mod fault;
 mod through;
 
+pub use closing::close;
 pub use composition::compose;
+pub use elementary::{barren, empty, identity, idle, merger};
 pub use fault::AlgebraFault;
 
 #[cfg(test)]
