@@ -1,16 +1,16 @@
 -- Laws of the search for the nodes that lie in a node, where no climb needs more moves than there are rows.
-use Rattle.std.proofs.Common.{◌≡◌, ℕ, zero, suc, ◌-◌, ◌<◌, ◌==◌, ◌||◌, Bool, true, false, Option, Some, None, option_map, unwrap_or, List, [], ◌∷◌, length, slice_get, slice_set, length-set, set, refl, sym, ap, subst, ◌∙◌, arith, inl, inr}
+use Rattle.std.proofs.Common.{◌≡◌, ℕ, zero, suc, ◌<◌, ◌==◌, ◌||◌, Bool, Option, Some, None, option_map, unwrap_or, List, [], ◌∷◌, length, slice_get, slice_set, length-set, refl, sym, ap, ◌∙◌, arith, inl, inr}
 use Rattle.std.specs.List.{list_any}
 use Rattle.std.proofs.lemmas.Bool.{false_from_ne_true, cases_eq}
-use Rattle.std.proofs.Common.{eqb-true, eq-eqb}
+use Rattle.std.proofs.Common.{eqb-true}
 use Rattle.std.proofs.lemmas.Option.{slice_get_within}
 use Rattle.bg_lists.proofs.Words.{member_from_find}
 use Rattle.bg_base.specs.declared.names.Place.{Place}
 use Rattle.bg_base.specs.declared.names.Place.TheVariants.{Node, Region}
 use Rattle.bg_place.specs.declared.graph.ParentRow.{ParentRow}
-use Rattle.bg_place.specs.Places.{row_of, climb, is_within, is_above}
+use Rattle.bg_place.specs.Places.{climb, is_within, is_above}
 use Rattle.bg_place.specs.Rows.{IsRowOf, IsSettled, AreMarked, lies_in}
-use Rattle.bg_place.proofs.ClimbLaws.{climb_region, climb_out, climb_last, meets_step}
+use Rattle.bg_place.proofs.ClimbLaws.{climb_region}
 
 -- ---- an item that is set
 
@@ -68,40 +68,7 @@ module _ (rows : List ParentRow) (upper : ℕ) where
     pub left : is_within rows upper lower ≡ list_any (λ n. n == upper) (climb rows moves place)
     pub leads : is_within rows upper lower ≡ lies_in rows upper place
 
-  -- it starts at the node
-  pub climbed_start : IsSettled rows → 0 < length rows → (lower : ℕ) → Climbed lower (length rows) (Node lower)
-  climbed_start ok some lower = record { left = climb_within ok some lower; leads = refl }
-
-  -- and goes on to where a node lies that is not the upper one
-  pub climbed_step : IsSettled rows → (lower moves node at : ℕ) (row : ParentRow) → Climbed lower moves (Node node) → 0 < moves
-      → (node ≡ upper → ⊥) → IsRowOf rows node at row → Climbed lower (moves - 1) row.parent
-  climbed_step ok lower moves node at row climbed some other is =
-      record {
-        left = meets_step rows moves node upper row.parent (is_within rows upper lower) some
-            (ap (option_map (λ (r : ParentRow). r.parent)) is.first) other climbed.left;
-        leads = climbed.leads ∙ within_step ok node at row other is;
-      }
-
-  -- it ends at the upper node, at a region, at a node of no row, and where no move is left
-  pub climbed_there : (lower moves node : ℕ) → Climbed lower moves (Node node) → node ≡ upper → true ≡ is_within rows upper lower
-  climbed_there lower moves node climbed e =
-      sym (climbed.leads ∙ ap (λ b. b || is_above rows upper node) (eq-eqb node upper e))
-
-  pub climbed_region : (lower moves region : ℕ) → Climbed lower moves (Region region) → false ≡ is_within rows upper lower
-  climbed_region lower moves region climbed = sym climbed.leads
-
-  pub climbed_out : (lower moves : ℕ) (place : Place) → Climbed lower moves place → moves ≡ 0 → false ≡ is_within rows upper lower
-  climbed_out lower moves place climbed none =
-      sym (climbed.left ∙ ap (list_any (λ n. n == upper)) (climb_out rows moves place none))
-
-  pub climbed_lost : (lower moves node : ℕ) → Climbed lower moves (Node node) → (node ≡ upper → ⊥) → row_of rows node ≡ None
-      → false ≡ is_within rows upper lower
-  climbed_lost lower moves node climbed other none =
-      sym (climbed.leads
-      ∙ ap (λ b. b || is_above rows upper node) (false_from_ne_true (node == upper) (λ t. other (eqb-true node upper t)))
-      ∙ ap (λ found. list_any (λ n. n == upper) (unwrap_or (option_map (climb rows (length rows)) (option_map (λ (r : ParentRow). r.parent) found)) [])) none)
-
-  -- and at a row that is marked
+  -- a climb that comes to a row that is marked
   pub climbed_marked : (lower moves node at : ℕ) (row : ParentRow) (marks : List (Option Bool)) (inside : Bool)
       → Climbed lower moves (Node node) → IsRowOf rows node at row → AreMarked rows upper marks
       → unwrap_or (slice_get marks at) None ≡ Some inside → inside ≡ is_within rows upper lower
@@ -134,8 +101,3 @@ module _ (rows : List ParentRow) (upper : ℕ) where
   pub known_step : IsSettled rows → (node at : ℕ) (row : ParentRow) (inside : Bool) → inside ≡ lies_in rows upper (Node node)
       → (node ≡ upper → ⊥) → IsRowOf rows node at row → inside ≡ lies_in rows upper row.parent
   known_step ok node at row inside known other is = known ∙ within_step ok node at row other is
-
-  -- of no row anything is known
-  pub none_marked : (marks : List (Option Bool)) → length marks ≡ length rows
-      → ((k : ℕ) (inside : Bool) → slice_get marks k ≡ Some (Some inside) → ⊥) → AreMarked rows upper marks
-  none_marked marks count none = record { count = count; right = λ k row inside there set. absurd (none k inside set) }
