@@ -12,9 +12,10 @@ ghost use Rattle.bg_base.specs.Bigraph.{IsValid, IsValidUnder, node_cmp, inner_c
 ghost use Rattle.bg_base.specs.Composition.{FacesAgree, SupportsApart, inner_names, row_through, compose as composition};
 
 use crate::AlgebraFault;
-use crate::through::{inner_through, push_rows_through, sites_through};
+use crate::through::{inner_through, push_rows_through};
 use bg_base::{Big, InnerRow, Name, NodeRow, find_node, has_edge};
 use bg_lists::{Duplicate, Mem, Rows};
+use bg_place::sites_through;
 use std::alloc::Global;
 
 /// The composition of two valid bigraphs, `g` above and `f` below (Milner, chapter 2): what lies in region `j` of `f`

@@ -4,20 +4,11 @@ ghost use Rattle.std.specs.List.Sorted.{IsStrictlySortedBy};
 ghost use Rattle.bg_base.specs.Bigraph.{inner_cmp};
 ghost use Rattle.bg_base.specs.Composition as composition;
 
-use bg_base::{Big, InnerRow, Link, NodeRow, Place, PortLinks, find_inner};
+use bg_base::{Big, InnerRow, Link, NodeRow, PortLinks, find_inner};
 use bg_lists::{Duplicate, Mem, Rows};
+use bg_place::place_through;
 use smallvec::SmallVec;
 use std::alloc::Global;
-
-/// Where a place of the lower bigraph comes to lie: region `j` becomes the parent of site `j` of `g`.
-pub fn place_through(g: &Big, place: Place) -> Place
-    ensures { result ≡ composition.place_through g.now place }
-{
-    match place {
-        Place::Node(_) => place,
-        Place::Region(region) => g.sites.get(region as usize).copied().unwrap_or(place),
-    }
-}
 
 /// The links of `g` at which a link of the lower bigraph ends: an outer name becomes the link of that inner name.
 pub fn link_through<'a>(g: &'a Big, link: &'a Link) -> &'a Link
@@ -81,18 +72,6 @@ pub fn push_rows_through(
         rows.push(row_through(alloc, g, row)?)?;
     }
     Ok(())
-}
-
-/// The sites of the lower bigraph, in the composition.
-pub fn sites_through(alloc: Global, g: &Big, sites: &[Place]) -> Mem<Rows<Place>>
-    requires small { length sites.now < 2 ^ 32 - 1 }
-    ensures { IfOk result (λ made. made ≡ map (composition.place_through g.now) sites.now) }
-{
-    let mut made = Vec::new(alloc);
-    for place in sites {
-        made.push(place_through(g, *place))?;
-    }
-    Ok(Rows::from_vec(made))
 }
 
 /// The inner names of the lower bigraph with their links, in the composition.

@@ -10,10 +10,15 @@ mod composition;
 mod forest;
 mod graph;
 mod groups;
+mod laws;
+mod products;
+mod subtree;
 
-pub use composition::compose_places;
+pub use composition::{compose_places, place_through, sites_through};
 pub use forest::Forest;
 pub use graph::{ParentRow, Places, places_of};
+pub use laws::climbs_reach_regions;
+pub use products::tensor_places;
 
 #[cfg(test)]
 mod tests;
