@@ -3,3 +3,4 @@ pub mod Beside
 pub mod Changes
 pub mod Renamed
 pub mod Nested
+pub mod Joining
