@@ -12,8 +12,9 @@ ghost use Rattle.bg_base.specs.Bigraph.{IsValid, IsValidUnder, node_cmp, inner_c
 ghost use Rattle.bg_base.specs.Composition.{FacesAgree, SupportsApart, inner_names, row_through, compose as composition};
 
 use crate::AlgebraFault;
-use crate::through::{inner_through, push_rows_through, sites_through};
+use crate::through::{push_rows_through, sites_through};
 use bg_base::{Big, InnerRow, Name, NodeRow, find_node, has_edge};
+use bg_link::{inner_through, sorted_edges};
 use bg_lists::{Duplicate, Mem, Rows};
 use std::alloc::Global;
 
@@ -129,15 +130,4 @@ pub fn sorted_nodes(mut rows: Vec<NodeRow>) -> Mem<Rows<NodeRow>>
 {
     rows.sort_unstable_by_key(|row| row.id);
     Rows::try_from_vec(rows)
-}
-
-/// The edges of both, where they differ.
-fn sorted_edges(alloc: Global, upper: &Rows<u32>, lower: &Rows<u32>) -> Mem<Rows<u32>>
-    requires apart { IsDistinct (eq_by_cmp nat_cmp) (upper.now ++ lower.now) }
-    ensures { IfOk result (λ edges. edges ≡ sort (before nat_cmp) (upper.now ++ lower.now)) }
-{
-    let mut edges = upper.copy(alloc)?.into_vec();
-    edges.extend_from_slice(lower.as_slice())?;
-    edges.sort_unstable();
-    Rows::try_from_vec(edges)
 }

@@ -1,12 +1,12 @@
-//! How the parts of a bigraph lie in another: regions go to sites, and outer names to inner names.
+//! How the rows of a bigraph lie in another: regions go to sites, and outer names to inner names.
 ghost use Rattle.std.specs.Prelude.{◌≡◌, ◌<◌, ◌-◌, ◌^◌, ◌++◌, map, length, IfOk, OnOk};
 ghost use Rattle.std.specs.List.Sorted.{IsStrictlySortedBy};
 ghost use Rattle.bg_base.specs.Bigraph.{inner_cmp};
 ghost use Rattle.bg_base.specs.Composition as composition;
 
-use bg_base::{Big, InnerRow, Link, NodeRow, Place, PortLinks, find_inner};
-use bg_lists::{Duplicate, Mem, Rows};
-use smallvec::SmallVec;
+use bg_base::{Big, NodeRow, Place};
+use bg_link::links_through;
+use bg_lists::{Mem, Rows};
 use std::alloc::Global;
 
 /// Where a place of the lower bigraph comes to lie: region `j` becomes the parent of site `j` of `g`.
@@ -17,41 +17,6 @@ pub fn place_through(g: &Big, place: Place) -> Place
         Place::Node(_) => place,
         Place::Region(region) => g.sites.get(region as usize).copied().unwrap_or(place),
     }
-}
-
-/// The links of `g` at which a link of the lower bigraph ends: an outer name becomes the link of that inner name.
-pub fn link_through<'a>(g: &'a Big, link: &'a Link) -> &'a Link
-    requires ascending { IsStrictlySortedBy inner_cmp g.now.inner }
-    ensures { result.now ≡ composition.link_through g.now link.now }
-{
-    match link {
-        Link::Edge(_) => link,
-        Link::Outer(name) => match find_inner(&g.inner, name) {
-            Some(row) => &row.link,
-            None => link,
-        },
-    }
-}
-
-/// The links of a node of the lower bigraph, in the composition.
-pub fn links_through(alloc: Global, g: &Big, links: &[Link]) -> Mem<PortLinks>
-    requires ascending { IsStrictlySortedBy inner_cmp g.now.inner }
-    requires small { length links.now < 2 ^ 32 - 1 }
-    ensures { IfOk result (λ made. made ≡ map (composition.link_through g.now) links.now) }
-{
-    let items = link_list_through(alloc, g, links)?;
-    Ok(PortLinks::from_small_vec(items))
-}
-
-fn link_list_through(alloc: Global, g: &Big, links: &[Link]) -> Mem<SmallVec<Link, 4>>
-    requires ascending { IsStrictlySortedBy inner_cmp g.now.inner }
-    ensures { IfOk result (λ made. made.items ≡ map (composition.link_through g.now) links.now) }
-{
-    let mut made = SmallVec::new(alloc);
-    for link in links {
-        made.push(link_through(g, link).copy(alloc)?)?;
-    }
-    Ok(made)
 }
 
 /// A row of the lower bigraph, in the composition.
@@ -91,23 +56,6 @@ pub fn sites_through(alloc: Global, g: &Big, sites: &[Place]) -> Mem<Rows<Place>
     let mut made = Vec::new(alloc);
     for place in sites {
         made.push(place_through(g, *place))?;
-    }
-    Ok(Rows::from_vec(made))
-}
-
-/// The inner names of the lower bigraph with their links, in the composition.
-pub fn inner_through(alloc: Global, g: &Big, inner: &[InnerRow]) -> Mem<Rows<InnerRow>>
-    requires ascending { IsStrictlySortedBy inner_cmp g.now.inner }
-    requires small { length inner.now < 2 ^ 32 - 1 }
-    ensures { IfOk result (λ made. made ≡ map (composition.inner_through g.now) inner.now) }
-{
-    let mut made = Vec::new(alloc);
-    for row in inner {
-        let link = link_through(g, &row.link).copy(alloc)?;
-        made.push(InnerRow {
-            name: row.name.copy(alloc)?,
-            link,
-        })?;
     }
     Ok(Rows::from_vec(made))
 }
