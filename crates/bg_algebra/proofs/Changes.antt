@@ -1,5 +1,5 @@
 -- One region in place of all, a name closed, idle edges dropped: each of a valid bigraph is valid.
-use Rattle.std.proofs.Common.{◌≡◌, ℕ, true, false, Bool, ◌||◌, not, List, map, filter, is_eq, nat_cmp, refl, sym, subst, ◌∙◌, arith, eq-eqb, is_some, ap, ◌∷◌, []}
+use Rattle.std.proofs.Common.{◌≡◌, ℕ, true, false, Bool, ◌||◌, not, List, map, filter, is_eq, nat_cmp, refl, sym, subst, ◌∙◌, arith, eq-eqb, is_some, ap, ◌∷◌}
 use Rattle.std.specs.Ordering.{eq_by_cmp}
 use Rattle.std.specs.List.{list_any, IsDistinct}
 use Rattle.std.specs.List.Sorted.{IsStrictlySortedBy}

@@ -4,3 +4,4 @@ pub mod Changes
 pub mod Renamed
 pub mod Nested
 pub mod Joining
+pub mod Merged

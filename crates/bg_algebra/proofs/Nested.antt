@@ -1,5 +1,5 @@
 -- Elementary bigraphs are valid; a nesting of valid bigraphs is valid.
-use Rattle.std.proofs.Common.{◌≡◌, ℕ, zero, suc, ◌+◌, ◌<◌, ◌≤◌, true, false, List, [], ◌∷◌, ◌++◌, map, length, refl, sym, ap, subst, ◌∙◌, arith, append-nil, inl, inr, is_some, All}
+use Rattle.std.proofs.Common.{◌≡◌, ℕ, zero, suc, ◌+◌, ◌<◌, ◌≤◌, true, false, List, [], ◌∷◌, ◌++◌, map, length, refl, sym, ap, subst, ◌∙◌, arith, append-nil, inl, inr, is_some, All, unwrap_or, option_map}
 use Rattle.std.specs.List.Sorted.{IsStrictlySortedBy}
 use Rattle.std.proofs.lemmas.List.{length-map, map-id, map-append}
 use Rattle.bg_lists.specs.Lists.{Mem, here, there, sort}
@@ -19,17 +19,17 @@ use Rattle.bg_base.specs.declared.big.InnerRow.{InnerRow}
 use Rattle.bg_base.specs.declared.big.Big.{Big}
 use Rattle.bg_base.specs.declared.signature.Control.{Control}
 use Rattle.bg_base.specs.Order.{name_cmp}
-use Rattle.bg_base.specs.Bigraph.{IsValid, IsValidUnder, node_cmp, inner_cmp, has_place, has_link, inner_of, is_atomic}
+use Rattle.bg_base.specs.Bigraph.{IsValid, IsValidUnder, node_cmp, inner_cmp, has_place, has_link, inner_of, is_atomic, is_atomic_control, arity_of}
 use Rattle.bg_base.specs.Composition.{inner_names, FacesAgree, SupportsApart}
 use Rattle.bg_base.specs.Elementary.{counted, row_to_itself, row_alone, molecule, identity, merger, idle, barren, empty, ion, atom}
 use Rattle.bg_base.specs.Products.{parallel, nest, InnerApart, place_beside}
 use Rattle.bg_base.proofs.NameLaws.{same_name}
-use Rattle.bg_base.proofs.LookUps.{inner_cmp_total, has_row, has_outer, has_region}
+use Rattle.bg_base.proofs.LookUps.{inner_cmp_total, has_row, has_outer, has_region, row_of-member}
 use Rattle.bg_base.proofs.Climbs.{at_region}
 use Rattle.bg_base.proofs.Composed.{SupportsApart-from_members, nodes_apart, edges_apart}
 use Rattle.bg_base.proofs.ComposedValid.{compose_valid, compose_valid_under}
 use Rattle.bg_algebra.proofs.Beside.{Mem-beside_cases, Mem-beside_edge_cases, parallel_valid, parallel_valid_under}
-use Rattle.bg_algebra.proofs.Parts.{IsSound, valid_from_rows, valid_under_from_rows}
+use Rattle.bg_algebra.proofs.Parts.{IsSound, Fits, valid_from_rows, valid_under_from_rows}
 
 -- ---- numbers in a row
 
@@ -93,6 +93,14 @@ module _ (names : List Name) (up : IsStrictlySortedBy name_cmp names) where
   unfolding idle
   idle_valid_under signature = valid_under_from_rows signature (idle names) idle_valid (λ row m. elim m [ ]) (λ place m. elim m [ ])
 
+pub identity_regions : (width : ℕ) (names : List Name) → (identity width names).regions ≡ width
+unfolding identity
+identity_regions width names = refl
+
+pub identity_sites : (names : List Name) → length (identity 0 names).sites ≡ 0
+unfolding identity counted
+identity_sites names = refl
+
 pub merger_valid : (width : ℕ) → IsValid (merger width)
 unfolding merger IsStrictlySortedBy
 merger_valid width =
@@ -151,34 +159,59 @@ module _ (control node : ℕ) (names : List Name) (sites : List Place) (inside :
       (has_row {row = row_alone control node names} (row_alone control node names ∷ []) (here refl) refl))
       (λ row m. elim m [ ])
 
+  -- under a signature that has the control, with as many ports as names; a site wants a control that is not atomic
+  pub molecule_valid_under : (signature : List Control) → control < length signature → length names ≡ arity_of signature control
+      → ((place : Place) → Mem place sites → is_atomic_control signature control ≡ false) → IsValidUnder signature (molecule control node names sites)
+  molecule_valid_under signature below ports normal =
+      valid_under_from_rows signature (molecule control node names sites) molecule_valid
+      (only_row (Fits signature (molecule control node names sites))
+      (record { control_there = below; ports_fit = length-map names Outer ∙ ports; normal_parent = refl }))
+      (λ place m. subst (λ p. is_atomic signature (molecule control node names sites) p ≡ false) (sym (inside place m))
+      (ap (λ o. unwrap_or (option_map (λ (row : NodeRow). is_atomic_control signature row.control) o) false)
+      (row_of-member {row = row_alone control node names} (row_alone control node names ∷ []) molecule_valid.nodes_ascend (here refl) refl)
+      ∙ normal place m))
+
 pub ion_valid : (control node : ℕ) (names : List Name) → IsValid (ion control node names)
 unfolding ion
 ion_valid control node names =
     molecule_valid control node names (Node node ∷ []) (λ place m. elim (Mem-cons_cases m) [ inl e ↦ sym e | inr n ↦ elim n [ ] ])
 
+pub ion_valid_under : (control node : ℕ) (names : List Name) (signature : List Control) → control < length signature → length names ≡ arity_of signature control
+    → is_atomic_control signature control ≡ false → IsValidUnder signature (ion control node names)
+unfolding ion
+ion_valid_under control node names signature below ports normal =
+    molecule_valid_under control node names (Node node ∷ []) (λ place m. elim (Mem-cons_cases m) [ inl e ↦ sym e | inr n ↦ elim n [ ] ]) signature below ports
+    (λ place m. normal)
+
 pub atom_valid : (control node : ℕ) (names : List Name) → IsValid (atom control node names)
 unfolding atom
 atom_valid control node names = molecule_valid control node names [] (λ place m. elim m [ ])
+
+pub atom_valid_under : (control node : ℕ) (names : List Name) (signature : List Control) → control < length signature → length names ≡ arity_of signature control
+    → IsValidUnder signature (atom control node names)
+unfolding atom
+atom_valid_under control node names signature below ports =
+    molecule_valid_under control node names [] (λ place m. elim m [ ]) signature below ports (λ place m. elim m [ ])
 
 -- ---- nesting
 
 module _ (f g : Big) (f_valid : IsValid f) (g_valid : IsValid g) (no_inner : f.inner ≡ []) where
   -- what G is put into: F beside the identity on G's outer names
-  abbrev frame : Big
+  abbrev pub frame : Big
   frame = parallel (identity 0 g.outer) f
 
-  frame_apart : SupportsApart (identity 0 g.outer) f
+  pub frame_apart : SupportsApart (identity 0 g.outer) f
   unfolding identity
   frame_apart = SupportsApart-from_members (identity 0 g.outer) f (λ row other m n e. elim m [ ]) (record { apart = λ x m n. elim m [ ] })
 
-  frame_inner_apart : InnerApart (identity 0 g.outer) f
+  pub frame_inner_apart : InnerApart (identity 0 g.outer) f
   frame_inner_apart =
       record {
         inner_apart = subst (λ rows. All (λ (row : InnerRow). is_some (inner_of (identity 0 g.outer).inner row.name) ≡ false) rows) (sym no_inner)
             (All-from_members (λ (row : InnerRow). is_some (inner_of (identity 0 g.outer).inner row.name) ≡ false) [] (λ row m. elim m [ ]));
       }
 
-  frame_valid : IsValid frame
+  pub frame_valid : IsValid frame
   frame_valid = parallel_valid (identity 0 g.outer) f (identity_valid 0 g.outer g_valid.outer_ascends) f_valid frame_apart frame_inner_apart
 
   pub frame_sites : frame.sites ≡ map (place_beside 0) f.sites
@@ -193,14 +226,14 @@ module _ (f g : Big) (f_valid : IsValid f) (g_valid : IsValid g) (no_inner : f.i
       ∙ sort-ascending inner_cmp_total (map row_to_itself g.outer)
       (Ascending-map row_to_itself g.outer (λ x y less. less) (Ascending-from_sorted g.outer g_valid.outer_ascends))
 
-  frame_faces : g.regions ≡ length f.sites → FacesAgree frame g
+  pub frame_faces : g.regions ≡ length f.sites → FacesAgree frame g
   frame_faces widths =
       record {
         widths = widths ∙ sym (ap length frame_sites ∙ length-map f.sites (place_beside 0));
         names = sym (ap inner_names frame_inner ∙ map-map row_to_itself (λ (row : InnerRow). row.name) g.outer ∙ map-id g.outer);
       }
 
-  frame_supports : SupportsApart f g → SupportsApart frame g
+  pub frame_supports : SupportsApart f g → SupportsApart frame g
   unfolding parallel identity
   frame_supports apart =
       SupportsApart-from_members frame g
@@ -222,3 +255,8 @@ module _ (f g : Big) (f_valid : IsValid f) (g_valid : IsValid g) (no_inner : f.i
         compose_valid_under frame g (frame_faces widths) (frame_supports apart) frame_valid g_valid signature
         (parallel_valid_under (identity 0 g.outer) f (identity_valid 0 g.outer g_valid.outer_ascends) f_valid frame_apart frame_inner_apart signature
         (identity_valid_under 0 g.outer g_valid.outer_ascends signature) f_fits) g_fits
+
+-- the frame, made of calls
+pub frame_is : (f : Big) (names whole : Big) (given outer : List Name) → names ≡ identity 0 given → given ≡ outer → whole ≡ parallel names f
+    → whole ≡ parallel (identity 0 outer) f
+frame_is f names whole given outer e d is = is ∙ ap (λ z. parallel z f) (e ∙ ap (identity 0) d)

@@ -1,15 +1,19 @@
 -- A valid bigraph whose nodes and edges are numbered anew is valid.
-use Rattle.std.proofs.Common.{◌≡◌, ℕ, ◌==◌, true, false, Bool, List, [], ◌∷◌, map, length, nat_cmp, Less, refl, sym, subst, ◌∙◌, arith, eq-eqb}
+use Rattle.std.proofs.Common.{◌≡◌, ℕ, ◌==◌, true, false, Bool, List, [], ◌∷◌, map, length, nat_cmp, Less, refl, sym, subst, ◌∙◌, arith, eq-eqb, get_or, MatchResult, Result, Ok, Err, Some, is_some, eqb-true, ap}
 use Rattle.std.specs.Ordering.{eq_by_cmp}
 use Rattle.std.specs.List.{IsDistinct}
 use Rattle.std.specs.List.Sorted.{IsStrictlySortedBy}
-use Rattle.std.proofs.lemmas.Bool.{cond_both, cond-true, cond-false}
+use Rattle.std.proofs.lemmas.Bool.{cond_both, cond-true, cond-false, false_from_ne_true, false≢true}
 use Rattle.std.proofs.lemmas.Cmp.{nat_cmp_total}
 use Rattle.std.proofs.lemmas.List.{length-map}
 use Rattle.bg_lists.specs.Lists.{Mem, here, there, sort}
 use Rattle.bg_lists.specs.Orders.{before}
 use Rattle.bg_lists.proofs.Comparisons.{eqb-nat_cmp}
-use Rattle.bg_lists.proofs.Members.{Mem-map, map_agree, map-map}
+use Rattle.std.specs.List.Sorted.{IsSearchInRange, IsBinarySearchResult}
+use Rattle.bg_lists.specs.Lists.{At, at_here, at_there}
+use Rattle.bg_lists.proofs.Places.{Mem-from_At, At-total, At-same, At-map, get_or-At}
+use Rattle.bg_lists.proofs.Searches.{find-search}
+use Rattle.bg_lists.proofs.Members.{Mem-map, Mem-unmap, map_agree, map-map}
 use Rattle.bg_lists.proofs.Ascents.{Ascending-from_sorted, sorted_from_Ascending, Ascending-map, all_of_members, member_of_all}
 use Rattle.bg_lists.proofs.Sorting.{Mem-sort, Mem-unsort, Ascending-sort, IsDistinct-from_Ascending, IsDistinct-members}
 use Rattle.bg_base.specs.declared.names.Link.{Link}
@@ -20,7 +24,7 @@ use Rattle.bg_base.specs.declared.big.Big.{Big}
 use Rattle.bg_base.specs.declared.signature.Control.{Control}
 use Rattle.bg_base.specs.Bigraph.{IsValid, IsValidUnder, node_cmp, inner_cmp, has_place, has_link, is_atomic}
 use Rattle.bg_base.specs.Instance.{along, node_numbers, place_renamed, link_renamed, row_renamed, inner_renamed, rename}
-use Rattle.bg_base.proofs.LookUps.{node_cmp_total, has_edge, has_region, member_from_has_edge}
+use Rattle.bg_base.proofs.LookUps.{node_cmp_total, has_row, has_edge, has_region, member_from_has_edge, member_from_edge_of, row_from_row_of, row_of-search, edge_of-search}
 use Rattle.bg_base.proofs.Climbs.{at_region}
 use Rattle.bg_algebra.proofs.Parts.{IsPart, IsSound, Fits, valid_from_rows, valid_under_from_rows, row_sound, site_there, inner_link_there, row_fits, site_fits}
 use Rattle.bg_algebra.proofs.Changes.{mapped}
@@ -139,3 +143,50 @@ module _ (big : Big) (nodes edges : List ℕ) (valid : IsValid big) (nodes_long 
         (each_row (Fits signature (rename big nodes edges)) (row_fits renamed_up renamed_part signature fits (λ region below. refl)))
         (mapped (place_renamed big nodes) (λ place. is_atomic signature (rename big nodes edges) place ≡ false) big.sites
         (site_fits renamed_up renamed_part signature fits (λ region below. refl)))
+
+-- ---- as a binary search finds it
+
+pub along-at : {x i : ℕ} (xs ys : List ℕ) (d : ℕ) → IsDistinct (eq_by_cmp nat_cmp) xs → length xs ≡ length ys → At x i xs → along xs ys x ≡ get_or ys i d
+along-at [] ys d distinct long a = elim a [ ]
+along-at (x ∷ xs) [] d distinct long a = absurd (omega arith)
+along-at (x ∷ xs) (y ∷ ys) d distinct long (at_here e) = subst (λ v. along (x ∷ xs) (y ∷ ys) v ≡ y) e (along-here x y xs ys)
+along-at {x = z} (x ∷ xs) (y ∷ ys) d distinct long (at_there a) =
+    let w = IsDistinct-members (eq_by_cmp nat_cmp) x xs distinct in
+    along-there x y z xs ys (numbers_apart x z (w.0 z (Mem-from_At a))) ∙ along-at xs ys d w.1 (omega arith) a
+
+pub along-nowhere : (xs ys : List ℕ) (x : ℕ) → (Mem x xs → ⊥) → along xs ys x ≡ x
+unfolding along
+along-nowhere [] ys x none = refl
+along-nowhere (z ∷ zs) [] x none = refl
+along-nowhere (z ∷ zs) (y ∷ ys) x none =
+    along-there z y x zs ys (false_from_ne_true (z == x) (λ e. none (here (eqb-true z x e)))) ∙ along-nowhere zs ys x (λ m. none (there m))
+
+pub along-node : (rows : List NodeRow) (ys : List ℕ) (node d : ℕ) → IsStrictlySortedBy node_cmp rows → length rows ≡ length ys → (r : Result ℕ ℕ)
+    → IsSearchInRange r (length rows) → IsBinarySearchResult (λ (row : NodeRow). nat_cmp row.id node) rows r
+    → MatchResult r (λ at. along (node_numbers rows) ys node ≡ get_or ys at d) (λ _. along (node_numbers rows) ys node ≡ node)
+along-node rows ys node d up long (Ok at) range answer =
+    let w = At-total rows at range in
+    let found = row_of-search rows node up (Ok at) range answer in
+    let first : get_or rows at w.0 ≡ w.0 = get_or-At rows w.0 w.1 in
+    let same : w.0.id ≡ node = (row_from_row_of rows node (found w.0 ∙ ap Some first)).1 in
+    let ids_up = Ascending-map {Under = λ x y. nat_cmp x y ≡ Less} (λ (row : NodeRow). row.id) rows (λ x y less. less) (Ascending-from_sorted rows up) in
+    along-at (node_numbers rows) ys d (IsDistinct-from_Ascending (node_numbers rows) ids_up) (length-map rows (λ (row : NodeRow). row.id) ∙ long)
+    (At-same same (At-map (λ (row : NodeRow). row.id) w.1))
+along-node rows ys node d up long (Err at) range answer =
+    let none = row_of-search rows node up (Err at) range answer in
+    along-nowhere (node_numbers rows) ys node
+    (λ m. let w = Mem-unmap (λ (row : NodeRow). row.id) rows m in
+    false≢true (sym (ap is_some none) ∙ has_row rows w.1 w.2))
+
+pub along-edge : (xs ys : List ℕ) (edge d : ℕ) → IsStrictlySortedBy nat_cmp xs → length xs ≡ length ys → (r : Result ℕ ℕ)
+    → IsSearchInRange r (length xs) → IsBinarySearchResult (λ other. nat_cmp other edge) xs r
+    → MatchResult r (λ at. along xs ys edge ≡ get_or ys at d) (λ _. along xs ys edge ≡ edge)
+along-edge xs ys edge d up long (Ok at) range answer =
+    let w = At-total xs at range in
+    let found = find-search nat_cmp_total (λ other. other) edge (λ (other : ℕ). other == edge) (λ other. eqb-nat_cmp other edge) xs (Ascending-from_sorted xs up) (Ok at) range answer in
+    let first : get_or xs at w.0 ≡ w.0 = get_or-At xs w.0 w.1 in
+    let same : w.0 ≡ edge = (member_from_edge_of xs edge (found w.0 ∙ ap Some first)).1 in
+    along-at xs ys d (IsDistinct-from_Ascending xs (Ascending-from_sorted xs up)) long (At-same same w.1)
+along-edge xs ys edge d up long (Err at) range answer =
+    let none = edge_of-search xs edge up (Err at) range answer in
+    along-nowhere xs ys edge (λ m. false≢true (none ∙ has_edge xs m))

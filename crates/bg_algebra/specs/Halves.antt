@@ -1,9 +1,10 @@
 -- A bigraph put together of its places, its links and the controls of its nodes.
-use Rattle.std.specs.Prelude.{ℕ, List, [], ◌∷◌}
+use Rattle.std.specs.Prelude.{List, [], ◌∷◌, map}
 use Rattle.std.specs.Ordering.{nat_cmp, on}
 use Rattle.std.specs.declared.cmp.Ordering.{Ordering}
 use Rattle.bg_base.specs.declared.big.NodeRow.{NodeRow}
 use Rattle.bg_base.specs.declared.big.Big.{Big}
+use Rattle.bg_base.specs.Products.{place_in_one}
 use Rattle.bg_place.specs.declared.graph.ParentRow.{ParentRow}
 use Rattle.bg_place.specs.declared.graph.Places.{Places}
 use Rattle.bg_link.specs.declared.graph.PortRow.{PortRow}
@@ -38,3 +39,11 @@ joined places links controls =
       regions = places.regions;
       outer = links.outer;
     }
+
+-- ---- places with one region in place of all
+
+abbrev pub parent_in_one : ParentRow → ParentRow
+parent_in_one row = record row { parent = place_in_one row.parent }
+
+abbrev pub places_in_one : Places → Places
+places_in_one places = record { regions = 1; sites = map place_in_one places.sites; parents = map parent_in_one places.parents }

@@ -1,14 +1,17 @@
 //! Elementary bigraphs: those from which all others are made by composition and products.
-ghost use Rattle.std.specs.Prelude.{◌≡◌, ◌<◌, ◌-◌, ◌^◌, List, [], ◌∷◌, length, map, IfOk};
+ghost use Rattle.std.specs.Prelude.{◌≡◌, ◌<◌, ◌-◌, ◌^◌, List, [], ◌∷◌, false, length, map, IfOk};
 ghost use Rattle.std.specs.List.Sorted.{IsStrictlySortedBy};
 ghost use Rattle.bg_base.specs.declared.names.Place.TheVariants.{Region};
+ghost use Rattle.bg_base.specs.declared.names.Link.TheVariants.{Outer};
 ghost use Rattle.bg_base.specs.declared.signature.Control.{Control};
 ghost use Rattle.bg_base.specs.Order.{name_cmp};
-ghost use Rattle.bg_base.specs.Bigraph.{IsValid, IsValidUnder};
+ghost use Rattle.bg_base.specs.Bigraph.{IsValid, IsValidUnder, arity_of, is_atomic_control};
 ghost use Rattle.bg_base.specs.Elementary as elementary;
 
-use bg_base::{Big, InnerRow, Link, Name, Place};
+use bg_base::{Big, InnerRow, Link, Name, NodeRow, Place, PortLinks};
+use bg_link::name_set;
 use bg_lists::{Duplicate, Mem, Rows, copies};
+use smallvec::SmallVec;
 use std::alloc::Global;
 
 /// Nothing at all: the identity of the interface without places and names. Takes no memory.
@@ -136,4 +139,65 @@ pub fn idle(alloc: Global, names: &[Name]) -> Mem<Big>
         regions: 0,
         outer: Rows::from_vec(copies(alloc, names)?),
     })
+}
+
+/// A node alone in a region with a site in it (Milner, chapter 3: ion). Its ports are tied to the names in their order,
+/// which may repeat. Costs time n log n, and memory n, in the number of names.
+pub fn ion(alloc: Global, control: u32, node: u32, names: &[Name]) -> Mem<Big>
+    requires few { length names.now < 2 ^ 32 - 1 }
+    ensures value { IfOk result (λ big. big ≡ elementary.ion control node names.now) }
+    ensures valid { IfOk result IsValid }
+    ensures fits { (signature : List Control) → control < length signature → length names.now ≡ arity_of signature control
+        → is_atomic_control signature control ≡ false → IfOk result (IsValidUnder signature) }
+{
+    let mut sites = Vec::new(alloc);
+    sites.push(Place::Node(node))?;
+    let whole = molecule(alloc, control, node, names, Rows::from_vec(sites))?;
+    Ok(whole)
+}
+
+/// A node alone in a region with nothing in it (Milner, chapter 3: atom). Its ports are tied to the names in their order,
+/// which may repeat. Costs time n log n, and memory n, in the number of names.
+pub fn atom(alloc: Global, control: u32, node: u32, names: &[Name]) -> Mem<Big>
+    requires few { length names.now < 2 ^ 32 - 1 }
+    ensures value { IfOk result (λ big. big ≡ elementary.atom control node names.now) }
+    ensures valid { IfOk result IsValid }
+    ensures fits { (signature : List Control) → control < length signature → length names.now ≡ arity_of signature control
+        → IfOk result (IsValidUnder signature) }
+{
+    let whole = molecule(alloc, control, node, names, Rows::from_vec(Vec::new(alloc)))?;
+    Ok(whole)
+}
+
+/// A node alone in a region, with these sites.
+fn molecule(alloc: Global, control: u32, node: u32, names: &[Name], sites: Rows<Place>) -> Mem<Big>
+    requires few { length names.now < 2 ^ 32 - 1 }
+    ensures { IfOk result (λ big. big ≡ elementary.molecule control node names.now sites) }
+{
+    let mut nodes = Vec::new(alloc);
+    nodes.push(NodeRow {
+        id: node,
+        control,
+        parent: Place::Region(0),
+        links: PortLinks::from_small_vec(open_links(alloc, names)?),
+    })?;
+    Ok(Big {
+        nodes: Rows::from_vec(nodes),
+        edges: Rows::from_vec(Vec::new(alloc)),
+        sites,
+        inner: Rows::from_vec(Vec::new(alloc)),
+        regions: 1,
+        outer: name_set(copies(alloc, names)?)?,
+    })
+}
+
+/// The names as links.
+fn open_links(alloc: Global, names: &[Name]) -> Mem<SmallVec<Link, 4>>
+    ensures { IfOk result (λ made. made.items ≡ map Outer names.now) }
+{
+    let mut made = SmallVec::new(alloc);
+    for name in names {
+        made.push(Link::Outer(name.copy(alloc)?))?;
+    }
+    Ok(made)
 }

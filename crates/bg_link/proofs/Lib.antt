@@ -2,3 +2,4 @@ pub mod PortLaws
 pub mod RankLaws
 pub mod PointLaws
 pub mod GroupLaws
+pub mod WholeLaws

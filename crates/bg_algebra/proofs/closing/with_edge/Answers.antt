@@ -1,9 +1,6 @@
-use Rattle.std.proofs.Common.{◌≡◌, ℕ, List, [], ◌∷◌, ◌++◌, IfOk, IsPermutation, ◌∙◌, ap, subst, sym}
+use Rattle.std.proofs.Common.{◌≡◌, ℕ, List, [], ◌∷◌, ◌++◌, IfOk, IsPermutation, ◌∙◌, ap, subst}
 use Rattle.std.proofs.lemmas.Cmp.{nat_cmp_total}
-use Rattle.bg_lists.specs.Lists.{sort, put}
-use Rattle.bg_lists.specs.Orders.{before}
 use Rattle.bg_lists.proofs.Sorts.{sorted_by}
-use Rattle.bg_lists.proofs.Ascents.{Ascending-from_sorted}
 use Rattle.bg_algebra.proofs.Changes.{with_edge_distinct, put_is_sort}
 use Rattle.bg_algebra.proofs.closing.with_edge.Goals as goal
 

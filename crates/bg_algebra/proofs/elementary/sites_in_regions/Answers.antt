@@ -1,4 +1,4 @@
-use Rattle.std.proofs.Common.{ℕ, refl, arith}
+use Rattle.std.proofs.Common.{refl, arith}
 use Rattle.bg_base.specs.declared.names.Place.TheVariants.{Region}
 use Rattle.bg_base.specs.Elementary.{counted}
 use Rattle.bg_algebra.proofs.Nested.{pushed_counted, counted_few}

@@ -1,4 +1,4 @@
-use Rattle.std.proofs.Common.{◌≡◌, map, ℕ}
+use Rattle.std.proofs.Common.{◌≡◌, map}
 use Rattle.bg_base.specs.declared.names.Place.TheVariants.{Region}
 use Rattle.bg_base.specs.Elementary.{counted}
 use Rattle.bg_algebra.proofs.elementary.sites_in_regions.Given as goal

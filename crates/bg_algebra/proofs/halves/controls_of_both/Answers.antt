@@ -1,4 +1,4 @@
-use Rattle.std.proofs.Common.{◌≡◌, ◌++◌, List, [], map, rules, ap, subst, ◌∙◌, IsPermutation}
+use Rattle.std.proofs.Common.{◌≡◌, ◌++◌, List, map, rules, ap, subst, ◌∙◌, IsPermutation}
 use Rattle.std.proofs.lemmas.List.Sorted.{answers_always}
 use Rattle.bg_lists.proofs.Sorts.{sorted_by}
 use Rattle.bg_algebra.specs.declared.halves.ControlRow.{ControlRow}
