@@ -22,6 +22,8 @@ pub enum Call {
     Depth,
     /// `subtree` of the node that lies in the region.
     Subtree,
+    /// Another bigraph of that shape is made and checked besides, and no more is done.
+    Pair,
     /// `compose_places` with another bigraph of that shape.
     Compose,
     /// `tensor_places` with another bigraph of that shape.
@@ -29,13 +31,14 @@ pub enum Call {
 }
 
 impl Call {
-    pub fn all() -> [Call; 7] {
+    pub fn all() -> [Call; 8] {
         [
             Call::Made,
             Call::Forest,
             Call::Children,
             Call::Depth,
             Call::Subtree,
+            Call::Pair,
             Call::Compose,
             Call::Tensor,
         ]
@@ -48,6 +51,7 @@ impl Call {
             Call::Children => "children",
             Call::Depth => "depth",
             Call::Subtree => "subtree",
+            Call::Pair => "pair",
             Call::Compose => "compose",
             Call::Tensor => "tensor",
         }
@@ -60,6 +64,7 @@ impl Call {
             "children" => Some(Call::Children),
             "depth" => Some(Call::Depth),
             "subtree" => Some(Call::Subtree),
+            "pair" => Some(Call::Pair),
             "compose" => Some(Call::Compose),
             "tensor" => Some(Call::Tensor),
             _ => None,
@@ -223,7 +228,7 @@ fn tally_of_two(alloc: Global, call: Call, upper: &Big, lower: &Big) -> Mem<Opti
     match call {
         Call::Compose => composed(alloc, upper, lower),
         Call::Tensor => side_by_side(alloc, upper, lower),
-        _ => Ok(Some(nodes_of(lower))),
+        _ => Ok(Some(nodes_of(upper))),
     }
 }
 
@@ -235,7 +240,7 @@ pub fn tally_of(alloc: Global, shape: Shape, call: Call, rows: u32) -> Mem<Optio
     }
     match call {
         Call::Made => Ok(Some(nodes_of(&lower))),
-        Call::Compose | Call::Tensor => {
+        Call::Pair | Call::Compose | Call::Tensor => {
             let upper = big_of(alloc, shape, rows, rows)?;
             if !is_valid(alloc, &upper) {
                 return Ok(None);

@@ -4,7 +4,8 @@
 //!     bench_halves SHAPE CALL ROWS    one call
 //!     bench_halves ROWS               each call on each shape
 //!
-//! A shape is `chain` or `star`; a call is `made`, `forest`, `children`, `depth`, `subtree`, `compose` or `tensor`.
+//! A shape is `chain` or `star`; a call is `made`, `forest`, `children`, `depth`, `subtree`, `pair`,
+//! `compose` or `tensor`.
 #![tactic(auto)]
 
 mod calls;
