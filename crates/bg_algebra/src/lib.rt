@@ -4,12 +4,18 @@
 //! - [`AlgebraFault`]: why an operation gives no bigraph.
 #![tactic(auto)]
 
+mod closing;
 mod composition;
+mod elementary;
 mod fault;
+mod halves;
 mod through;
 
+pub use closing::close;
 pub use composition::compose;
+pub use elementary::{barren, empty, identity, idle, merger};
 pub use fault::AlgebraFault;
+pub use halves::ControlRow;
 
 #[cfg(test)]
 mod tests;

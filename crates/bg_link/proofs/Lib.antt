@@ -1,0 +1,4 @@
+pub mod PortLaws
+pub mod RankLaws
+pub mod PointLaws
+pub mod GroupLaws
