@@ -1,8 +1,7 @@
 -- Laws of the search for the nodes that lie in a node, where no climb needs more moves than there are rows.
-use Rattle.std.proofs.Common.{◌≡◌, ℕ, zero, suc, ◌<◌, ◌==◌, ◌||◌, Bool, Option, Some, None, option_map, unwrap_or, List, [], ◌∷◌, length, slice_get, slice_set, length-set, refl, sym, ap, ◌∙◌, arith, inl, inr}
+use Rattle.std.proofs.Common.{◌≡◌, ℕ, zero, suc, ◌<◌, ◌==◌, ◌||◌, Bool, Option, Some, None, option_map, unwrap_or, List, [], ◌∷◌, length, slice_get, slice_set, length-set, refl, sym, ap, ◌∙◌, arith, eqb-true, inl, inr}
 use Rattle.std.specs.List.{list_any}
 use Rattle.std.proofs.lemmas.Bool.{false_from_ne_true, cases_eq}
-use Rattle.std.proofs.Common.{eqb-true}
 use Rattle.std.proofs.lemmas.Option.{slice_get_within}
 use Rattle.bg_lists.proofs.Words.{member_from_find}
 use Rattle.bg_base.specs.declared.names.Place.{Place}
@@ -28,6 +27,7 @@ get-set_same (y ∷ ys) zero (suc at) x same inside = absurd (omega (arith, same
 get-set_same (y ∷ ys) (suc k) zero x same inside = absurd (omega (arith, same))
 get-set_same (y ∷ ys) (suc k) (suc at) x same inside = get-set_same ys k at x (omega (arith, same)) (omega (arith, inside))
 
+-- what is known of a row is its mark
 given : (mark : Option (Option Bool)) (inside : Bool) → unwrap_or mark None ≡ Some inside → mark ≡ Some (Some inside)
 given None inside e = cc
 given (Some mark) inside e = ap Some e
@@ -35,6 +35,7 @@ given (Some mark) inside e = ap Some e
 -- ---- climbs and marks
 
 module _ (rows : List ParentRow) (upper : ℕ) where
+  -- where there is a row there are rows
   some_row : (node at : ℕ) (row : ParentRow) → IsRowOf rows node at row → 0 < length rows
   some_row node at row is =
       let inside = slice_get_within rows at row is.there in omega (arith, inside)
@@ -46,10 +47,11 @@ module _ (rows : List ParentRow) (upper : ℕ) where
 
   module _ (ok : IsSettled rows) where
     -- a climb from a node meets it and what it lies in
-    pub climb_within : 0 < length rows → (node : ℕ)
+    climb_within : 0 < length rows → (node : ℕ)
         → is_within rows upper node ≡ list_any (λ n. n == upper) (climb rows (length rows) (Node node))
     climb_within some node = ap (list_any (λ n. n == upper)) (ok.settled some node)
 
+    -- a climb from a place meets the upper node where the place lies in it
     climb_lies_in : 0 < length rows → (place : Place)
         → list_any (λ n. n == upper) (climb rows (length rows) place) ≡ lies_in rows upper place
     climb_lies_in some (Node node) = sym (climb_within some node)

@@ -70,13 +70,7 @@ fn lies_within(rows: &[ParentRow], marks: &[Option<bool>], upper: u32, lower: u3
 }
 
 /// Marks the rows from `lower` upwards as `lower` is known, as far as they are not yet marked; none from `upper` on.
-fn mark_path(
-    rows: &[ParentRow],
-    marks: &mut [Option<bool>],
-    upper: u32,
-    lower: u32,
-    inside: bool,
-)
+fn mark_path(rows: &[ParentRow], marks: &mut [Option<bool>], upper: u32, lower: u32, inside: bool)
     requires ascending { IsStrictlySortedBy parent_cmp rows.now }
     requires settled { IsSettled rows.now }
     requires marks { AreMarked rows.now upper marks.old }

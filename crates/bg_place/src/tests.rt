@@ -5,7 +5,9 @@ ghost use Rattle.bg_base.specs.declared.big.NodeRow.{NodeRow as RowOfNode};
 ghost use Rattle.bg_base.specs.Bigraph.{IsValid, node_cmp, row_of};
 
 use crate::{Forest, Places, compose_places, place_through, tensor_places};
-use bg_base::{Big, Ident, Kind, Label, NodeRow, Place, PortLinks, Signature, SignatureFault, find_node};
+use bg_base::{
+    Big, Ident, Kind, Label, NodeRow, Place, PortLinks, Signature, SignatureFault, find_node,
+};
 use bg_lists::{OutOfMemory, Rows};
 use smallvec::SmallVec;
 use std::alloc::Global;
@@ -169,7 +171,10 @@ fn a_subtree_has_nodes_of_every_depth(rt: HostRuntime) -> Result<(), Fail> {
     let alloc = rt.alloc();
     let forest = forest(&rt, alloc)?;
     assert!(rt; forest.contains(0));
-    assert_eq!(rt; forest.subtree(alloc, 0)?.as_slice(), [0, 3, 7, 9].as_slice());
+    assert_eq!(rt;
+        forest.subtree(alloc, 0)?.as_slice(),
+        [0, 3, 7, 9].as_slice()
+    );
     assert!(rt; forest.contains(3));
     assert_eq!(rt; forest.subtree(alloc, 3)?.as_slice(), [3, 7].as_slice());
     Ok(())
@@ -193,7 +198,13 @@ fn regions_go_into_sites(rt: HostRuntime) -> Result<(), Fail> {
         (5, Place::Node(1)),
         (7, Place::Node(5)),
     ];
-    expect_places(&rt, &places, 1, &[Place::Region(0), Place::Node(7)], &parents);
+    expect_places(
+        &rt,
+        &places,
+        1,
+        &[Place::Region(0), Place::Node(7)],
+        &parents,
+    );
     Ok(())
 }
 

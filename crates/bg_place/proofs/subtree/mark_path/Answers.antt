@@ -10,5 +10,5 @@ loop-preserved c =
       rw c.set_mark.ensures
           (marked_more c.args.rows.now c.args.upper c.loop.marks c.in-Node.node c.in-Some.at c.in-Some.row c.args.inside c.loop.invariant.0 known c.in-Some.ensures),
       known_step c.args.rows.now c.args.upper c.requires.settled c.in-Node.node c.in-Some.at c.in-Some.row c.args.inside known
-      c.if-node-upper.false c.in-Some.ensures,
+          c.if-node-upper.false c.in-Some.ensures,
     )
