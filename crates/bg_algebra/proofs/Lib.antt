@@ -5,3 +5,5 @@ pub mod Renamed
 pub mod Nested
 pub mod Joining
 pub mod Merged
+pub mod Through
+pub mod CompositionLaws
