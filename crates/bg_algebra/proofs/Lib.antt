@@ -7,3 +7,4 @@ pub mod Joining
 pub mod Merged
 pub mod Through
 pub mod CompositionLaws
+pub mod ProductLaws
