@@ -8,3 +8,4 @@ pub mod Merged
 pub mod Through
 pub mod CompositionLaws
 pub mod ProductLaws
+pub mod InterchangeLaw
