@@ -1,29 +1,26 @@
 -- Composition is associative, and identities are neutral for it.
-use Rattle.std.proofs.Common.{◌≡◌, ℕ, zero, suc, ◌+◌, ◌<◌, List, [], ◌∷◌, ◌++◌, map, length, get_or, nat_cmp, refl, sym, ap, subst, ◌∙◌, ◌⊎◌, inl, inr, arith, append-nil, Less, Some, unwrap_or, option_map}
+use Rattle.std.proofs.Common.{◌≡◌, ℕ, zero, suc, ◌+◌, List, map, length, get_or, nat_cmp, refl, sym, ap, ◌∙◌, inl, inr, arith, append-nil, unwrap_or, option_map}
 use Rattle.std.specs.List.Sorted.{IsStrictlySortedBy}
 use Rattle.std.proofs.lemmas.Cmp.{nat_cmp_total}
 use Rattle.std.proofs.lemmas.List.{length-map, map-id}
-use Rattle.bg_lists.specs.Lists.{Mem, sort, Disjoint, At, at_here, at_there}
+use Rattle.bg_lists.specs.Lists.{Mem, sort, At, at_here, at_there}
 use Rattle.bg_lists.specs.Orders.{before}
 use Rattle.bg_lists.proofs.Comparisons.{Less-not_back}
-use Rattle.bg_lists.proofs.Members.{Mem-same, Mem-unmap, map_agree, map-map}
-use Rattle.bg_lists.proofs.Places.{same_by_places, At-map, At-unmap, get_or-At, At-below}
+use Rattle.bg_lists.proofs.Members.{Mem-same, map_agree, map-map}
+use Rattle.bg_lists.proofs.Places.{same_by_places, At-unmap, get_or-At}
 use Rattle.bg_lists.proofs.Ascents.{same_ascending, Ascending-from_sorted}
 use Rattle.bg_lists.proofs.Sorting.{sort-ascending}
-use Rattle.bg_base.specs.declared.names.Name.{Name}
-use Rattle.bg_base.specs.declared.names.Place.{Place}
-use Rattle.bg_base.specs.declared.names.Place.TheVariants.{Node, Region}
-use Rattle.bg_base.specs.declared.names.Link.{Link}
-use Rattle.bg_base.specs.declared.names.Link.TheVariants.{Edge, Outer}
+use Rattle.bg_base.specs.declared.names.Place.TheVariants.{Region}
+use Rattle.bg_base.specs.declared.names.Link.TheVariants.{Outer}
 use Rattle.bg_base.specs.declared.big.NodeRow.{NodeRow}
 use Rattle.bg_base.specs.declared.big.InnerRow.{InnerRow}
 use Rattle.bg_base.specs.declared.big.Big.{Big}
-use Rattle.bg_base.specs.Bigraph.{IsValid, node_cmp, inner_of}
-use Rattle.bg_base.specs.Composition.{compose, inner_names, place_through, link_through, row_through, inner_through, FacesAgree, SupportsApart}
+use Rattle.bg_base.specs.Bigraph.{IsValid, node_cmp}
+use Rattle.bg_base.specs.Composition.{compose, inner_names, place_through, row_through, inner_through, FacesAgree, SupportsApart}
 use Rattle.bg_base.specs.Elementary.{counted, row_to_itself, identity}
 use Rattle.bg_base.proofs.LookUps.{node_cmp_total, inner_of-member}
-use Rattle.bg_base.proofs.Composed.{SupportsApart-from_members, nodes_apart, edges_apart, Mem-compose_upper, Mem-compose_lower, Mem-compose_cases, Mem-compose_edge_upper, Mem-compose_edge_lower, Mem-compose_edge_cases, compose_nodes_ascend, compose_edges_ascend, compose_nodes, compose_edges, compose_sites, compose_inner, compose_regions, compose_outer}
-use Rattle.bg_algebra.proofs.Nested.{length-counted, Mem-counted}
+use Rattle.bg_base.proofs.Composed.{SupportsApart-from_members, nodes_apart, edges_apart, Mem-compose_upper, Mem-compose_lower, Mem-compose_cases, Mem-compose_edge_upper, Mem-compose_edge_lower, Mem-compose_edge_cases, compose_nodes_ascend, compose_edges_ascend, compose_sites, compose_inner, compose_regions, compose_outer}
+use Rattle.bg_algebra.proofs.Nested.{length-counted}
 use Rattle.bg_algebra.proofs.Through.{row_twice, site_twice, inner_twice, row_same, place_same, inner_same}
 
 -- bigraphs with equal parts are equal

@@ -1,7 +1,6 @@
 -- Composition and tensor product interchange: composing side by side is the same as putting compositions side by side.
-use Rattle.std.proofs.Common.{◌≡◌, ℕ, ◌+◌, ◌<◌, List, ◌++◌, map, length, get_or, nat_cmp, IsTrue, All, Some, true, unwrap_or, option_map, refl, sym, ap, subst, ◌∙◌, ◌⊎◌, inl, inr, arith}
+use Rattle.std.proofs.Common.{◌≡◌, ℕ, ◌+◌, ◌++◌, map, length, get_or, IsTrue, true, unwrap_or, option_map, refl, sym, ap, subst, ◌∙◌, inl, inr}
 use Rattle.std.specs.List.{list_all}
-use Rattle.std.specs.List.Sorted.{IsStrictlySortedBy}
 use Rattle.std.proofs.lemmas.List.{length-map, length-append, map-append, get_or_append_left, get_or-append-add, get_or-map}
 use Rattle.bg_lists.specs.Lists.{Mem, sort}
 use Rattle.bg_lists.specs.Orders.{before}
@@ -17,16 +16,17 @@ use Rattle.bg_base.specs.declared.big.NodeRow.{NodeRow}
 use Rattle.bg_base.specs.declared.big.InnerRow.{InnerRow}
 use Rattle.bg_base.specs.declared.big.Big.{Big}
 use Rattle.bg_base.specs.Order.{name_cmp}
-use Rattle.bg_base.specs.Bigraph.{IsValid, node_cmp, inner_cmp, has_place, has_link, inner_of}
+use Rattle.bg_base.specs.Bigraph.{IsValid, inner_cmp, has_place, has_link}
 use Rattle.bg_base.specs.Composition.{compose, inner_names, place_through, link_through, row_through, inner_through, FacesAgree, SupportsApart}
 use Rattle.bg_base.specs.Products.{place_beside, row_beside, tensor, InnerApart, OuterApart}
 use Rattle.bg_base.proofs.LookUps.{inner_of-member, member_from_has_outer}
-use Rattle.bg_base.proofs.Composed.{SupportsApart-from_members, nodes_apart, edges_apart, Mem-compose_upper, Mem-compose_lower, Mem-compose_cases, Mem-compose_edge_upper, Mem-compose_edge_lower, Mem-compose_edge_cases, compose_nodes_ascend, compose_edges_ascend, compose_sites, compose_inner, compose_regions, compose_outer}
+use Rattle.bg_base.proofs.Composed.{SupportsApart-from_members, nodes_apart, edges_apart, Mem-compose_upper, Mem-compose_lower, Mem-compose_cases, Mem-compose_edge_upper, Mem-compose_edge_lower, Mem-compose_edge_cases, compose_sites, compose_inner, compose_regions, compose_outer}
 use Rattle.bg_base.proofs.ComposedValid.{compose_valid}
 use Rattle.bg_algebra.proofs.Beside.{inner_apart, outer_apart, tensor_valid}
 use Rattle.bg_algebra.proofs.CompositionLaws.{same_parts, same_nodes, same_edges}
 use Rattle.bg_algebra.proofs.Through.{has_site}
-use Rattle.bg_algebra.proofs.ProductLaws.{Apart, Mem-tensor_left, Mem-tensor_right, Mem-tensor_cases, Mem-tensor_edge, Mem-tensor_edge_cases, Mem-tensor_inner, Mem-tensor_inner_cases, tensor_sites, tensor_regions, tensor_inner, tensor_outer, InnerApart-from_members, OuterApart-from_members}
+use Rattle.bg_algebra.specs.Laws.{Apart}
+use Rattle.bg_algebra.proofs.ProductLaws.{Mem-tensor_left, Mem-tensor_right, Mem-tensor_cases, Mem-tensor_edge, Mem-tensor_edge_cases, Mem-tensor_inner, tensor_sites, tensor_regions, tensor_inner, tensor_outer, InnerApart-from_members, OuterApart-from_members}
 
 -- G over F, beside H over E
 module _ (g h f e : Big) (g_valid : IsValid g) (h_valid : IsValid h) (f_valid : IsValid f) (e_valid : IsValid e)

@@ -9,3 +9,4 @@ pub mod Through
 pub mod CompositionLaws
 pub mod ProductLaws
 pub mod InterchangeLaw
+pub mod Framed

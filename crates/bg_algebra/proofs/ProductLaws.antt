@@ -1,33 +1,29 @@
 -- The tensor product is associative, the empty bigraph is neutral for it, and composition and tensor product interchange.
-use Rattle.std.proofs.Common.{◌≡◌, ℕ, zero, ◌+◌, ◌<◌, List, [], ◌∷◌, ◌++◌, map, length, get_or, nat_cmp, is_some, false, true, All, IsTrue, Some, unwrap_or, option_map, refl, sym, ap, subst, ◌∙◌, ◌⊎◌, inl, inr, arith, append-nil, Less}
-use Rattle.std.specs.List.{list_all}
+use Rattle.std.proofs.Common.{◌≡◌, ℕ, ◌+◌, List, ◌++◌, map, nat_cmp, is_some, false, refl, sym, ap, ◌∙◌, ◌⊎◌, inl, inr, arith, append-nil}
 use Rattle.std.specs.List.Sorted.{IsStrictlySortedBy}
 use Rattle.std.proofs.lemmas.Cmp.{nat_cmp_total}
-use Rattle.std.proofs.lemmas.List.{length-map, map-id, map-append, append_assoc, get_or_append_left, get_or-append-add, get_or-map, length-append}
-use Rattle.bg_lists.specs.Lists.{Mem, sort, Disjoint}
+use Rattle.std.proofs.lemmas.List.{map-id, map-append, append_assoc}
+use Rattle.bg_lists.specs.Lists.{Mem, sort}
 use Rattle.bg_lists.specs.Orders.{before}
 use Rattle.bg_lists.proofs.Comparisons.{Less-not_back}
-use Rattle.bg_lists.proofs.Members.{Mem-same, Mem-unmap, map_agree, map-map, Mem-append_left, Mem-append_right, Mem-append_cases}
+use Rattle.bg_lists.proofs.Members.{Mem-same, map_agree, map-map, Mem-append_left, Mem-append_right, Mem-append_cases}
 use Rattle.bg_lists.proofs.Ascents.{same_ascending, Ascending-from_sorted}
-use Rattle.bg_lists.proofs.Sorting.{Mem-sort, Mem-unsort, sort-ascending, map-sort}
-use Rattle.bg_lists.proofs.Words.{All-member, All-from_members, list_all-member}
+use Rattle.bg_lists.proofs.Sorting.{Mem-sort, Mem-unsort, sort-ascending}
+use Rattle.bg_lists.proofs.Words.{All-from_members}
 use Rattle.bg_base.specs.OrderLaws.{name_cmp_total}
 use Rattle.bg_base.specs.declared.names.Name.{Name}
 use Rattle.bg_base.specs.declared.names.Place.{Place}
 use Rattle.bg_base.specs.declared.names.Place.TheVariants.{Node, Region}
-use Rattle.bg_base.specs.declared.names.Link.{Link}
-use Rattle.bg_base.specs.declared.names.Link.TheVariants.{Edge, Outer}
 use Rattle.bg_base.specs.declared.big.NodeRow.{NodeRow}
 use Rattle.bg_base.specs.declared.big.InnerRow.{InnerRow}
 use Rattle.bg_base.specs.declared.big.Big.{Big}
 use Rattle.bg_base.specs.Order.{name_cmp}
-use Rattle.bg_base.specs.Bigraph.{IsValid, node_cmp, inner_cmp, has_place, has_link, inner_of, outer_of}
-use Rattle.bg_base.specs.Composition.{compose, inner_names, place_through, link_through, row_through, inner_through, FacesAgree, SupportsApart}
+use Rattle.bg_base.specs.Bigraph.{IsValid, node_cmp, inner_cmp, inner_of, outer_of}
 use Rattle.bg_base.specs.Elementary.{empty}
 use Rattle.bg_base.specs.Products.{InnerApart, OuterApart, place_beside, row_beside, tensor}
-use Rattle.bg_base.proofs.LookUps.{node_cmp_total, inner_cmp_total, inner_of-member, no_inner, no_outer, region_from_has, member_from_has_outer}
-use Rattle.bg_base.proofs.Composed.{SupportsApart-from_members, nodes_apart, edges_apart, Mem-compose_upper, Mem-compose_lower, Mem-compose_cases, Mem-compose_edge_upper, Mem-compose_edge_lower, Mem-compose_edge_cases, compose_nodes_ascend, compose_edges_ascend, compose_sites, compose_inner, compose_regions, compose_outer}
-use Rattle.bg_base.proofs.ComposedValid.{compose_valid}
+use Rattle.bg_base.proofs.LookUps.{node_cmp_total, inner_cmp_total, no_inner, no_outer}
+use Rattle.bg_base.proofs.Composed.{SupportsApart-from_members, nodes_apart, edges_apart}
+use Rattle.bg_algebra.specs.Laws.{Apart}
 use Rattle.bg_algebra.proofs.Beside.{inner_apart, outer_apart, Mem-beside_left, Mem-beside_right, Mem-beside_cases, Mem-beside_edge, Mem-beside_edge_cases, Mem-beside_inner_cases, tensor_valid}
 use Rattle.bg_algebra.proofs.CompositionLaws.{same_parts, same_nodes, same_edges}
 
@@ -114,12 +110,6 @@ same_inner_rows xs ys up vp into back = same_ascending (Less-not_back inner_cmp_
 same_names : (xs ys : List Name) → IsStrictlySortedBy name_cmp xs → IsStrictlySortedBy name_cmp ys
     → ((x : Name) → Mem x xs → Mem x ys) → ((x : Name) → Mem x ys → Mem x xs) → xs ≡ ys
 same_names xs ys up vp into back = same_ascending (Less-not_back name_cmp_total) xs ys (Ascending-from_sorted xs up) (Ascending-from_sorted ys vp) into back
-
--- nothing is shared
-pub record Apart (f g : Big) : Type 0 where
-  pub supports : SupportsApart f g
-  pub inner : InnerApart f g
-  pub outer : OuterApart f g
 
 valid_beside : (f g : Big) → IsValid f → IsValid g → Apart f g → IsValid (tensor f g)
 valid_beside f g f_valid g_valid apart = tensor_valid f g f_valid g_valid apart.supports apart.inner apart.outer

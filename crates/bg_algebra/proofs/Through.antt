@@ -1,11 +1,10 @@
 -- How places, links and rows go through a composition, an identity and a tensor product.
-use Rattle.std.proofs.Common.{◌≡◌, ℕ, zero, suc, cond, ◌+◌, ◌<◌, Bool, true, false, List, [], ◌∷◌, ◌++◌, map, length, find, get_or, Option, Some, None, is_some, is_eq, unwrap_or, option_map, IsTrue, All, refl, sym, ap, subst, ◌∙◌, arith}
+use Rattle.std.proofs.Common.{◌≡◌, ℕ, zero, suc, cond, ◌+◌, ◌<◌, Bool, true, List, [], ◌∷◌, map, length, find, get_or, Option, Some, None, is_some, is_eq, unwrap_or, option_map, IsTrue, refl, sym, ap, subst, ◌∙◌, arith}
 use Rattle.std.specs.List.{list_all}
 use Rattle.std.proofs.lemmas.Bool.{cond_both, cond-true, cond-false}
-use Rattle.std.proofs.lemmas.List.{get_or-map, get_or_append_left, get_or-append-add, map-id, length-map}
-use Rattle.bg_lists.specs.Lists.{Mem, At}
-use Rattle.bg_lists.proofs.Members.{Mem-map, Mem-unmap, map_agree, map-map}
-use Rattle.bg_lists.proofs.Places.{At-get_or, Mem-from_At}
+use Rattle.std.proofs.lemmas.List.{get_or-map, map-id}
+use Rattle.bg_lists.specs.Lists.{Mem}
+use Rattle.bg_lists.proofs.Members.{Mem-unmap, map_agree, map-map}
 use Rattle.bg_lists.proofs.Words.{All-member, list_all-member}
 use Rattle.bg_base.specs.declared.names.Name.{Name}
 use Rattle.bg_base.specs.declared.names.Place.{Place}
@@ -16,8 +15,8 @@ use Rattle.bg_base.specs.declared.big.NodeRow.{NodeRow}
 use Rattle.bg_base.specs.declared.big.InnerRow.{InnerRow}
 use Rattle.bg_base.specs.declared.big.Big.{Big}
 use Rattle.bg_base.specs.Order.{name_cmp}
-use Rattle.bg_base.specs.Bigraph.{IsValid, inner_cmp, has_place, has_link, inner_of}
-use Rattle.bg_base.specs.Composition.{compose, inner_names, place_through, link_through, row_through, inner_through, FacesAgree}
+use Rattle.bg_base.specs.Bigraph.{IsValid, has_place, has_link, inner_of}
+use Rattle.bg_base.specs.Composition.{compose, place_through, link_through, row_through, inner_through, FacesAgree}
 use Rattle.bg_base.specs.Elementary.{counted, row_to_itself, identity}
 use Rattle.bg_base.proofs.NameLaws.{same_name_from_test}
 use Rattle.bg_base.proofs.LookUps.{has_inner, region_from_has, member_from_has_outer}

@@ -1,2 +1,4 @@
 pub mod Faults
 pub mod Halves
+pub mod Frame
+pub mod Laws

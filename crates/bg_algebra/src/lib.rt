@@ -5,6 +5,7 @@
 //! - [`tensor`], [`parallel`], [`merge`]: products. [`nest`]: nesting. [`close`]: a name made an edge.
 //! - [`lean`]: idle edges dropped. [`rename`]: nodes and edges numbered anew.
 //! - [`ion`], [`atom`], [`identity`], [`idle`], [`merger`], [`barren`], [`empty`]: elementary bigraphs.
+//! - [`laws`]: what a reader of Milner expects of these operations, proved.
 //! - [`AlgebraFault`]: why an operation gives no bigraph.
 #![tactic(auto)]
 
@@ -16,6 +17,7 @@ mod elementary;
 mod fault;
 mod halves;
 mod idle_edges;
+pub mod laws;
 mod nesting;
 mod products;
 mod regions;
