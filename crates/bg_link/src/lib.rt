@@ -20,3 +20,6 @@ pub use graph::{Links, Point, PortRow, is_closed, links_of};
 pub use products::{name_set, share_links, tensor_links};
 pub use through::{inner_through, link_through, links_through};
 pub use wiring::Wiring;
+
+#[cfg(test)]
+mod tests;
