@@ -1,5 +1,5 @@
 -- Laws of points in groups by their links: the points of one link are a part of the points by the positions of links.
-use Rattle.std.proofs.Common.{◌≡◌, ℕ, ◌+◌, ◌-◌, ◌<◌, ◌≤◌, ◌==◌, Bool, true, false, cond, List, [], ◌∷◌, ◌++◌, length, map, filter, take, drop, get_or, refl, sym, ap, subst, ◌∙◌, arith, ltb, leb, is_lt, nat_cmp}
+use Rattle.std.proofs.Common.{◌≡◌, ℕ, ◌+◌, ◌-◌, ◌<◌, ◌≤◌, ◌==◌, Bool, true, false, cond, List, [], ◌∷◌, length, map, filter, take, drop, get_or, refl, sym, ap, subst, ◌∙◌, arith, ltb, leb, is_lt, nat_cmp}
 use Rattle.std.specs.List.Sorted.{IsPartitionPoint, IsPartitionedBy, IsNonDecreasingBy, IsStableBy}
 use Rattle.std.proofs.lemmas.Bool.{cond_both, cond-true, cond-false}
 use Rattle.std.proofs.lemmas.List.{length-map, get_or-map, drop-map, take-map}
@@ -9,7 +9,7 @@ use Rattle.bg_lists.specs.Lists.{Mem, here, there}
 use Rattle.bg_lists.proofs.Members.{map-map}
 use Rattle.bg_lists.proofs.Places.{At-total}
 use Rattle.bg_lists.proofs.Groups.{stable_group, group_found}
-use Rattle.bg_lists.proofs.Words.{All-member, length-filter}
+use Rattle.bg_lists.proofs.Words.{All-member}
 use Rattle.bg_base.specs.declared.names.Name.{Name}
 use Rattle.bg_base.specs.declared.names.Link.{Link}
 use Rattle.bg_base.specs.Products.{same_link}

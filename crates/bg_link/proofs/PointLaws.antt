@@ -1,6 +1,6 @@
 -- Laws of points: which there are, that they ascend, and where a link has one.
-use Rattle.std.proofs.Common.{◌≡◌, ℕ, suc, ◌+◌, ◌<◌, ◌≤◌, ◌==◌, ◌||◌, Bool, true, false, not, cond, Ordering, Less, Equal, List, [], ◌∷◌, ◌++◌, length, map, filter, nat_cmp, IsTrue, refl, sym, ap, subst, ◌∙◌, inl, inr, arith, append_assoc, append-nil, take, get_or, eqb-true}
-use Rattle.std.specs.List.{list_any, list_all, All}
+use Rattle.std.proofs.Common.{◌≡◌, ℕ, suc, ◌+◌, ◌<◌, ◌≤◌, ◌==◌, ◌||◌, Bool, true, not, Less, List, [], ◌∷◌, ◌++◌, length, map, filter, nat_cmp, IsTrue, refl, sym, ap, subst, ◌∙◌, inl, inr, arith, append_assoc, append-nil, take, get_or, eqb-true}
+use Rattle.std.specs.List.{list_any, list_all}
 use Rattle.std.specs.List.Sorted.{IsStrictlySortedBy}
 use Rattle.std.specs.Ordering.{ordering_then}
 use Rattle.std.proofs.lemmas.Bool.{cond_both, false_from_ne_true}
@@ -9,7 +9,7 @@ use Rattle.std.proofs.lemmas.List.{length-map, take_more}
 use Rattle.std.proofs.lemmas.List.Folds.{list_any-append}
 use Rattle.bg_lists.specs.Lists.{Mem, here, there}
 use Rattle.bg_lists.specs.Orders.{Ascending, asc_nil, asc_cons}
-use Rattle.bg_lists.proofs.Members.{Mem-append_left, Mem-append_right, Mem-append_cases, Mem-cons_cases, Mem-unmap}
+use Rattle.bg_lists.proofs.Members.{Mem-append_cases, Mem-unmap}
 use Rattle.bg_lists.proofs.Comparisons.{nat_cmp-lt}
 use Rattle.bg_lists.proofs.Ascents.{Ascending-map, Ascending-filter, Ascending-append, Ascending-from_sorted, sorted_from_Ascending}
 use Rattle.bg_lists.proofs.Words.{All-member, All-from_members, list_all-member}
@@ -23,7 +23,7 @@ use Rattle.bg_base.specs.Products.{same_link, has_point}
 use Rattle.bg_link.specs.declared.graph.PortRow.{PortRow}
 use Rattle.bg_link.specs.declared.graph.Links.{Links}
 use Rattle.bg_link.specs.declared.graph.Point.{Point}
-use Rattle.bg_link.specs.declared.graph.Point.TheVariants.{Port, Inner}
+use Rattle.bg_link.specs.declared.graph.Point.TheVariants.{Port}
 use Rattle.bg_link.specs.Links.{port_row, links_of, ports_from, ports_in, inner_point, all_points, point_of, points_of}
 use Rattle.bg_link.specs.Rows.{port_cmp, point_cmp, is_there, IsLinked}
 use Rattle.bg_link.proofs.PortLaws.{ports_ascend}

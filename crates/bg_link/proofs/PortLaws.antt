@@ -1,5 +1,5 @@
 -- Laws of the rows of ports: look-up and order.
-use Rattle.std.proofs.Common.{◌≡◌, ℕ, ◌==◌, List, length, map, get_or, nat_cmp, Some, None, Result, Ok, Err, MatchResult}
+use Rattle.std.proofs.Common.{◌≡◌, ℕ, ◌==◌, List, length, map, get_or, nat_cmp, Some, None, Result, MatchResult}
 use Rattle.std.specs.Cmp.{IsTotalOrder}
 use Rattle.std.specs.List.Sorted.{IsSearchInRange, IsBinarySearchResult, IsStrictlySortedBy}
 use Rattle.std.proofs.lemmas.Cmp.{on_total, nat_cmp_total}

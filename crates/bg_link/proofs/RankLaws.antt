@@ -1,6 +1,6 @@
 -- Laws of positions: what a binary search answers, and that of two links, one of which is there, the positions are equal
 -- exactly where they are the same link.
-use Rattle.std.proofs.Common.{◌≡◌, ℕ, ◌+◌, ◌<◌, ◌≤◌, ◌==◌, Bool, true, false, Ordering, Less, Equal, Greater, List, length, get_or, find, is_some, Some, Result, Ok, Err, MatchResult, nat_cmp, is_eq, refl, sym, ap, subst, ◌∙◌, inl, inr, arith, eqb-true, eq-eqb}
+use Rattle.std.proofs.Common.{◌≡◌, ℕ, ◌+◌, ◌<◌, ◌≤◌, ◌==◌, Bool, true, false, Ordering, Less, Equal, Greater, List, length, get_or, find, is_some, Result, Ok, Err, MatchResult, nat_cmp, is_eq, refl, sym, ap, subst, ◌∙◌, inl, inr, arith, eqb-true, eq-eqb}
 use Rattle.std.specs.Cmp.{IsTotalOrder}
 use Rattle.std.specs.List.{position_or_len}
 use Rattle.std.specs.List.Sorted.{IsSearchInRange, IsBinarySearchResult, IsPartitionPoint, IsStrictlySortedBy}
@@ -21,7 +21,6 @@ use Rattle.bg_base.specs.declared.names.Link.{Link}
 use Rattle.bg_base.specs.declared.names.Link.TheVariants.{Edge, Outer}
 use Rattle.bg_base.specs.Order.{name_cmp}
 use Rattle.bg_base.specs.OrderLaws.{name_cmp_total}
-use Rattle.bg_base.specs.Bigraph.{edge_of, outer_of}
 use Rattle.bg_base.specs.Products.{same_link}
 use Rattle.bg_base.proofs.NameLaws.{same_name_from_test, test_same_name}
 use Rattle.bg_link.specs.Rows.{is_there, link_rank}

@@ -1,12 +1,11 @@
 -- Laws of composition and products: the rows of ports of the whole, and that names and nodes are apart.
-use Rattle.std.proofs.Common.{◌≡◌, ℕ, Bool, true, false, Ordering, Less, List, ◌++◌, map, find, is_some, IsNone, nat_cmp, is_eq, refl, sym, ap, ◌∙◌}
-use Rattle.std.specs.List.{IsDistinct, All}
-use Rattle.std.specs.List.Sorted.{IsStrictlySortedBy}
+use Rattle.std.proofs.Common.{◌≡◌, Bool, false, List, ◌++◌, map, find, is_some, nat_cmp, refl, sym, ap, ◌∙◌}
+use Rattle.std.specs.List.{IsDistinct}
 use Rattle.std.specs.Ordering.{eq_by_cmp}
 use Rattle.std.proofs.lemmas.Bool.{false≢true, false_from_ne_true}
 use Rattle.std.proofs.lemmas.List.{map-append}
 use Rattle.bg_lists.specs.Lists.{Mem, sort}
-use Rattle.bg_lists.specs.Orders.{before, set_of}
+use Rattle.bg_lists.specs.Orders.{before}
 use Rattle.bg_lists.proofs.Members.{Mem-unmap, map-map}
 use Rattle.bg_lists.proofs.Ascents.{Ascending-from_sorted, Ascending-map}
 use Rattle.bg_lists.proofs.Sorting.{map-sort, IsDistinct-from_Ascending, IsDistinct-append}

@@ -1,7 +1,6 @@
 //! The points of a bigraph, those of each link together.
-ghost use Rattle.std.specs.Prelude.{◌≡◌, ◌<◌, ◌^◌, length, filter, take, IfOk};
+ghost use Rattle.std.specs.Prelude.{◌≡◌, ◌<◌, ◌^◌, length, IfOk};
 ghost use Rattle.std.specs.List.Sorted.{IsStrictlySortedBy};
-ghost use Rattle.bg_base.specs.declared.names.Link.TheVariants.{Edge};
 ghost use Rattle.bg_link.specs.Links as defined;
 ghost use Rattle.bg_link.specs.Rows.{IsLinked, point_cmp};
 

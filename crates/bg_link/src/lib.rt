@@ -4,7 +4,8 @@
 //!   from a bigraph, and [`is_closed`] tells an edge from an outer name.
 //! - [`Wiring`]: the links with the points of each kept at hand.
 //! - [`compose_links`], [`tensor_links`], [`share_links`]: the link part of composition and of products.
-//! - [`name_set`], [`sorted_edges`], [`link_through`], [`links_through`], [`inner_through`]: their parts.
+//! - [`name_set`], [`sorted_edges`], [`both_inner`], [`shared_names`], [`link_through`], [`links_through`],
+//!   [`inner_through`]: their parts.
 #![tactic(auto)]
 
 mod composition;
@@ -17,6 +18,9 @@ mod wiring;
 
 pub use composition::{compose_links, sorted_edges};
 pub use graph::{Links, Point, PortRow, is_closed, links_of};
-pub use products::{name_set, share_links, tensor_links};
+pub use products::{both_inner, name_set, share_links, shared_names, tensor_links};
 pub use through::{inner_through, link_through, links_through};
 pub use wiring::Wiring;
+
+#[cfg(test)]
+mod tests;

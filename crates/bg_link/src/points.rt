@@ -5,7 +5,7 @@ ghost use Rattle.std.specs.List.Sorted.{IsStrictlySortedBy};
 ghost use Rattle.std.specs.Ordering.{nat_cmp, is_eq};
 ghost use Rattle.bg_base.specs.Order.{name_cmp};
 ghost use Rattle.bg_link.specs.Links as defined;
-ghost use Rattle.bg_link.specs.Rows.{IsGrouped, IsLinked, link_rank, ranked, ranked_points, rank_of, point_alone};
+ghost use Rattle.bg_link.specs.Rows.{link_rank, ranked, ranked_points, rank_of, point_alone};
 
 use crate::{Links, Point, PortRow};
 use bg_base::{InnerRow, Link, Name};

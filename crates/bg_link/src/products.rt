@@ -1,5 +1,5 @@
 //! The link part of products.
-ghost use Rattle.std.specs.Prelude.{◌≡◌, ◌++◌, map, take, IfOk, OnOk};
+ghost use Rattle.std.specs.Prelude.{◌≡◌, ◌++◌, IfOk};
 ghost use Rattle.std.specs.List.{IsDistinct};
 ghost use Rattle.std.specs.Ordering.{eq_by_cmp};
 ghost use Rattle.bg_lists.specs.Lists.{sort};
@@ -62,8 +62,13 @@ fn both_ports(alloc: Global, f: &Big, g: &Big) -> Mem<Rows<PortRow>>
     sorted_ports(joined(alloc, rows, &others)?)
 }
 
-/// The inner names of both with their links, by name.
-fn both_inner(alloc: Global, rows: &Rows<InnerRow>, others: &Rows<InnerRow>) -> Mem<Rows<InnerRow>>
+/// The inner names of both with their links, by name, where they differ. Costs n log n comparisons of names, and memory
+/// in proportion to both.
+pub fn both_inner(
+    alloc: Global,
+    rows: &Rows<InnerRow>,
+    others: &Rows<InnerRow>,
+) -> Mem<Rows<InnerRow>>
     requires apart { IsDistinct (eq_by_cmp inner_cmp) (rows.now ++ others.now) }
     ensures { IfOk result (λ made. made ≡ sort (before inner_cmp) (rows.now ++ others.now)) }
 {
@@ -71,8 +76,9 @@ fn both_inner(alloc: Global, rows: &Rows<InnerRow>, others: &Rows<InnerRow>) -> 
     sorted_inner(joined(alloc, rows, others)?)
 }
 
-/// The outer names of both; a name that both have is one.
-fn shared_names(alloc: Global, names: &Rows<Name>, others: &Rows<Name>) -> Mem<Rows<Name>>
+/// The names of both in their order; a name that both have is one. Costs n log n comparisons of names, and memory in
+/// proportion to both.
+pub fn shared_names(alloc: Global, names: &Rows<Name>, others: &Rows<Name>) -> Mem<Rows<Name>>
     ensures { IfOk result (λ made. made ≡ set_of name_cmp (names.now ++ others.now)) }
 {
     let names = names.copy(alloc)?.into_vec();

@@ -1,4 +1,4 @@
-use Rattle.std.proofs.Common.{◌≡◌, ◌++◌, ◌+◌, take, map, ap, sym, ◌∙◌, append_assoc}
+use Rattle.std.proofs.Common.{◌++◌, take, map, ap, sym, ◌∙◌, append_assoc}
 use Rattle.std.proofs.lemmas.List.{map-append}
 use Rattle.bg_link.specs.Links.{ports_from, ports_in}
 use Rattle.bg_link.specs.Rows.{ranked}

@@ -1,4 +1,4 @@
-use Rattle.std.proofs.Common.{◌∙◌, ◌++◌, ap, sym}
+use Rattle.std.proofs.Common.{◌∙◌, sym}
 use Rattle.bg_base.specs.Products.{parallel}
 use Rattle.bg_base.proofs.Composed.{compose_edges_distinct}
 use Rattle.bg_link.proofs.WholeLaws.{inner_distinct, both_distinct, parallel_ports}

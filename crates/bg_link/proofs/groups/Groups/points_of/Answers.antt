@@ -1,7 +1,6 @@
-use Rattle.std.proofs.Common.{rules, of_calls, ltb, leb, ℕ, ap, sym, subst, ◌∙◌, ◌+◌, ◌-◌, take, drop}
+use Rattle.std.proofs.Common.{rules, of_calls, ltb, leb, ℕ, ap, sym, subst, ◌∙◌}
 use Rattle.std.proofs.lemmas.Fn.{always_returns_same}
 use Rattle.std.specs.List.Sorted.{IsStrictlySortedBy}
-use Rattle.bg_link.specs.declared.graph.Links.{Links}
 use Rattle.bg_link.specs.Links.{points_of}
 use Rattle.bg_link.specs.Rows.{point_cmp}
 use Rattle.bg_link.proofs.GroupLaws.{found_points}
