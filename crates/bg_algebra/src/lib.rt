@@ -35,4 +35,6 @@ pub use products::{merge, parallel, tensor};
 pub use renumbering::rename;
 
 #[cfg(test)]
+mod product_tests;
+#[cfg(test)]
 mod tests;
