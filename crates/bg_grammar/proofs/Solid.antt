@@ -41,7 +41,7 @@ way_at solids [] i way e a = elim a [ ]
 way_at solids (w ∷ ways) zero way e (at_here q) = subst (λ z. solid_way solids z ≡ true) q (both_left _ _ e)
 way_at solids (w ∷ ways) (suc i) way e (at_there a) = way_at solids ways i way (both_right _ _ e) a
 
-or_left : (a b : Bool) → a ≡ true → a || b ≡ true
+pub or_left : (a b : Bool) → a ≡ true → a || b ≡ true
 or_left true b e = refl
 or_left false b e = cc
 
