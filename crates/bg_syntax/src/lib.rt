@@ -16,3 +16,6 @@ pub use fault::{SyntaxFault, TOO_DEEP, UNEXPECTED};
 pub use parsing::parse;
 pub use symbol::Symbol;
 pub use tree::Tree;
+
+#[cfg(test)]
+mod tests;
