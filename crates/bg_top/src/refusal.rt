@@ -1,5 +1,5 @@
 ghost use Rattle.std.specs.Prelude.{◌≡◌, Some};
-ghost use Rattle.bg_top.specs.Refusal.{fault_name};
+ghost use Rattle.bg_top.specs.Refusal.{fault_name, model_fault_name};
 
 use std::fmt;
 
@@ -8,6 +8,8 @@ use std::fmt;
 pub enum Refusal {
     /// A listing is refused: by which code, and at which line of the input, counted from 1.
     Listing { code: u8, line: u32 },
+    /// A text is no model: by which code, and at which line and column of the input, both counted from 1.
+    Model { code: u8, line: u32, column: u32 },
     /// The inner face of the first bigraph is not the outer face of the second.
     FacesDiffer,
     /// A node or an edge is in both bigraphs.
@@ -24,6 +26,10 @@ impl fmt::Display for Refusal {
             Refusal::Listing { code, line } => {
                 let name = fault_name(code);
                 write!(f, "refused {code} {name} at {line}")
+            }
+            Refusal::Model { code, line, column } => {
+                let name = model_fault_name(code);
+                write!(f, "refused {code} {name} at {line}:{column}")
             }
             Refusal::FacesDiffer => f.write_str("refused 11 FacesDiffer"),
             Refusal::SupportMeets => f.write_str("refused 12 SupportMeets"),
@@ -45,5 +51,19 @@ fn fault_name(code: u8) -> &'static str
         7 => "Cycle",
         8 => "Extra",
         _ => "DuplicateLabel",
+    }
+}
+
+/// The name of a code by which a text is no model.
+fn model_fault_name(code: u8) -> &'static str
+    ensures { result.now ≡ model_fault_name code }
+{
+    match code {
+        21 => "BadByte",
+        22 => "OpenString",
+        23 => "NumberTooLarge",
+        24 => "DecimalNumber",
+        31 => "Unexpected",
+        _ => "TooDeep",
     }
 }
