@@ -1,18 +1,36 @@
-//! The algebra of concrete bigraphs: how large bigraphs are made of small ones.
+//! The algebra of concrete bigraphs: how large bigraphs are made of small ones (Milner, chapters 2 and 3).
 //!
-//! - [`compose`]: composition, which puts one bigraph into the sites of another and joins their links.
+//! - [`compose`]: composition, which puts one bigraph into the sites of another and joins their links;
+//!   [`compose_by_rows`] is the same by a plainer program.
+//! - [`tensor`], [`parallel`], [`merge`]: products. [`nest`]: nesting. [`close`]: a name made an edge.
+//! - [`lean`]: idle edges dropped. [`rename`]: nodes and edges numbered anew.
+//! - [`ion`], [`atom`], [`identity`], [`idle`], [`merger`], [`barren`], [`empty`]: elementary bigraphs.
 //! - [`AlgebraFault`]: why an operation gives no bigraph.
-//! - [`find_node`], [`has_edge`], [`find_inner`]: look-up in a valid bigraph, by number or by name.
 #![tactic(auto)]
 
+mod by_rows;
+mod closing;
 mod composition;
+mod conditions;
+mod elementary;
 mod fault;
-mod look_up;
-mod through;
+mod halves;
+mod idle_edges;
+mod nesting;
+mod products;
+mod regions;
+mod renumbering;
 
+pub use by_rows::compose_by_rows;
+pub use closing::close;
 pub use composition::compose;
+pub use elementary::{atom, barren, empty, identity, idle, ion, merger};
 pub use fault::AlgebraFault;
-pub use look_up::{find_inner, find_node, has_edge};
+pub use halves::ControlRow;
+pub use idle_edges::lean;
+pub use nesting::nest;
+pub use products::{merge, parallel, tensor};
+pub use renumbering::rename;
 
 #[cfg(test)]
 mod tests;

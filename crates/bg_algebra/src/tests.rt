@@ -1,9 +1,10 @@
 //! Composition on small bigraphs, the two refusals, and one composition of many nodes.
 ghost use Rattle.std.specs.Prelude.{◌+◌, ◌<◌, ◌^◌};
 
-use crate::{AlgebraFault, compose, find_inner, find_node, has_edge};
+use crate::{AlgebraFault, compose};
 use bg_base::{
-    Big, Ident, InnerRow, Kind, Label, Link, Links, Name, NodeRow, Place, Signature, SignatureFault,
+    Big, Ident, InnerRow, Kind, Label, Link, Name, NodeRow, Place, PortLinks, Signature,
+    SignatureFault, find_inner, find_node, has_edge,
 };
 use bg_lists::{OutOfMemory, Rows};
 use smallvec::SmallVec;
@@ -48,7 +49,7 @@ fn node(alloc: Global, id: u32, control: u32, parent: Place) -> NodeRow {
         id,
         control,
         parent,
-        links: Links::from_small_vec(SmallVec::new(alloc)),
+        links: PortLinks::from_small_vec(SmallVec::new(alloc)),
     }
 }
 
@@ -115,7 +116,7 @@ fn wired(alloc: Global) -> Result<Big, OutOfMemory> {
         id: 3,
         control: 2,
         parent: Place::Region(0),
-        links: Links::from_small_vec(links),
+        links: PortLinks::from_small_vec(links),
     })?;
     let mut edges = Vec::new(alloc);
     edges.push(7)?;

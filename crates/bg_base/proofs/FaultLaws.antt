@@ -21,7 +21,7 @@ use Rattle.std.proofs.Common.{Result, Ok, Err}
 use Rattle.std.specs.Result.{OnOk, IsErrAnd}
 use Rattle.bg_base.specs.declared.check.CheckFault.{CheckFault}
 use Rattle.bg_base.specs.declared.check.CheckFault.TheVariants.{Malformed, OutOfMemory}
-use Rattle.bg_base.specs.Lookup.{IsAnswer, IsMalformed}
+use Rattle.bg_base.specs.Faults.{IsAnswer, IsMalformed}
 use Rattle.bg_lists.proofs.Comparisons.{Less-from_is_lt}
 use Rattle.bg_base.specs.Order.{name_cmp}
 use Rattle.bg_base.specs.OrderLaws.{name_cmp_total}

@@ -1,5 +1,5 @@
 -- The first row of a bigraph that breaks a rule, and which rule: what a check of a bigraph answers.
-use Rattle.std.specs.Prelude.{ℕ, ◌+◌, Bool, true, not, ◌&&◌, nat_lt, ◌==◌, Option, None, Some, option_map, List, [], ◌∷◌, length, map, if◌then◌else◌}
+use Rattle.std.specs.Prelude.{◌≡◌, ℕ, ◌+◌, Bool, true, not, ◌&&◌, nat_lt, ◌==◌, Option, None, Some, option_map, List, [], ◌∷◌, length, map, if◌then◌else◌, Result, Ok, Err}
 use Rattle.std.specs.List.{list_all}
 use Rattle.std.specs.Ordering.{nat_cmp, is_lt}
 use Rattle.std.specs.declared.cmp.Ordering.{Ordering}
@@ -10,6 +10,8 @@ use Rattle.bg_base.specs.declared.big.InnerRow.{InnerRow}
 use Rattle.bg_base.specs.declared.big.Big.{Big}
 use Rattle.bg_base.specs.declared.signature.Control.{Control}
 use Rattle.bg_base.specs.declared.check.Part.{Part}
+use Rattle.bg_base.specs.declared.check.CheckFault.{CheckFault}
+use Rattle.bg_base.specs.declared.check.CheckFault.TheVariants.{Malformed, OutOfMemory}
 use Rattle.bg_base.specs.declared.check.Part.TheVariants.{Sites, Inner, Outer, Edges, Nodes}
 use Rattle.bg_base.specs.Order.{name_cmp}
 use Rattle.bg_base.specs.Bigraph.{has_place, has_link, is_rooted, is_atomic, arity_of}
@@ -92,3 +94,17 @@ unfoldable pub fault_of : List Control → Big → Option (Part × ℕ × ℕ)
 fault_of signature big =
     or_else Sites (sites_fault signature big) (or_else Inner (inner_fault big) (or_else Outer (outer_fault big)
     (or_else Edges (edges_fault big) (or_else Nodes (nodes_fault signature big) None))))
+
+-- the answer of a check tells the fault
+abbrev pub Tells : CheckFault → Option (Part × ℕ × ℕ) → Type 0
+Tells (Malformed code part row) fault = fault ≡ Some (part, row, code)
+Tells OutOfMemory fault = Unit {0}
+
+abbrev pub IsAnswer : {T : Type 0} → Result T CheckFault → Option (Part × ℕ × ℕ) → Type 0
+IsAnswer (Ok done) fault = fault ≡ None
+IsAnswer (Err refusal) fault = Tells refusal fault
+
+-- the answer tells a fault, and not want of memory
+abbrev pub IsMalformed : CheckFault → Type 0
+IsMalformed (Malformed code part row) = Unit {0}
+IsMalformed OutOfMemory = ⊥

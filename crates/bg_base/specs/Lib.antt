@@ -5,5 +5,8 @@ pub mod LabelLaws
 pub mod Signatures
 pub mod Bigraph
 pub mod Composition
+pub mod Elementary
+pub mod Products
+pub mod Instance
 pub mod Faults
 pub mod Lookup

@@ -1,5 +1,5 @@
 -- What the check of a bigraph keeps at hand to look rows up while they may still be out of order.
-use Rattle.std.specs.Prelude.{◌≡◌, ℕ, Bool, true, IsTrue, Option, None, Some, MatchOption, List, length, slice_get, Result, Ok, Err}
+use Rattle.std.specs.Prelude.{◌≡◌, ℕ, Bool, true, IsTrue, None, Some, MatchOption, List, length, slice_get}
 use Rattle.std.specs.Ordering.{nat_cmp}
 use Rattle.std.specs.declared.cmp.Ordering.{Ordering}
 use Rattle.std.specs.List.Sorted.{IsPermutation, IsSorted}
@@ -7,9 +7,6 @@ use Rattle.std.specs.BTreeMap.{BTreeMap, get}
 use Rattle.bg_base.specs.declared.names.Name.{Name}
 use Rattle.bg_base.specs.declared.big.NodeRow.{NodeRow}
 use Rattle.bg_base.specs.declared.big.Big.{Big}
-use Rattle.bg_base.specs.declared.check.Part.{Part}
-use Rattle.bg_base.specs.declared.check.CheckFault.{CheckFault}
-use Rattle.bg_base.specs.declared.check.CheckFault.TheVariants.{Malformed, OutOfMemory}
 use Rattle.bg_base.specs.Order.{name_cmp}
 use Rattle.bg_base.specs.Bigraph.{row_of, is_rooted}
 
@@ -37,22 +34,8 @@ pub record AreRooted (big : Big) (marks : List Bool) : Type 0 where
   pub count : length marks ≡ length big.nodes
   pub right : (k : ℕ) (row : NodeRow) → slice_get marks k ≡ Some true → slice_get big.nodes k ≡ Some row → IsTrue (is_rooted big row.id)
 
--- the answer of a check tells the fault
-abbrev pub Tells : CheckFault → Option (Part × ℕ × ℕ) → Type 0
-Tells (Malformed code part row) fault = fault ≡ Some (part, row, code)
-Tells OutOfMemory fault = Unit {0}
-
-abbrev pub IsAnswer : {T : Type 0} → Result T CheckFault → Option (Part × ℕ × ℕ) → Type 0
-IsAnswer (Ok done) fault = fault ≡ None
-IsAnswer (Err refusal) fault = Tells refusal fault
-
 -- what the check keeps at hand for a bigraph: an index of its nodes, and its edges and outer names in order
 pub record IsLookup (big : Big) (nodes : BTreeMap ℕ ℕ) (edges : List ℕ) (outer : List Name) : Type 0 where
   pub index : IsIndex nodes big.nodes
   pub edges_sorted : IsSortedCopy nat_cmp big.edges edges
   pub outer_sorted : IsSortedCopy name_cmp big.outer outer
-
--- the answer tells a fault, and not want of memory
-abbrev pub IsMalformed : CheckFault → Type 0
-IsMalformed (Malformed code part row) = Unit {0}
-IsMalformed OutOfMemory = ⊥

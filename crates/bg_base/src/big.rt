@@ -1,5 +1,5 @@
 //! A concrete bigraph, row by row.
-use crate::{Link, Links, Name, Place};
+use crate::{Link, Name, Place, PortLinks};
 use bg_lists::{Duplicate, Mem, Rows};
 use std::alloc::Global;
 
@@ -9,7 +9,7 @@ pub struct NodeRow {
     pub id: u32,
     pub control: u32,
     pub parent: Place,
-    pub links: Links,
+    pub links: PortLinks,
 }
 
 /// An inner name and the link that it is tied to.

@@ -7,7 +7,8 @@ ghost use Rattle.bg_base.specs.Order.{name_cmp};
 ghost use Rattle.bg_base.specs.Bigraph as rule;
 ghost use Rattle.bg_base.specs.Bigraph.{IsValidUnder};
 ghost use Rattle.bg_base.specs.Faults as fault;
-ghost use Rattle.bg_base.specs.Lookup.{IsFirstRow, IsIndex, IsLookup, IsSortedCopy, AreRooted, IsAnswer, IsMalformed};
+ghost use Rattle.bg_base.specs.Lookup.{IsFirstRow, IsIndex, IsLookup, IsSortedCopy, AreRooted};
+ghost use Rattle.bg_base.specs.Faults.{IsAnswer, IsMalformed};
 
 use crate::{Big, Control, InnerRow, Kind, Link, Name, NodeRow, Place, Signature};
 use bg_lists::{Mem, OutOfMemory, copies};

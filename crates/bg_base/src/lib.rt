@@ -2,6 +2,7 @@
 //!
 //! - [`Ident`], [`Text`], [`Name`], [`Value`], [`Label`]: what things are called.
 //! - [`Place`], [`Link`], [`NodeRow`], [`InnerRow`], [`Big`]: a concrete bigraph, row by row.
+//! - [`find_node`], [`has_edge`], [`find_inner`], [`has_outer`]: look-up in a valid bigraph, by number or by name.
 //! - [`Signature`], [`Control`], [`Kind`]: the controls that nodes may have.
 //! - [`Map`], [`Step`], [`Entry`], [`Journal`]: steps of a run.
 #![tactic(auto)]
@@ -11,6 +12,7 @@ mod check;
 mod history;
 mod labels;
 mod links;
+mod look_up;
 mod names;
 mod signature;
 mod text;
@@ -19,7 +21,8 @@ pub use big::{Big, InnerRow, NodeRow};
 pub use check::{CheckFault, Part};
 pub use history::{Entry, Journal, Map, Step};
 pub use labels::{Label, Value};
-pub use links::Links;
+pub use links::PortLinks;
+pub use look_up::{find_inner, find_node, has_edge, has_outer};
 pub use names::{Link, Name, Place};
 pub use signature::{Control, Kind, MOST_CONTROLS, MOST_PORTS, Signature, SignatureFault};
 pub use text::{Ident, Text, is_ident, is_text, is_text_byte, is_word_byte};

@@ -12,11 +12,11 @@ use std::ops::DerefSlice;
 /// The links of a node's ports, in the order of the ports; up to four lie in the value itself.
 /// A contract sees the list of the links.
 #[derive(Drop)]
-pub struct Links {
+pub struct PortLinks {
     items: SmallVec<Link, 4>,
 }
 
-impl Model for Links {
+impl Model for PortLinks {
     ghost use Rattle.std.specs.Prelude.{List, length, ◌<◌, ◌-◌, ◌^◌};
     ghost use Rattle.bg_base.specs.declared.names.Link.{Link};
 
@@ -27,13 +27,13 @@ impl Model for Links {
     ghost invariant = { λ links. length links.items.items < 2 ^ 32 - 1 };
 }
 
-impl Links {
+impl PortLinks {
     /// The list of these links. Takes no memory.
-    pub fn from_small_vec(items: SmallVec<Link, 4>) -> Links
+    pub fn from_small_vec(items: SmallVec<Link, 4>) -> PortLinks
         requires { length items.items < 2 ^ 32 - 1 }
         ensures { result ≡ items.items }
     {
-        Links { items }
+        PortLinks { items }
     }
 
     /// The links.
@@ -53,7 +53,7 @@ impl Links {
     }
 }
 
-impl DerefSlice for Links {
+impl DerefSlice for PortLinks {
     type Elem = Link;
 
     ghost use Rattle.std.specs.Prelude.{◌≡◌};
@@ -65,10 +65,10 @@ impl DerefSlice for Links {
     }
 }
 
-impl Duplicate for Links {
-    fn copy(&self, alloc: Global) -> Mem<Links> {
+impl Duplicate for PortLinks {
+    fn copy(&self, alloc: Global) -> Mem<PortLinks> {
         let items = link_copies(alloc, self.as_slice())?;
-        Ok(Links::from_small_vec(items))
+        Ok(PortLinks::from_small_vec(items))
     }
 }
 
@@ -83,7 +83,7 @@ fn link_copies(alloc: Global, links: &[Link]) -> Mem<SmallVec<Link, 4>>
     Ok(made)
 }
 
-impl fmt::Debug for Links {
+impl fmt::Debug for PortLinks {
     fn fmt<W: fmt::Write>(&self, f: &mut fmt::Formatter<W>) -> fmt::Result {
         f.debug_list().entries(self.as_slice()).finish()
     }

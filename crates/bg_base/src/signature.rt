@@ -25,7 +25,7 @@ pub struct Control {
     pub kind: Kind,
 }
 
-/// A signature (Milner, chapter 2): a list of controls, at most 4,096. A control's number is its position, counted
+/// A basic signature (Milner, chapter 1): a list of controls. The limits are this project's: at most 4,096 controls. A control's number is its position, counted
 /// from 0. No label stands twice and no arity is above 16. A contract sees the list of the controls.
 #[derive(Debug, Drop)]
 pub struct Signature {

@@ -1,7 +1,7 @@
 //! Each public call with ample memory, and what the check answers to bigraphs that break a rule.
 use crate::{
-    Big, CheckFault, Entry, Ident, InnerRow, Kind, Label, Link, Links, Name, NodeRow, Part, Place,
-    Signature, SignatureFault, Step, Text, Value,
+    Big, CheckFault, Entry, Ident, InnerRow, Kind, Label, Link, Name, NodeRow, Part, Place,
+    PortLinks, Signature, SignatureFault, Step, Text, Value,
 };
 use bg_lists::{Duplicate, OutOfMemory, Rows};
 use smallvec::SmallVec;
@@ -33,7 +33,7 @@ fn node(alloc: Global, id: u32, control: u32, parent: Place) -> NodeRow {
         id,
         control,
         parent,
-        links: Links::from_small_vec(SmallVec::new(alloc)),
+        links: PortLinks::from_small_vec(SmallVec::new(alloc)),
     }
 }
 

@@ -14,7 +14,7 @@ use crate::lines::{Row, number_line};
 use crate::names::{inner, link, name, place};
 use crate::number::number;
 use bg_base::{
-    Control, InnerRow, Kind, Label, Link, Links, MOST_PORTS, Name, NodeRow, Place, Signature,
+    Control, InnerRow, Kind, Label, Link, MOST_PORTS, Name, NodeRow, Place, PortLinks, Signature,
 };
 use smallvec::SmallVec;
 use std::alloc::Global;
@@ -283,12 +283,12 @@ const MOST_LINKS: usize = 4_294_967_294;
 
 /// The links at the end of a node's line, each behind a space, and the line feed.
 #[tactic(auto, unfolding(crate::specs::Lines::links_at))]
-fn links(alloc: Global, bytes: &[u8]) -> Result<(Links, &[u8]), PartFault>
+fn links(alloc: Global, bytes: &[u8]) -> Result<(PortLinks, &[u8]), PartFault>
     ensures { Gives (λ x. (x.0, x.1.now)) result (lines.links_at bytes.now) }
 {
     let (links, rest) = read_chain::<Link>(alloc, b'\n', b' ', bytes)?;
     if links.len() <= MOST_LINKS {
-        Ok((Links::from_small_vec(SmallVec::from_vec(links)), rest))
+        Ok((PortLinks::from_small_vec(SmallVec::from_vec(links)), rest))
     } else {
         Err(PartFault::OutOfMemory)
     }

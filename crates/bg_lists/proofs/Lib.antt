@@ -6,3 +6,5 @@ pub mod Sorting
 pub mod Words
 pub mod Sorts
 pub mod Searches
+pub mod Sets
+pub mod Groups

@@ -2,3 +2,4 @@ pub mod RowLaws
 pub mod GroupLaws
 pub mod ClimbLaws
 pub mod AncestryLaws
+pub mod SubtreeLaws

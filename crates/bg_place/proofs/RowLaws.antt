@@ -1,4 +1,4 @@
--- Laws of the rows of places: look-up, order, composition.
+-- Laws of the rows of places: look-up, order, the rows of two bigraphs.
 use Rattle.std.proofs.Common.{◌≡◌, ℕ, ◌==◌, List, ◌++◌, length, map, get_or, nat_cmp, Some, None, Result, Ok, Err, MatchResult, refl, sym, ap, ◌∙◌}
 use Rattle.std.specs.Cmp.{IsTotalOrder}
 use Rattle.std.specs.List.Sorted.{IsSearchInRange, IsBinarySearchResult, IsStrictlySortedBy}
@@ -17,14 +17,16 @@ use Rattle.bg_lists.proofs.Searches.{find-search}
 use Rattle.bg_lists.proofs.Comparisons.{eqb-nat_cmp}
 use Rattle.bg_lists.proofs.Places.{At-total, get_or-At, slice_get-At}
 use Rattle.bg_lists.proofs.Ascents.{Ascending-from_sorted, sorted_from_Ascending, Ascending-map}
+use Rattle.bg_base.specs.declared.names.Place.{Place}
 use Rattle.bg_base.specs.declared.big.NodeRow.{NodeRow}
 use Rattle.bg_base.specs.declared.big.Big.{Big}
 use Rattle.bg_base.specs.Bigraph.{node_cmp, row_of as node_row}
 use Rattle.bg_base.specs.Composition as through
 use Rattle.bg_base.specs.Composition.{compose}
+use Rattle.bg_base.specs.Products.{row_beside, tensor, parallel}
 use Rattle.bg_base.proofs.LookUps.{apart_numbers, has_row}
 use Rattle.bg_place.specs.declared.graph.ParentRow.{ParentRow}
-use Rattle.bg_place.specs.Places.{parent_row, row_of, row_through, joined_parents}
+use Rattle.bg_place.specs.Places.{parent_row, places_of, row_of, moved_row, joined_parents, parents_beside}
 use Rattle.bg_place.specs.Rows.{parent_cmp, IsRowAt}
 
 pub parent_cmp_total : IsTotalOrder parent_cmp
@@ -53,33 +55,47 @@ parents_ascend rows up =
     sorted_from_Ascending {cmp = parent_cmp} (map parent_row rows)
     (Ascending-map parent_row rows (λ x y less. less) (Ascending-from_sorted rows up))
 
--- ---- composition
+-- ---- rows of two bigraphs
 
-module _ (g f : Big) where
-  same_rows : map parent_row (map (through.row_through g) f.nodes) ≡ map (row_through g) f.nodes
-  same_rows = map-map (through.row_through g) parent_row f.nodes
+module _ (first second : List NodeRow) where
+  -- node rows of both in order have the parent rows of both in order
+  pub parents_in_order : (shifted : NodeRow → NodeRow)
+      → map parent_row (sort (before node_cmp) (first ++ map shifted second))
+      ≡ sort (before parent_cmp) (map parent_row first ++ map (λ (row : NodeRow). parent_row (shifted row)) second)
+  parents_in_order shifted =
+      map-sort (before node_cmp) (before parent_cmp) parent_row (λ x y. refl) (first ++ map shifted second)
+      ∙ ap (sort (before parent_cmp)) (map-append parent_row first (map shifted second)
+      ∙ ap (λ rows. map parent_row first ++ rows) (map-map shifted parent_row second))
 
-  -- the parent rows of the composition
-  pub compose_parents : map parent_row (compose g f).nodes ≡ sort (before parent_cmp) (joined_parents g f)
-  unfolding compose
-  compose_parents =
-      map-sort (before node_cmp) (before parent_cmp) parent_row (λ x y. refl) (g.nodes ++ map (through.row_through g) f.nodes)
-      ∙ ap (sort (before parent_cmp)) (map-append parent_row g.nodes (map (through.row_through g) f.nodes)
-      ∙ ap (λ rows. map parent_row g.nodes ++ rows) same_rows)
-
-  -- they are apart
-  pub joined_distinct : IsStrictlySortedBy node_cmp g.nodes → IsStrictlySortedBy node_cmp f.nodes
-      → All (λ (row : NodeRow). IsNone (node_row g.nodes row.id)) f.nodes → IsDistinct (eq_by_cmp parent_cmp) (joined_parents g f)
-  joined_distinct g_up f_up apart =
-      IsDistinct-append (eq_by_cmp parent_cmp) (map parent_row g.nodes) (map (row_through g) f.nodes)
-      (IsDistinct-from_Ascending {cmp = parent_cmp} (map parent_row g.nodes)
-      (Ascending-map parent_row g.nodes (λ x y less. less) (Ascending-from_sorted g.nodes g_up)))
-      (IsDistinct-from_Ascending {cmp = parent_cmp} (map (row_through g) f.nodes)
-      (Ascending-map (row_through g) f.nodes (λ x y less. less) (Ascending-from_sorted f.nodes f_up)))
+  -- they are apart, wherever the places of the second move
+  pub joined_distinct : (move : Place → Place) → IsStrictlySortedBy node_cmp first → IsStrictlySortedBy node_cmp second
+      → All (λ (row : NodeRow). IsNone (node_row first row.id)) second
+      → IsDistinct (eq_by_cmp parent_cmp) (map parent_row first ++ map (moved_row move) second)
+  joined_distinct move first_up second_up apart =
+      IsDistinct-append (eq_by_cmp parent_cmp) (map parent_row first) (map (moved_row move) second)
+      (IsDistinct-from_Ascending {cmp = parent_cmp} (map parent_row first)
+      (Ascending-map parent_row first (λ x y less. less) (Ascending-from_sorted first first_up)))
+      (IsDistinct-from_Ascending {cmp = parent_cmp} (map (moved_row move) second)
+      (Ascending-map (moved_row move) second (λ x y less. less) (Ascending-from_sorted second second_up)))
       (λ x y m n.
-      let v = Mem-unmap parent_row g.nodes m in
-      let w = Mem-unmap (row_through g) f.nodes n in
+      let v = Mem-unmap parent_row first m in
+      let w = Mem-unmap (moved_row move) second n in
       apart_numbers x.node y.node
-      (λ e. let none = All-member (λ (row : NodeRow). is_some (node_row g.nodes row.id) ≡ false) f.nodes apart w.1 in
-      false≢true (sym none ∙ has_row g.nodes v.1
+      (λ e. let none = All-member (λ (row : NodeRow). is_some (node_row first row.id) ≡ false) second apart w.1 in
+      false≢true (sym none ∙ has_row first v.1
       (ap (λ (row : ParentRow). row.node) v.2 ∙ e ∙ sym (ap (λ (row : ParentRow). row.node) w.2)))))
+
+-- the parent rows of a composition
+pub compose_parents : (g f : Big) → map parent_row (compose g f).nodes ≡ sort (before parent_cmp) (joined_parents g f)
+unfolding compose
+compose_parents g f = parents_in_order g.nodes f.nodes (through.row_through g)
+
+-- the parent rows of a tensor product
+pub tensor_parents : (f g : Big) → map parent_row (tensor f g).nodes ≡ sort (before parent_cmp) (parents_beside f g)
+unfolding tensor
+tensor_parents f g = parents_in_order f.nodes g.nodes (row_beside f.regions)
+
+-- the two products, with names apart or shared, have the same places
+pub parallel_places : (f g : Big) → places_of (parallel f g) ≡ places_of (tensor f g)
+unfolding tensor parallel
+parallel_places f g = refl

@@ -6,6 +6,7 @@ use Rattle.bg_base.specs.declared.names.Place.TheVariants.{Node, Region}
 use Rattle.bg_base.specs.declared.big.NodeRow.{NodeRow}
 use Rattle.bg_base.specs.declared.big.Big.{Big}
 use Rattle.bg_base.specs.Composition.{place_through}
+use Rattle.bg_base.specs.Products.{place_beside}
 use Rattle.bg_place.specs.declared.graph.ParentRow.{ParentRow}
 use Rattle.bg_place.specs.declared.graph.Places.{Places}
 
@@ -85,10 +86,18 @@ abbrev pub subtree_of : Places → ℕ → List ℕ
 subtree_of places node =
     map number_of (filter (λ (row : ParentRow). is_within places.parents node row.node) places.parents)
 
--- a row of F, in the composition of G and F
-abbrev pub row_through : Big → NodeRow → ParentRow
-row_through g row = record { node = row.id; parent = place_through g row.parent }
+-- a row of a bigraph, where its places move like that
+abbrev pub moved_row : (Place → Place) → NodeRow → ParentRow
+moved_row move row = record { node = row.id; parent = move row.parent }
 
--- the rows of G, and those of F as they are in the composition
+-- the rows of the first, and those of the second, whose places move like that
+abbrev pub joined_rows : (Place → Place) → Big → Big → List ParentRow
+joined_rows move first second = map parent_row first.nodes ++ map (moved_row move) second.nodes
+
+-- the rows of G, and those of F as they are in the composition of G and F
 abbrev pub joined_parents : Big → Big → List ParentRow
-joined_parents g f = map parent_row g.nodes ++ map (row_through g) f.nodes
+joined_parents g f = joined_rows (place_through g) g f
+
+-- the rows of F, and those of G as they are beside F
+abbrev pub parents_beside : Big → Big → List ParentRow
+parents_beside f g = joined_rows (place_beside f.regions) f g

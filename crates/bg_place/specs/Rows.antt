@@ -1,5 +1,5 @@
 -- How the forest keeps its rows.
-use Rattle.std.specs.Prelude.{◌≡◌, ℕ, ◌+◌, ◌*◌, ◌<◌, List, length, map, filter, slice_get}
+use Rattle.std.specs.Prelude.{◌≡◌, ℕ, suc, ◌+◌, ◌*◌, ◌<◌, Bool, false, Option, Some, List, length, map, filter, slice_get}
 use Rattle.std.specs.List.Sorted.{IsStrictlySortedBy, IsNonDecreasingBy}
 use Rattle.std.specs.Ordering.{nat_cmp, on}
 use Rattle.std.specs.declared.cmp.Ordering.{Ordering}
@@ -7,7 +7,7 @@ use Rattle.bg_base.specs.declared.names.Place.{Place}
 use Rattle.bg_base.specs.declared.names.Place.TheVariants.{Node, Region}
 use Rattle.bg_place.specs.declared.graph.ParentRow.{ParentRow}
 use Rattle.bg_place.specs.declared.graph.Places.{Places}
-use Rattle.bg_place.specs.Places.{row_of, same_place, number_of, numbered}
+use Rattle.bg_place.specs.Places.{row_of, same_place, number_of, numbered, climb, is_within}
 
 -- rows by their nodes
 abbrev pub parent_cmp : ParentRow → ParentRow → Ordering
@@ -17,6 +17,11 @@ parent_cmp = on (λ (row : ParentRow). row.node) nat_cmp
 pub record IsRowAt (rows : List ParentRow) (node at : ℕ) : Type 0 where
   pub inside : at < length rows
   pub is_row : row_of rows node ≡ slice_get rows at
+
+-- the row of the node, and where it stands
+pub record IsRowOf (rows : List ParentRow) (node at : ℕ) (row : ParentRow) : Type 0 where
+  pub there : slice_get rows at ≡ Some row
+  pub first : row_of rows node ≡ Some row
 
 -- the position of a place among all places
 abbrev pub place_rank : Place → ℕ
@@ -36,8 +41,24 @@ pub record HasGroups (groups rows : List ParentRow) : Type 0 where
   pub same : (place : Place)
       → filter (λ (row : ParentRow). same_place row.parent place) groups ≡ filter (λ (row : ParentRow). same_place row.parent place) rows
 
+-- no climb needs more moves than there are rows
+pub record IsSettled (rows : List ParentRow) : Type 0 where
+  pub settled : 0 < length rows → (node : ℕ) → climb rows (suc (length rows)) (Node node) ≡ climb rows (length rows) (Node node)
+
+-- the place is that node, or lies in it
+abbrev pub lies_in : List ParentRow → ℕ → Place → Bool
+lies_in rows upper (Node node) = is_within rows upper node
+lies_in rows upper (Region region) = false
+
+-- a mark for each row: whether it is known to lie in the node, or not to
+pub record AreMarked (rows : List ParentRow) (upper : ℕ) (marks : List (Option Bool)) : Type 0 where
+  pub count : length marks ≡ length rows
+  pub right : (at : ℕ) (row : ParentRow) (inside : Bool) → slice_get rows at ≡ Some row → slice_get marks at ≡ Some (Some inside)
+      → is_within rows upper row.node ≡ inside
+
 -- what a forest keeps at hand for its places
 pub record IsForest (places : Places) (children sites : List ParentRow) : Type 0 where
   pub ascending : IsStrictlySortedBy parent_cmp places.parents
+  pub settled : IsSettled places.parents
   pub children_are : HasGroups children places.parents
   pub sites_are : HasGroups sites (numbered 0 places.sites)

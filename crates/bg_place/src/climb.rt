@@ -1,5 +1,5 @@
 //! Climbs from a place to its region.
-ghost use Rattle.std.specs.Prelude.{◌≡◌, ◌==◌, ◌<◌, ◌^◌, length, map, filter, IfOk};
+ghost use Rattle.std.specs.Prelude.{◌≡◌, ◌==◌, ◌<◌, ◌^◌, length};
 ghost use Rattle.std.specs.List.{list_any};
 ghost use Rattle.std.specs.List.Sorted.{IsStrictlySortedBy};
 ghost use Rattle.bg_place.specs.Places as defined;
@@ -8,8 +8,6 @@ ghost use Rattle.bg_place.specs.Rows.{parent_cmp};
 use crate::ParentRow;
 use crate::graph::position;
 use bg_base::Place;
-use bg_lists::Mem;
-use std::alloc::Global;
 
 /// Where the node lies, in rows that ascend by node, or `None` where it has no row.
 pub fn parent_in(rows: &[ParentRow], node: u32) -> Option<Place>
@@ -77,26 +75,4 @@ pub fn is_above(rows: &[ParentRow], upper: u32, lower: u32) -> bool
         Some(parent) => meets(rows, parent, upper),
         None => false,
     }
-}
-
-/// Whether `lower` is `upper` or lies in it.
-fn is_within(rows: &[ParentRow], upper: u32, lower: u32) -> bool
-    requires ascending { IsStrictlySortedBy parent_cmp rows.now }
-    ensures { result ≡ defined.is_within rows.now upper lower }
-{
-    lower == upper || is_above(rows, upper, lower)
-}
-
-/// The node and all that lie in it.
-pub fn nodes_within(alloc: Global, rows: &[ParentRow], node: u32) -> Mem<Vec<u32>>
-    requires ascending { IsStrictlySortedBy parent_cmp rows.now }
-    ensures { IfOk result (λ nodes. nodes.items ≡ map defined.number_of (filter (λ row. defined.is_within rows.now node row.node) rows.now)) }
-{
-    let mut nodes = Vec::new(alloc);
-    for row in rows {
-        if is_within(rows, node, row.node) {
-            nodes.push(row.node)?;
-        }
-    }
-    Ok(nodes)
 }

@@ -32,8 +32,9 @@ pub fn compose_places(alloc: Global, g: &Big, f: &Big) -> Mem<Places>
     })
 }
 
-/// Where a place of the lower bigraph comes to lie.
-fn place_through(g: &Big, place: Place) -> Place
+/// Where a place of the lower bigraph comes to lie: region `j` becomes the place of site `j` of `g`, and a region that
+/// `g` has no site for stays.
+pub fn place_through(g: &Big, place: Place) -> Place
     ensures { result ≡ whole.place_through g.now place }
 {
     match place {
@@ -42,8 +43,9 @@ fn place_through(g: &Big, place: Place) -> Place
     }
 }
 
-/// The sites of the lower bigraph, in the composition.
-fn sites_through(alloc: Global, g: &Big, sites: &[Place]) -> Mem<Rows<Place>>
+/// The sites of the lower bigraph, in the composition: each is where its place comes to lie. Costs time and memory in
+/// proportion to them.
+pub fn sites_through(alloc: Global, g: &Big, sites: &[Place]) -> Mem<Rows<Place>>
     requires few { length sites.now < 2 ^ 32 - 1 }
     ensures { IfOk result (λ made. made ≡ map (whole.place_through g.now) sites.now) }
 {
@@ -56,7 +58,7 @@ fn sites_through(alloc: Global, g: &Big, sites: &[Place]) -> Mem<Rows<Place>>
 
 /// Appends the rows of the lower bigraph, as they are in the composition.
 fn push_parents_through(g: &Big, lower: &[NodeRow], rows: &mut Vec<ParentRow>) -> Mem<()>
-    ensures { OnOk result (rows.new.items ≡ rows.old.items ++ map (defined.row_through g.now) lower.now) }
+    ensures { OnOk result (rows.new.items ≡ rows.old.items ++ map (defined.moved_row (whole.place_through g.now)) lower.now) }
 {
     for row in lower {
         rows.push(ParentRow {
@@ -78,7 +80,7 @@ fn parents_through(alloc: Global, g: &Big, f: &Big) -> Mem<Rows<ParentRow>>
 }
 
 /// The rows by number, where their numbers differ. Takes no memory.
-fn sorted_parents(mut rows: Vec<ParentRow>) -> Mem<Rows<ParentRow>>
+pub fn sorted_parents(mut rows: Vec<ParentRow>) -> Mem<Rows<ParentRow>>
     requires apart { IsDistinct (eq_by_cmp parent_cmp) rows.items }
     ensures { IfOk result (λ sorted. sorted ≡ sort (before parent_cmp) rows.items) }
 {

@@ -4,11 +4,12 @@ ghost use Rattle.std.specs.List.Sorted.{IsStrictlySortedBy};
 ghost use Rattle.std.specs.Ordering.{nat_cmp};
 ghost use Rattle.bg_base.specs.Bigraph.{IsValid};
 ghost use Rattle.bg_place.specs.Places as defined;
-ghost use Rattle.bg_place.specs.Rows.{parent_cmp};
+ghost use Rattle.bg_place.specs.Rows.{parent_cmp, IsSettled};
 
-use crate::climb::{height, is_above, nodes_within, parent_in};
+use crate::climb::{height, is_above, parent_in};
 use crate::graph::{places_of, position};
 use crate::groups::{Groups, numbered};
+use crate::subtree::nodes_within;
 use crate::{ParentRow, Places};
 use bg_base::{Big, Place};
 use bg_lists::{Duplicate, Mem};
@@ -46,6 +47,7 @@ impl Forest {
 
     fn of_places(alloc: Global, places: Places) -> Mem<Forest>
         requires ascending { IsStrictlySortedBy parent_cmp places.parents }
+        requires settled { IsSettled places.parents }
         ensures { IfOk result (λ forest. forest ≡ places) }
     {
         let rows = places.parents.copy(alloc)?.into_vec();
@@ -117,8 +119,8 @@ impl Forest {
         is_above(&self.places.parents, upper, lower)
     }
 
-    /// The node and all nodes that lie in it, directly or not, ascending. Costs a climb from each node: the logarithm of
-    /// the number of nodes for each node and each node that it lies in.
+    /// The node and all nodes that lie in it, directly or not, ascending. Costs time n log n, and memory
+    /// n, in the number of nodes.
     pub fn subtree(&self, alloc: Global, node: u32) -> Mem<Vec<u32>>
         requires there { IsTrue (defined.has_node self.now node) }
         ensures exact { IfOk result (λ nodes. nodes.items ≡ defined.subtree_of self.now node) }

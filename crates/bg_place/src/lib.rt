@@ -2,7 +2,9 @@
 //!
 //! - [`Places`], [`ParentRow`]: regions, sites and nodes, each with its parent; [`places_of`] takes them from a bigraph.
 //! - [`Forest`]: the places with their children kept at hand.
-//! - [`compose_places`]: the place part of composition.
+//! - [`compose_places`]: the place part of composition; [`place_through`] and [`sites_through`], of which it is made.
+//! - [`tensor_places`]: the place part of the tensor product, and of the parallel product.
+//! - [`climbs_reach_regions`]: no climb is cut off, as a law.
 #![tactic(auto)]
 
 mod climb;
@@ -10,10 +12,15 @@ mod composition;
 mod forest;
 mod graph;
 mod groups;
+mod laws;
+mod products;
+mod subtree;
 
-pub use composition::compose_places;
+pub use composition::{compose_places, place_through, sites_through};
 pub use forest::Forest;
 pub use graph::{ParentRow, Places, places_of};
+pub use laws::climbs_reach_regions;
+pub use products::tensor_places;
 
 #[cfg(test)]
 mod tests;

@@ -5,7 +5,7 @@ use Rattle.std.specs.Option.{IsSomeAnd}
 use Rattle.std.proofs.lemmas.Bool.Decides.{nat_tests, eqb_tells, leb_tells}
 use Rattle.std.specs.declared.option.Option.{Option}
 use Rattle.bg_top.specs.Answer.{Answer, number, too_long}
-use Rattle.bg_top.specs.Check.{IsCheckAnswer, parsed, refused}
+use Rattle.bg_top.specs.Check.{parsed, refused}
 use Rattle.bg_top.specs.Compose.{IsComposition, composed, told}
 use Rattle.bg_top.specs.Right.{IsReply, IsTextOf, IsTaken, IsRefused, IsRight, IsAccepted, Answers}
 use Rattle.bg_top.specs.Ended.{Ended, IsStopped, ComesWhere}

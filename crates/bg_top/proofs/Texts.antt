@@ -1,15 +1,19 @@
 -- Texts that are models, and the places of faults in those that are none.
-use Rattle.std.proofs.Common.{◌≡◌, ℕ, zero, suc, ◌+◌, ◌-◌, ◌<◌, ◌≤◌, List, [], ◌∷◌, length, get_or, take, drop, Result, Ok, Err, codes, refl, sym, ap, subst, ◌∙◌, arith, length-drop}
+use Rattle.std.proofs.Common.{◌≡◌, ℕ, zero, suc, ◌+◌, ◌<◌, ◌≤◌, List, [], ◌∷◌, length, get_or, Result, Ok, Err, codes, refl, sym, ap, subst, ◌∙◌, arith, length-drop}
 use Rattle.std.proofs.lemmas.List.Sums.{prefix_len-le-length}
 use Rattle.bg_text.specs.declared.token.Token.{Token}
 use Rattle.bg_text.specs.Spelling.{is_text_byte}
-use Rattle.bg_text.specs.Tokens.{IsGap, space, comment, is_not_line_feed, IsToken, Refuses, bad_byte, bad_in_text, open_text, bad_number, Cuts, stop, gap, token, AreTokens, IsRefusal}
-use Rattle.bg_text.specs.Answers.{IsOnlyRefusal}
+use Rattle.bg_text.specs.Tokens.{IsGap, space, comment, is_not_line_feed, Refuses, bad_byte, bad_in_text, open_text, bad_number, Cuts, stop, gap, token, AreTokens, IsRefusal}
+use Rattle.bg_text.specs.declared.fault.LexFault.{LexFault}
+use Rattle.bg_text.specs.declared.fault.LexFault.TheVariants.{Bad}
+use Rattle.bg_text.specs.Answers.{IsOnlyRefusal, IsLexFault}
 use Rattle.bg_text.proofs.PieceLaws.{nothing_spelled}
 use Rattle.bg_text.proofs.Unique.{tokens_once}
 use Rattle.std.specs.Prelude.{IfOk}
 use Rattle.bg_text.specs.Places.{line_at, column_at}
-use Rattle.bg_syntax.specs.Models.{DerivesModel}
+use Rattle.bg_syntax.specs.declared.fault.SyntaxFault.{SyntaxFault}
+use Rattle.bg_syntax.specs.declared.fault.SyntaxFault.TheVariants.{Unexpected, TooDeep}
+use Rattle.bg_syntax.specs.Models.{DerivesModel, IsSyntaxFault}
 use Rattle.bg_top.specs.declared.reply.Reply.{Reply}
 use Rattle.bg_top.specs.declared.reply.Status.TheVariants.{Done}
 use Rattle.bg_top.specs.declared.refusal.Refusal.TheVariants.{Model}
@@ -89,3 +93,24 @@ refused_reply input code offset line column (Err e) fault line_is column_is is =
 
 pub parsed_reply : (input text : List ℕ) → IsModel input → text ≡ codes "parsed\n" → IsCheckAnswer input (record { status = Done; text = text })
 parsed_reply input text m e = subst (λ z. IsCheckAnswer input (record { status = Done; text = z })) (sym e) (parsed m)
+
+-- ---- the faults that the calls tell
+
+pub lexical_there : (input : List ℕ) (fault : LexFault) (code offset a b : ℕ) → IsLexFault input fault → fault ≡ Bad code offset → code ≡ a → offset ≡ b → IsModelFault input a b × (b ≤ length input)
+lexical_there input fault code offset a b f is code_is offset_is =
+    let r : IsOnlyRefusal input a b = subst (λ z. IsOnlyRefusal input z b) code_is (subst (λ z. IsOnlyRefusal input code z) offset_is (subst (IsLexFault input) is f)) in
+    (no_tokens r, refusal_inside input a b r.refusal)
+
+pub unexpected_there : (input : List ℕ) (ts us vs : List Token) (fault : SyntaxFault) (number offset a : ℕ) → offset ≡ token_offset input vs a → AreTokens input ts → IsSyntaxFault us fault
+    → us ≡ ts → vs ≡ ts → fault ≡ Unexpected number → a ≡ number → IsModelFault input 31 offset × (offset ≤ length input)
+unexpected_there input ts us vs fault number offset a offset_is cut f us_is vs_is is a_is =
+    let there : offset ≡ token_offset input ts number = offset_is ∙ ap (λ z. token_offset input z a) vs_is ∙ ap (token_offset input ts) a_is in
+    let told : IsSyntaxFault ts (Unexpected number) = subst (IsSyntaxFault ts) is (subst (λ z. IsSyntaxFault z fault) us_is f) in
+    subst (λ z. IsModelFault input 31 z × (z ≤ length input)) (sym there) (unexpected ts cut told, offset_inside input ts number cut)
+
+pub too_deep_there : (input : List ℕ) (ts us vs : List Token) (fault : SyntaxFault) (number offset a : ℕ) → offset ≡ token_offset input vs a → AreTokens input ts → IsSyntaxFault us fault
+    → us ≡ ts → vs ≡ ts → fault ≡ TooDeep number → a ≡ number → IsModelFault input 32 offset × (offset ≤ length input)
+too_deep_there input ts us vs fault number offset a offset_is cut f us_is vs_is is a_is =
+    let there : offset ≡ token_offset input ts number = offset_is ∙ ap (λ z. token_offset input z a) vs_is ∙ ap (token_offset input ts) a_is in
+    let told : IsSyntaxFault ts (TooDeep number) = subst (IsSyntaxFault ts) is (subst (λ z. IsSyntaxFault z fault) us_is f) in
+    subst (λ z. IsModelFault input 32 z × (z ≤ length input)) (sym there) (too_deep ts cut told, offset_inside input ts number cut)

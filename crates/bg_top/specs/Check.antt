@@ -1,5 +1,5 @@
 -- What `check` answers: whether the input is a model by its tokens and its grammar.
-use Rattle.std.specs.Prelude.{◌≡◌, ℕ, zero, suc, ◌≤◌, List, [], ◌∷◌, length, codes, Option, Some, None, MatchOption}
+use Rattle.std.specs.Prelude.{◌≡◌, ℕ, zero, suc, ◌≤◌, List, [], ◌∷◌, length, codes, Option, MatchOption}
 use Rattle.bg_text.specs.declared.token.Token.{Token}
 use Rattle.bg_text.specs.Tokens.{AreTokens}
 use Rattle.bg_text.specs.Answers.{IsOnlyRefusal}

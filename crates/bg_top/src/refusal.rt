@@ -14,6 +14,16 @@ pub enum Refusal {
     FacesDiffer,
     /// A node or an edge is in both bigraphs.
     SupportMeets,
+    /// A name is in both bigraphs.
+    NamesMeet,
+    /// An inner name is in both bigraphs.
+    InnerNamesMeet,
+    /// The first bigraph has not as many sites as the second has regions.
+    WidthsDiffer,
+    /// There is no such outer name.
+    NoSuchName,
+    /// The upper bigraph of a nesting has an inner name.
+    HasInnerNames,
 }
 
 impl fmt::Display for Refusal {
@@ -33,6 +43,11 @@ impl fmt::Display for Refusal {
             }
             Refusal::FacesDiffer => f.write_str("refused 11 FacesDiffer"),
             Refusal::SupportMeets => f.write_str("refused 12 SupportMeets"),
+            Refusal::NamesMeet => f.write_str("refused 13 NamesMeet"),
+            Refusal::InnerNamesMeet => f.write_str("refused 14 InnerNamesMeet"),
+            Refusal::WidthsDiffer => f.write_str("refused 15 WidthsDiffer"),
+            Refusal::NoSuchName => f.write_str("refused 16 NoSuchName"),
+            Refusal::HasInnerNames => f.write_str("refused 17 HasInnerNames"),
         }
     }
 }

@@ -1,4 +1,6 @@
-use Rattle.std.proofs.Common.{rules, subst, sym}
+use Rattle.std.proofs.Common.{[], ◌∷◌, rules, subst, sym}
+use Rattle.bg_algebra.specs.declared.fault.AlgebraFault.TheVariants.{FacesDiffer, SupportMeets, OutOfMemory}
+use Rattle.bg_algebra.proofs.Joining.{second_of}
 use Rattle.bg_base.specs.Bigraph.{IsValid, IsValidUnder}
 use Rattle.bg_base.specs.Composition.{FacesAgree, SupportsApart}
 use Rattle.bg_base.proofs.ComposedValid.{compose_valid, compose_valid_under}
@@ -18,3 +20,6 @@ returns-clause-fits c =
     λ signature g_fits f_fits.
     subst (IsValidUnder signature) (sym c.in_ok-whole.ensures)
     (compose_valid_under c.args.g.now c.args.f.now faces apart c.requires.g_valid c.requires.f_valid signature g_fits f_fits)
+
+pub returns-then-not-supports_apart-clause-no_other : goal.returns-then-not-supports_apart-clause-no_other
+returns-then-not-supports_apart-clause-no_other c = second_of FacesDiffer SupportMeets (OutOfMemory ∷ [])

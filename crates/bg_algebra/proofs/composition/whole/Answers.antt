@@ -1,29 +1,22 @@
-use Rattle.std.proofs.Common.{◌∙◌, ap, map}
-use Rattle.bg_base.specs.Composition.{compose, place_through, inner_through}
-use Rattle.bg_base.proofs.Composed.{compose_nodes_distinct, compose_edges_distinct}
+use Rattle.std.proofs.Common.{◌≡◌, ◌∙◌, subst, IfOk}
+use Rattle.bg_base.specs.Composition.{compose}
+use Rattle.bg_algebra.proofs.Joining.{slices_distinct, controls_same, compose_controls, as_many_controls, joined_is}
 use Rattle.bg_algebra.proofs.composition.whole.Goals as goal
 
-pub composed_nodes-requires-clause-apart : goal.composed_nodes-requires-clause-apart
-composed_nodes-requires-clause-apart c =
-    compose_nodes_distinct c.args.g.now c.args.f.now c.requires.g_valid.nodes_ascend c.requires.f_valid.nodes_ascend c.requires.apart
+pub controls_of_both-requires : goal.controls_of_both-requires
+controls_of_both-requires c =
+    record { apart = slices_distinct c.args.g.now c.args.f.now c.deref.result.now c.deref-2.result.now c.deref.ensures c.deref-2.ensures c.requires.g_valid c.requires.f_valid c.requires.apart }
 
-pub sorted_edges-requires : goal.sorted_edges-requires
-sorted_edges-requires c =
-    record {
-      apart = compose_edges_distinct c.args.g.now c.args.f.now c.requires.g_valid.edges_ascend c.requires.f_valid.edges_ascend c.requires.apart;
-    }
+pub joined-requires-clause-as_many_controls : goal.joined-requires-clause-as_many_controls
+joined-requires-clause-as_many_controls c =
+    as_many_controls (compose c.args.g.now c.args.f.now) c.in_ok-places.places c.as_slice.result.now (c.in_ok-places.ensures)
+    (controls_same c.args.g.now c.args.f.now c.deref.result.now c.deref-2.result.now c.as_slice.result.now c.in_ok-controls.controls.items c.deref.ensures c.deref-2.ensures c.as_slice.ensures.value c.in_ok-controls.ensures
+    ∙ compose_controls c.args.g.now c.args.f.now)
 
 pub returns : goal.returns
-unfolding compose
 returns c =
-    let sites = c.in_ok-sites_through.ensures ∙ ap (λ xs. map (place_through c.args.g.now) xs) c.as_slice.ensures.same in
-    let inner = c.in_ok-inner_through.ensures ∙ ap (λ xs. map (inner_through c.args.g.now) xs) c.as_slice-2.ensures.same in
-    λ t.
-    record {
-      nodes = c.in_ok-composed_nodes.ensures t;
-      edges = c.in_ok-sorted_edges.ensures t;
-      sites = sites t;
-      inner = inner t;
-      regions = c.args.g.now.regions;
-      outer = c.in_ok-copy.ensures t;
-    }
+    subst (λ z. IfOk c.joined.result (λ made. made ≡ z))
+    (joined_is (compose c.args.g.now c.args.f.now) c.in_ok-places.places c.in_ok-links.links c.as_slice.result.now (c.in_ok-places.ensures) (c.in_ok-links.ensures)
+    (controls_same c.args.g.now c.args.f.now c.deref.result.now c.deref-2.result.now c.as_slice.result.now c.in_ok-controls.controls.items c.deref.ensures c.deref-2.ensures c.as_slice.ensures.value c.in_ok-controls.ensures
+    ∙ compose_controls c.args.g.now c.args.f.now))
+    c.joined.ensures

@@ -6,7 +6,7 @@ use Rattle.bg_place.proofs.composition.compose_places.Goals as goal
 pub parents_through-requires : goal.parents_through-requires
 parents_through-requires c =
     record {
-      apart = joined_distinct c.args.g.now c.args.f.now c.requires.g_valid.nodes_ascend c.requires.f_valid.nodes_ascend c.requires.apart;
+      apart = joined_distinct c.args.g.now.nodes c.args.f.now.nodes (place_through c.args.g.now) c.requires.g_valid.nodes_ascend c.requires.f_valid.nodes_ascend c.requires.apart;
     }
 
 pub returns : goal.returns

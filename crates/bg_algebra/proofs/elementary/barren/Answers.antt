@@ -1,0 +1,15 @@
+use Rattle.std.proofs.Common.{sym, subst}
+use Rattle.bg_base.specs.Bigraph.{IsValid, IsValidUnder}
+use Rattle.bg_base.specs.Elementary.{barren}
+use Rattle.bg_algebra.proofs.Nested.{barren_valid, barren_valid_under}
+use Rattle.bg_algebra.proofs.elementary.barren.Goals as goal
+
+pub returns-clause-value : goal.returns-clause-value
+unfolding barren
+returns-clause-value c = c.bare.ensures
+
+pub returns-clause-valid : goal.returns-clause-valid
+returns-clause-valid c = subst IsValid (sym (returns-clause-value c)) barren_valid
+
+pub returns-clause-fits : goal.returns-clause-fits
+returns-clause-fits c = λ signature. subst (IsValidUnder signature) (sym (returns-clause-value c)) (barren_valid_under signature)

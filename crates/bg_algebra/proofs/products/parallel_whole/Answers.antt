@@ -1,0 +1,26 @@
+use Rattle.std.proofs.Common.{◌≡◌, ◌∙◌, sym, subst, IfOk}
+use Rattle.bg_base.specs.Products.{parallel}
+use Rattle.bg_place.proofs.RowLaws.{parallel_places}
+use Rattle.bg_algebra.proofs.Joining.{slices_distinct, controls_same, parallel_controls, as_many_ports, as_many_controls, joined_is}
+use Rattle.bg_algebra.proofs.products.parallel_whole.Goals as goal
+
+pub controls_of_both-requires : goal.controls_of_both-requires
+controls_of_both-requires c =
+    record { apart = slices_distinct c.args.f.now c.args.g.now c.deref.result.now c.deref-2.result.now c.deref.ensures c.deref-2.ensures c.requires.f_valid c.requires.g_valid c.requires.apart }
+
+pub joined-requires-clause-as_many_ports : goal.joined-requires-clause-as_many_ports
+joined-requires-clause-as_many_ports c = as_many_ports (parallel c.args.f.now c.args.g.now) c.in_ok-places.places c.in_ok-links.links (c.in_ok-places.ensures ∙ sym (parallel_places c.args.f.now c.args.g.now)) (c.in_ok-links.ensures)
+
+pub joined-requires-clause-as_many_controls : goal.joined-requires-clause-as_many_controls
+joined-requires-clause-as_many_controls c =
+    as_many_controls (parallel c.args.f.now c.args.g.now) c.in_ok-places.places c.as_slice.result.now (c.in_ok-places.ensures ∙ sym (parallel_places c.args.f.now c.args.g.now))
+    (controls_same c.args.f.now c.args.g.now c.deref.result.now c.deref-2.result.now c.as_slice.result.now c.in_ok-controls.controls.items c.deref.ensures c.deref-2.ensures c.as_slice.ensures.value c.in_ok-controls.ensures
+    ∙ parallel_controls c.args.f.now c.args.g.now)
+
+pub returns : goal.returns
+returns c =
+    subst (λ z. IfOk c.joined.result (λ made. made ≡ z))
+    (joined_is (parallel c.args.f.now c.args.g.now) c.in_ok-places.places c.in_ok-links.links c.as_slice.result.now (c.in_ok-places.ensures ∙ sym (parallel_places c.args.f.now c.args.g.now)) (c.in_ok-links.ensures)
+    (controls_same c.args.f.now c.args.g.now c.deref.result.now c.deref-2.result.now c.as_slice.result.now c.in_ok-controls.controls.items c.deref.ensures c.deref-2.ensures c.as_slice.ensures.value c.in_ok-controls.ensures
+    ∙ parallel_controls c.args.f.now c.args.g.now))
+    c.joined.ensures

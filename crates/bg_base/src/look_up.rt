@@ -1,0 +1,49 @@
+//! Look-up in the rows of a valid bigraph, by binary search.
+ghost use Rattle.std.specs.Prelude.{◌≡◌, is_some, option_copied};
+ghost use Rattle.std.specs.List.Sorted.{IsStrictlySortedBy};
+ghost use Rattle.std.specs.Ordering.{nat_cmp};
+ghost use Rattle.bg_base.specs.Bigraph.{node_cmp, inner_cmp, row_of, edge_of, inner_of, outer_of};
+ghost use Rattle.bg_base.specs.Order.{name_cmp};
+
+use crate::{InnerRow, Name, NodeRow};
+
+/// The row of the node, in rows that ascend by number, or `None` where no row has that number.
+/// Takes no memory; logarithmic in the number of rows.
+pub fn find_node(rows: &[NodeRow], node: u32) -> Option<&NodeRow>
+    requires ascending { IsStrictlySortedBy node_cmp rows.now }
+    ensures { option_copied result ≡ row_of rows.now node }
+{
+    match rows.binary_search_by_key(&node, |row| row.id) {
+        Ok(at) => Some(&rows[at]),
+        Err(_) => None,
+    }
+}
+
+/// Whether the edge is there, in edges that ascend. Takes no memory; logarithmic in the number of edges.
+pub fn has_edge(edges: &[u32], edge: u32) -> bool
+    requires ascending { IsStrictlySortedBy nat_cmp edges.now }
+    ensures { result ≡ is_some (edge_of edges.now edge) }
+{
+    edges.binary_search(&edge).is_ok()
+}
+
+/// Whether the outer name is there, in names that ascend. Takes no memory; logarithmic in the number of names, with one
+/// comparison of names at each step.
+pub fn has_outer(names: &[Name], name: &Name) -> bool
+    requires ascending { IsStrictlySortedBy name_cmp names.now }
+    ensures { result ≡ is_some (outer_of names.now name.now) }
+{
+    names.binary_search(name).is_ok()
+}
+
+/// The row of the inner name, in rows that ascend by name, or `None` where no row has that name.
+/// Takes no memory; logarithmic in the number of rows, with one comparison of names at each step.
+pub fn find_inner<'a>(rows: &'a [InnerRow], name: &Name) -> Option<&'a InnerRow>
+    requires ascending { IsStrictlySortedBy inner_cmp rows.now }
+    ensures { option_copied result ≡ inner_of rows.now name.now }
+{
+    match rows.binary_search_by(|row| row.name.cmp(name)) {
+        Ok(at) => Some(&rows[at]),
+        Err(_) => None,
+    }
+}

@@ -1,0 +1,5 @@
+pub mod PortLaws
+pub mod RankLaws
+pub mod PointLaws
+pub mod GroupLaws
+pub mod WholeLaws
