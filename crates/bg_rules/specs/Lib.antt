@@ -1,0 +1,3 @@
+pub mod Solid
+pub mod Decomposition
+pub mod LocalConditions

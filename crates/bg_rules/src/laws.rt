@@ -1,0 +1,4 @@
+//! The laws of occurrences. A call does nothing.
+
+/// Nothing yet.
+pub fn nothing() {}

@@ -1,0 +1,4 @@
+//! Patterns, and where they occur in a host.
+#![tactic(auto)]
+
+mod laws;
