@@ -1,1 +1,2 @@
 pub mod Glued
+pub mod Patterns
