@@ -1,2 +1,4 @@
 pub mod Glued
+pub mod Patterns
 pub mod Bridge
+pub mod Decide
