@@ -1,2 +1,4 @@
 pub mod Glued
 pub mod Patterns
+pub mod Forward
+pub mod Unique
