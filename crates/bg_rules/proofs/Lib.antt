@@ -5,3 +5,5 @@ pub mod PortNames
 pub mod Choices
 pub mod Images
 pub mod Parameters
+pub mod Contexts
+pub mod Construct
