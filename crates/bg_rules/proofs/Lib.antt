@@ -4,3 +4,11 @@ pub mod Bridge
 pub mod Decide
 pub mod Forward
 pub mod Unique
+pub mod Upwards
+pub mod PortNames
+pub mod Choices
+pub mod Images
+pub mod Parameters
+pub mod Contexts
+pub mod Construct
+pub mod Occurrences

@@ -1,3 +1,4 @@
 pub mod Solid
 pub mod Decomposition
 pub mod LocalConditions
+pub mod Occurrences
