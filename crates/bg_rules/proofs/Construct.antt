@@ -43,10 +43,13 @@ module _ (host pattern : Big) (nodes : List ℕ) (is : IsPattern pattern) (host_
   inner_row : (name : Name) → Mem name (pattern.outer ++ names_of (parameter_rows host pattern nodes))
       → (row : InnerRow) × Mem row inner × (row.name ≡ name) × (link_through (context_of host nodes edges sites inner) (Outer name) ≡ row.link)
   inner_row name m =
-      let w = Mem-unmap (λ (row : InnerRow). row.name) inner (subst (λ names. Mem name names) (sym fits.names) m) in
-      (w.0, w.1, w.2,
-      ap (λ o. unwrap_or (option_map (λ (row : InnerRow). row.link) o) (Outer name))
-      (inner_of-member inner (fit_inner_up host pattern nodes is host_valid local edges sites inner fits) w.1 w.2))
+      let w = Mem-unmap (λ (row : InnerRow). row.name) inner (subst (λ names. Mem name names) (sym fits.names) m) in (
+        w.0,
+        w.1,
+        w.2,
+        ap (λ o. unwrap_or (option_map (λ (row : InnerRow). row.link) o) (Outer name))
+            (inner_of-member inner (fit_inner_up host pattern nodes is host_valid local edges sites inner fits) w.1 w.2),
+      )
 
   carried_by_pattern : {name other : Name} {link second : Link} {row image : NodeRow} {port : ℕ} → Carries host pattern nodes other link → other ≡ name
       → IsImage host pattern nodes row image → At (Outer name) port row.links → At second port image.links → link ≡ second
@@ -255,9 +258,10 @@ module _ (host pattern : Big) (nodes : List ℕ) (is : IsPattern pattern) (host_
       let v = inside_from_Mem host pattern nodes host_valid w.2 in
       let below : w.1 < length (cut_row pattern nodes v.0).links = subst (λ (r : NodeRow). w.1 < length r.links) (sym v.2) w.3 in
       let long = cut_length pattern nodes v.0 in
-      let p = At-total v.0.links w.1 (omega (arith, below, long)) in
-      (record { name = name; link = p.0 },
-      record { names = refl; carries = by_parameter v.1 (w.4 ∙ ap (λ n. Port n w.1) (sym (ap (λ (r : NodeRow). r.id) v.2))) p.1 })
+      let p = At-total v.0.links w.1 (omega (arith, below, long)) in (
+        record { name = name; link = p.0 },
+        record { names = refl; carries = by_parameter v.1 (w.4 ∙ ap (λ n. Port n w.1) (sym (ap (λ (r : NodeRow). r.id) v.2))) p.1 },
+      )
 
   inner_chosen : Choice (IsRowFor host pattern nodes) (pattern.outer ++ names_of (parameter_rows host pattern nodes))
   inner_chosen =
@@ -304,6 +308,9 @@ pub glued_made : (host pattern : Big) (nodes : List ℕ) → IsPattern pattern �
 glued_made host pattern nodes is ground local =
     let edges = (edges_chosen host pattern nodes is ground.valid local).ys in
     let sites = (sites_chosen host pattern nodes is ground.valid local).ys in
-    let inner = (inner_chosen host pattern nodes is ground.valid local).ys in
-    (context_of host nodes edges sites inner, edges, parameter_of host pattern nodes,
-    glued_from_fits host pattern nodes is ground.valid local edges sites inner (chosen_fits host pattern nodes is ground.valid local))
+    let inner = (inner_chosen host pattern nodes is ground.valid local).ys in (
+      context_of host nodes edges sites inner,
+      edges,
+      parameter_of host pattern nodes,
+      glued_from_fits host pattern nodes is ground.valid local edges sites inner (chosen_fits host pattern nodes is ground.valid local),
+    )

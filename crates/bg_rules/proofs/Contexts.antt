@@ -101,10 +101,11 @@ module _ (host : Big) (nodes : List ℕ) (host_valid : IsValid host) where
 
   pub outside_from_Mem : {row : NodeRow} → Mem row (context_rows host nodes) → Mem row host.nodes × (IsMet host.nodes nodes (Node row.id) → ⊥)
   outside_from_Mem {row} m =
-      let w = Mem-unfilter (is_outside host nodes) host.nodes m in
-      (w.0,
-      λ met. false≢true (sym (not-true (meets_some host nodes (Node row.id)) w.1)
-      ∙ meets_some-IsMet host nodes host_valid (has_row host.nodes w.0 refl) met))
+      let w = Mem-unfilter (is_outside host nodes) host.nodes m in (
+        w.0,
+        λ met. false≢true (sym (not-true (meets_some host nodes (Node row.id)) w.1)
+            ∙ meets_some-IsMet host nodes host_valid (has_row host.nodes w.0 refl) met),
+      )
 
   context_up : IsStrictlySortedBy node_cmp (context_rows host nodes)
   context_up =

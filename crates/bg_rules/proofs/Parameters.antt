@@ -108,14 +108,15 @@ module _ (host pattern : Big) (nodes : List ℕ) (host_valid : IsValid host) whe
   inside_from_Mem m =
       let w = Mem-unmap (cut_row pattern nodes) (filter (is_inside host nodes) host.nodes) m in
       let v = Mem-unfilter (is_inside host nodes) host.nodes w.1 in
-      let both = and_parts (not (is_among nodes w.0.id)) (meets_some host nodes (Node w.0.id)) v.1 in
-      (w.0,
-      record {
-        of_host = v.0;
-        no_image = not_among nodes (not-true (is_among nodes w.0.id) both.0);
-        met = IsMet-from_meets_some host nodes (Node w.0.id) both.1;
-      },
-      w.2)
+      let both = and_parts (not (is_among nodes w.0.id)) (meets_some host nodes (Node w.0.id)) v.1 in (
+        w.0,
+        record {
+          of_host = v.0;
+          no_image = not_among nodes (not-true (is_among nodes w.0.id) both.0);
+          met = IsMet-from_meets_some host nodes (Node w.0.id) both.1;
+        },
+        w.2,
+      )
 
   parameter_up : IsStrictlySortedBy node_cmp (parameter_of host pattern nodes).nodes
   parameter_up =
