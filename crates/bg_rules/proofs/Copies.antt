@@ -1,0 +1,350 @@
+-- The copies of the parts of a parameter: which rows they have, and that no two of these rows have one number.
+use Rattle.std.proofs.Common.{◌≡◌, ℕ, zero, suc, ◌+◌, ◌<◌, ◌≤◌, ◌==◌, Bool, true, false, cond, if◌then◌else◌, List, [], ◌∷◌, ◌++◌, map, filter, length, take, find, Option, Some, None, unwrap_or, option_map, nat_cmp, is_eq, Less, refl, sym, ap, subst, ◌∙◌, ◌⊎◌, inl, inr, arith, eqb-true, eq-eqb}
+use Rattle.std.specs.List.{IsDistinct, list_any, position_or_len}
+use Rattle.std.specs.Ordering.{eq_by_cmp}
+use Rattle.std.proofs.lemmas.Bool.{cond-true, cond-false, cases_Bool, false≢true}
+use Rattle.std.proofs.lemmas.List.Folds.{find_at}
+use Rattle.std.proofs.lemmas.List.{length-map}
+use Rattle.bg_lists.specs.Lists.{Mem, here, there, At, at_here, at_there}
+use Rattle.bg_lists.proofs.Members.{Mem-cons_cases, Mem-same, Mem-map, Mem-unmap, Mem-filter, Mem-unfilter, Mem-append_left, Mem-append_right, Mem-append_cases}
+use Rattle.bg_lists.proofs.Places.{At-same, At-one, At-below, At-slice_get, Mem-from_At}
+use Rattle.bg_lists.proofs.Ascents.{Ascending-from_sorted, Ascending-filter}
+use Rattle.bg_lists.proofs.Sorting.{IsDistinct-append, IsDistinct-map_on, IsDistinct-from_Ascending}
+use Rattle.bg_lists.proofs.Words.{is_some_find, found}
+use Rattle.bg_base.specs.declared.names.Place.{Place}
+use Rattle.bg_base.specs.declared.names.Place.TheVariants.{Node, Region}
+use Rattle.bg_base.specs.declared.big.NodeRow.{NodeRow}
+use Rattle.bg_base.specs.declared.big.Big.{Big}
+use Rattle.bg_base.specs.Bigraph.{IsValid, node_cmp, row_of}
+use Rattle.bg_base.specs.Instance.{node_numbers}
+use Rattle.bg_base.proofs.LookUps.{same_row, row_from_row_of, apart_numbers, tied_numbers}
+use Rattle.bg_rules.specs.Instantiation.{is_under, part, is_among, late_nodes, number_in_copy, row_in_copy, copies_from}
+use Rattle.bg_rules.proofs.Patterns.{number_mem}
+use Rattle.bg_rules.proofs.Upwards.{is_among-member, member_from_is_among}
+
+-- a member is first found at the place at which it stands
+pub At-position : {x : ℕ} (xs : List ℕ) → Mem x xs → At x (position_or_len (λ other. other == x) xs) xs
+At-position {x} xs m =
+    let w = found (λ (other : ℕ). other == x) xs (is_some_find (λ (other : ℕ). other == x) xs m (eq-eqb x x refl)) in
+    At-same (eqb-true w.0 x w.3) (At-slice_get (position_or_len (λ other. other == x) xs) xs (sym (find_at (λ (other : ℕ). other == x) xs) ∙ w.1))
+
+-- ---- from a place one region is reached
+
+some_from_unwrap : (test : NodeRow → Bool) (o : Option NodeRow) → unwrap_or (option_map test o) false ≡ true
+    → (row : NodeRow) × (o ≡ Some row) × (test row ≡ true)
+some_from_unwrap test None e = cc
+some_from_unwrap test (Some row) e = (row, refl, e)
+
+module _ (rows : List NodeRow) where
+  row_from_under : (region moves node : ℕ) → is_under rows region (suc moves) (Node node) ≡ true
+      → (row : NodeRow) × (row_of rows node ≡ Some row) × (is_under rows region moves row.parent ≡ true)
+  row_from_under region moves node e = some_from_unwrap (λ (row : NodeRow). is_under rows region moves row.parent) (row_of rows node) e
+
+  under_row : (region moves node : ℕ) {row : NodeRow} → row_of rows node ≡ Some row
+      → is_under rows region (suc moves) (Node node) ≡ is_under rows region moves row.parent
+  under_row region moves node e =
+      ap (λ o. unwrap_or (option_map (λ (row : NodeRow). is_under rows region moves row.parent) o) false) e
+
+  under_more : (region moves : ℕ) (place : Place) → is_under rows region moves place ≡ true → is_under rows region (suc moves) place ≡ true
+  under_more region zero (Node node) e = cc
+  under_more region zero (Region other) e = e
+  under_more region (suc moves) (Region other) e = e
+  under_more region (suc moves) (Node node) e =
+      let w = row_from_under region moves node e in under_row region (suc moves) node w.1 ∙ under_more region moves w.0.parent w.2
+
+  one_region : (region other moves : ℕ) (place : Place) → is_under rows region moves place ≡ true → is_under rows other moves place ≡ true → region ≡ other
+  one_region region other zero (Node node) e f = cc
+  one_region region other zero (Region at) e f = sym (eqb-true at region e) ∙ eqb-true at other f
+  one_region region other (suc moves) (Region at) e f = sym (eqb-true at region e) ∙ eqb-true at other f
+  one_region region other (suc moves) (Node node) e f =
+      let v = row_from_under region moves node e in
+      let w = row_from_under other moves node f in
+      let both : Some w.0 ≡ Some v.0 = sym w.1 ∙ v.1 in
+      let same : w.0 ≡ v.0 = cc in
+      one_region region other moves v.0.parent v.2 (subst (λ (row : NodeRow). is_under rows other moves row.parent ≡ true) same w.2)
+
+  -- what a node lies in is under the region that the node is under
+  pub parent_under : (region moves node : ℕ) {row : NodeRow} → row_of rows node ≡ Some row → is_under rows region moves (Node node) ≡ true
+      → is_under rows region moves row.parent ≡ true
+  parent_under region zero node e under = cc
+  parent_under region (suc moves) node {row} e under = under_more region moves row.parent (sym (under_row region moves node e) ∙ under)
+
+-- ---- parts
+
+-- the place is in the part of the parameter under the region
+abbrev pub is_in_part : Big → ℕ → Place → Bool
+is_in_part parameter region place = is_under parameter.nodes region (length parameter.nodes) place
+
+module _ (parameter : Big) where
+  pub Mem-part : {row : NodeRow} (region : ℕ) → Mem row parameter.nodes → is_in_part parameter region (Node row.id) ≡ true → Mem row (part parameter region)
+  unfolding part
+  Mem-part region m under = Mem-filter (λ (row : NodeRow). is_in_part parameter region (Node row.id)) parameter.nodes m under
+
+  pub Mem-unpart : {row : NodeRow} (region : ℕ) → Mem row (part parameter region) → Mem row parameter.nodes × (is_in_part parameter region (Node row.id) ≡ true)
+  unfolding part
+  Mem-unpart region m = Mem-unfilter (λ (row : NodeRow). is_in_part parameter region (Node row.id)) parameter.nodes m
+
+  -- a node is in the part of one region
+  pub part_region : {row other : NodeRow} (region twin : ℕ) → Mem row (part parameter region) → Mem other (part parameter twin) → row.id ≡ other.id → region ≡ twin
+  part_region {row} {other} region twin m n e =
+      one_region parameter.nodes region twin (length parameter.nodes) (Node row.id) (Mem-unpart region m).1
+      (subst (λ node. is_in_part parameter twin (Node node) ≡ true) (sym e) (Mem-unpart twin n).1)
+
+  part_distinct : (region : ℕ) → IsValid parameter → IsDistinct (eq_by_cmp node_cmp) (part parameter region)
+  unfolding part
+  part_distinct region valid =
+      IsDistinct-from_Ascending (filter (λ (row : NodeRow). is_in_part parameter region (Node row.id)) parameter.nodes)
+      (Ascending-filter (λ (row : NodeRow). is_in_part parameter region (Node row.id)) parameter.nodes (Ascending-from_sorted parameter.nodes valid.nodes_ascend))
+
+  -- ---- the nodes of late copies
+
+  -- those of one copy
+  late_here : List ℕ → ℕ → ℕ
+  late_here earlier region = if is_among region earlier then length (part parameter region) else 0
+
+  late_cons : (earlier : List ℕ) (region : ℕ) (entries : List ℕ)
+      → late_nodes parameter earlier (region ∷ entries) ≡ late_here earlier region + late_nodes parameter (region ∷ earlier) entries
+  unfolding late_nodes late_here
+  late_cons earlier region entries = refl
+
+  late_here-among : (earlier : List ℕ) (region : ℕ) → Mem region earlier → late_here earlier region ≡ length (part parameter region)
+  unfolding late_here
+  late_here-among earlier region m = cond-true (is_among region earlier) (length (part parameter region)) 0 (is_among-member earlier m)
+
+  late_none : (earlier : List ℕ) → late_nodes parameter earlier [] ≡ 0
+  unfolding late_nodes
+  late_none earlier = refl
+
+  late_step : (earlier : List ℕ) {region at : ℕ} (entries : List ℕ) → At region at entries → Mem region earlier ⊎ Mem region (take at entries)
+      → late_nodes parameter earlier (take at entries) + length (part parameter region) ≤ late_nodes parameter earlier (take (suc at) entries)
+  late_step earlier [] a m = elim a [ ]
+  late_step earlier {region} (first ∷ entries) (at_here e) m =
+      let among : Mem region earlier = elim m [ inl k ↦ k | inr k ↦ elim k [ ] ] in
+      let count = late_here-among earlier first (Mem-same (sym e) among) in
+      let same : length (part parameter first) ≡ length (part parameter region) = ap (λ r. length (part parameter r)) e in
+      let more = late_cons earlier first [] in
+      let none = late_none earlier in
+      omega (arith, count, same, more, none)
+  late_step earlier {region} (first ∷ entries) (at_there {i = i} a) m =
+      let among : Mem region (first ∷ earlier) ⊎ Mem region (take i entries) =
+      elim m [ inl k ↦ inl (there k) | inr k ↦ elim (Mem-cons_cases k) [ inl e ↦ inl (here e) | inr n ↦ inr n ] ] in
+      let less = late_step (first ∷ earlier) entries a among in
+      let few = late_cons earlier first (take i entries) in
+      let more = late_cons earlier first (take (suc i) entries) in
+      omega (arith, less, few, more)
+
+  late_more : (earlier entries : List ℕ) (i j : ℕ) → i ≤ j → late_nodes parameter earlier (take i entries) ≤ late_nodes parameter earlier (take j entries)
+  late_more earlier entries zero j le = let none = late_none earlier in omega (arith, none)
+  late_more earlier entries (suc i) zero le = absurd (omega (arith, le))
+  late_more earlier [] (suc i) (suc j) le = omega arith
+  late_more earlier (first ∷ entries) (suc i) (suc j) le =
+      let less = late_more (first ∷ earlier) entries i j (omega (arith, le)) in
+      let few = late_cons earlier first (take i entries) in
+      let more = late_cons earlier first (take j entries) in
+      omega (arith, less, few, more)
+
+  late_upto : (earlier entries : List ℕ) (i : ℕ) → late_nodes parameter earlier (take i entries) ≤ late_nodes parameter earlier entries
+  late_upto earlier entries zero = let none = late_none earlier in omega (arith, none)
+  late_upto earlier [] (suc i) = omega arith
+  late_upto earlier (first ∷ entries) (suc i) =
+      let less = late_upto (first ∷ earlier) entries i in
+      let few = late_cons earlier first (take i entries) in
+      let more = late_cons earlier first entries in
+      omega (arith, less, few, more)
+
+-- what stands before a place is among the first so many
+At-taken : {x i j : ℕ} (xs : List ℕ) → At x i xs → i < j → Mem x (take j xs)
+At-taken {j = zero} xs a less = absurd (omega (arith, less))
+At-taken {j = suc j} [] a less = elim a [ ]
+At-taken {j = suc j} (y ∷ ys) (at_here e) less = here e
+At-taken {j = suc j} (y ∷ ys) (at_there a) less = there (At-taken {j = j} ys a (omega (arith, less)))
+
+-- ---- the numbers in a copy
+
+-- a copy keeps its numbers where no earlier entry asks for the part; a late copy has the numbers of a range of its own
+pub record IsKept (parameter : Big) (entries : List ℕ) (next at region node : ℕ) : Type 0 where
+  pub first : Mem region (take at entries) → ⊥
+  pub same : number_in_copy parameter entries next at region node ≡ node
+
+pub record IsLate (parameter : Big) (entries : List ℕ) (next at region node : ℕ) : Type 0 where
+  pub again : Mem region (take at entries)
+  pub rank : ℕ
+  pub ranked : At node rank (node_numbers (part parameter region))
+  pub number : number_in_copy parameter entries next at region node ≡ next + late_nodes parameter [] (take at entries) + rank
+
+module _ (parameter : Big) (entries : List ℕ) (next : ℕ) where
+  number_kept : (at region node : ℕ) → is_among region (take at entries) ≡ false → number_in_copy parameter entries next at region node ≡ node
+  unfolding number_in_copy
+  number_kept at region node e = cond-false (is_among region (take at entries)) _ _ e
+
+  number_late : (at region node : ℕ) → is_among region (take at entries) ≡ true
+      → number_in_copy parameter entries next at region node
+      ≡ next + late_nodes parameter [] (take at entries) + position_or_len (λ other. other == node) (node_numbers (part parameter region))
+  unfolding number_in_copy
+  number_late at region node e = cond-true (is_among region (take at entries)) _ _ e
+
+  pub number_cases : (at region : ℕ) {node : ℕ} → Mem node (node_numbers (part parameter region))
+      → IsKept parameter entries next at region node ⊎ IsLate parameter entries next at region node
+  number_cases at region {node} m =
+      elim (cases_Bool (is_among region (take at entries))) [
+        | inl late ↦ inr (record {
+            again = member_from_is_among (take at entries) region late;
+            rank = position_or_len (λ other. other == node) (node_numbers (part parameter region));
+            ranked = At-position (node_numbers (part parameter region)) m;
+            number = number_late at region node late;
+          })
+        | inr kept ↦ inl (record {
+            first = λ k. false≢true (sym kept ∙ is_among-member (take at entries) k);
+            same = number_kept at region node kept;
+          })
+      ]
+
+  late_low : {at region node : ℕ} → IsLate parameter entries next at region node
+      → next + late_nodes parameter [] (take at entries) ≤ number_in_copy parameter entries next at region node
+  late_low late = let e = late.number in omega (arith, e)
+
+  late_high : {at region node : ℕ} → At region at entries → IsLate parameter entries next at region node
+      → number_in_copy parameter entries next at region node < next + late_nodes parameter [] (take (suc at) entries)
+  late_high {at} {region} a late =
+      let e = late.number in
+      let below = At-below late.ranked in
+      let long = length-map (part parameter region) (λ (row : NodeRow). row.id) in
+      let step = late_step parameter [] entries a (inr late.again) in
+      omega (arith, e, below, long, step)
+
+  -- in one copy each node has a number of its own
+  copy_injective : (at region : ℕ) {node other : ℕ} → Mem node (node_numbers (part parameter region)) → Mem other (node_numbers (part parameter region))
+      → number_in_copy parameter entries next at region node ≡ number_in_copy parameter entries next at region other → node ≡ other
+  copy_injective at region {node} {other} m n e =
+      elim (number_cases at region m) [
+        | inl kept ↦ elim (number_cases at region n) [
+          | inl twin ↦ sym kept.same ∙ e ∙ twin.same
+          | inr twin ↦ absurd (kept.first twin.again)
+        ]
+        | inr late ↦ elim (number_cases at region n) [
+          | inl twin ↦ absurd (twin.first late.again)
+          | inr twin ↦ (let one = late.number in
+              let two = twin.number in
+              let same : late.rank ≡ twin.rank = omega (arith, one, two, e) in
+              At-one (subst (λ i. At node i (node_numbers (part parameter region))) same late.ranked) twin.ranked)
+        ]
+      ]
+
+  -- ---- the numbers of two copies
+
+  module _ (below : (node : ℕ) → Mem node (node_numbers parameter.nodes) → node < next) where
+    part_below : (region : ℕ) {node : ℕ} → Mem node (node_numbers (part parameter region)) → node < next
+    part_below region {node} m =
+        let w = Mem-unmap (λ (row : NodeRow). row.id) (part parameter region) m in
+        below node (Mem-same w.2 (number_mem (Mem-unpart parameter region w.1).0))
+
+    -- no node of a copy has the number of a node of a later one
+    copies_differ : {at other region twin : ℕ} {row copied : NodeRow} → At region at entries → At twin other entries → at < other
+        → Mem row (part parameter region) → Mem copied (part parameter twin)
+        → number_in_copy parameter entries next at region row.id ≡ number_in_copy parameter entries next other twin copied.id → ⊥
+    copies_differ {at} {other} {region} {twin} {row} {copied} a b less m n e =
+        elim (number_cases other twin (number_mem n)) [
+          | inl later ↦ elim (number_cases at region (number_mem m)) [
+            | inl kept ↦ (let same : row.id ≡ copied.id = sym kept.same ∙ e ∙ later.same in
+                let one = part_region parameter region twin m n same in
+                later.first (Mem-same one (At-taken entries a less)))
+            | inr late ↦ (let low = late_low late in
+                let few = part_below twin (number_mem n) in
+                let same = later.same in absurd (omega (arith, low, few, same, e)))
+          ]
+          | inr later ↦ (let low = late_low later in elim (number_cases at region (number_mem m)) [
+            | inl kept ↦ (let few = part_below region (number_mem m) in
+                let same = kept.same in absurd (omega (arith, low, few, same, e)))
+            | inr late ↦ (let high = late_high a late in
+                let more = late_more parameter [] entries (suc at) other (omega (arith, less)) in
+                absurd (omega (arith, low, high, more, e)))
+          ])
+        ]
+
+    -- a number of a copy is below the next free one after the instance; it is one of the parameter's, or not below the first free one
+    pub number_below : {at region : ℕ} {node : ℕ} → At region at entries → Mem node (node_numbers (part parameter region))
+        → number_in_copy parameter entries next at region node < next + late_nodes parameter [] entries
+    number_below {at} {region} {node} a m =
+        elim (number_cases at region m) [
+          | inl kept ↦ (let few = part_below region m in let same = kept.same in omega (arith, few, same))
+          | inr late ↦ (let high = late_high a late in
+              let more = late_upto parameter [] entries (suc at) in omega (arith, high, more))
+        ]
+
+  pub number_origin : (at region : ℕ) {row : NodeRow} → Mem row (part parameter region)
+      → Mem (number_in_copy parameter entries next at region row.id) (node_numbers parameter.nodes)
+      ⊎ (next ≤ number_in_copy parameter entries next at region row.id)
+  number_origin at region m =
+      elim (number_cases at region (number_mem m)) [
+        | inl kept ↦ inl (Mem-same (sym kept.same) (number_mem (Mem-unpart parameter region m).0))
+        | inr late ↦ (let low = late_low late in inr (omega (arith, low)))
+      ]
+
+  -- ---- the rows of the copies
+
+  -- an entry of the rest stands among all entries, at its place after the first
+  record IsTail (at : ℕ) (rest : List ℕ) : Type 0 where
+    asked : (i region : ℕ) → At region i rest → At region (at + i) entries
+
+  tail_head : {at region : ℕ} {rest : List ℕ} → IsTail at (region ∷ rest) → At region at entries
+  tail_head {at} {region} tail = let e : at + 0 ≡ at = omega arith in subst (λ n. At region n entries) e (tail.asked 0 region (at_here refl))
+
+  tail_tail : {at region : ℕ} {rest : List ℕ} → IsTail at (region ∷ rest) → IsTail (suc at) rest
+  tail_tail {at} tail =
+      record {
+        asked = λ i other a. let e : at + suc i ≡ suc at + i = omega arith in
+            subst (λ n. At other n entries) e (tail.asked (suc i) other (at_there a));
+      }
+
+  tail_whole : IsTail 0 entries
+  tail_whole = record { asked = λ i region a. let e : i ≡ 0 + i = omega arith in subst (λ n. At region n entries) e a }
+
+  -- the row is the copy of a row of the part that an entry asks for
+  pub record IsCopy (copy : NodeRow) : Type 0 where
+    pub at : ℕ
+    pub region : ℕ
+    pub row : NodeRow
+    pub asked : At region at entries
+    pub of_part : Mem row (part parameter region)
+    pub same : row_in_copy parameter entries next at region row ≡ copy
+
+  copies_cons : (at region : ℕ) (rest : List ℕ) → copies_from parameter entries next at (region ∷ rest)
+      ≡ map (row_in_copy parameter entries next at region) (part parameter region) ++ copies_from parameter entries next (suc at) rest
+  unfolding copies_from
+  copies_cons at region rest = refl
+
+  copies_none : (at : ℕ) → copies_from parameter entries next at [] ≡ []
+  unfolding copies_from
+  copies_none at = refl
+
+  copy_from : (at : ℕ) (rest : List ℕ) → IsTail at rest → {copy : NodeRow} → Mem copy (copies_from parameter entries next at rest) → IsCopy copy
+  copy_from at [] tail {copy} m = let none : Mem copy [] = subst (λ (rows : List NodeRow). Mem copy rows) (copies_none at) m in elim none [ ]
+  copy_from at (region ∷ rest) tail {copy} m =
+      elim (Mem-append_cases (map (row_in_copy parameter entries next at region) (part parameter region)) (copies_from parameter entries next (suc at) rest)
+      (subst (λ (rows : List NodeRow). Mem copy rows) (copies_cons at region rest) m)) [
+        | inl k ↦ (let w = Mem-unmap (row_in_copy parameter entries next at region) (part parameter region) k in
+            record { at = at; region = region; row = w.0; asked = tail_head tail; of_part = w.1; same = w.2 })
+        | inr k ↦ copy_from (suc at) rest (tail_tail tail) k
+      ]
+
+  copy_there : (at i n : ℕ) {region : ℕ} (rest : List ℕ) {row : NodeRow} → At region i rest → n ≡ at + i → Mem row (part parameter region)
+      → Mem (row_in_copy parameter entries next n region row) (copies_from parameter entries next at rest)
+  copy_there at i n [] a e m = elim a [ ]
+  copy_there at zero n {region} (first ∷ rest) {row} (at_here same) e m =
+      let place : n ≡ at = omega (arith, e) in
+      subst (λ (rows : List NodeRow). Mem (row_in_copy parameter entries next n region row) rows) (sym (copies_cons at first rest))
+      (Mem-append_left (map (row_in_copy parameter entries next at first) (part parameter first)) (copies_from parameter entries next (suc at) rest)
+      (subst (λ k. Mem (row_in_copy parameter entries next k region row) (map (row_in_copy parameter entries next at first) (part parameter first))) (sym place)
+      (subst (λ r. Mem (row_in_copy parameter entries next at region row) (map (row_in_copy parameter entries next at r) (part parameter r))) (sym same)
+      (Mem-map (row_in_copy parameter entries next at region) m))))
+  copy_there at (suc i) n {region} (first ∷ rest) {row} (at_there a) e m =
+      subst (λ (rows : List NodeRow). Mem (row_in_copy parameter entries next n region row) rows) (sym (copies_cons at first rest))
+      (Mem-append_right (map (row_in_copy parameter entries next at first) (part parameter first)) (copies_from parameter entries next (suc at) rest)
+      (copy_there (suc at) i n rest a (omega (arith, e)) m))
+
+  pub copy_cases : {copy : NodeRow} → Mem copy (copies_from parameter entries next 0 entries) → IsCopy copy
+  copy_cases m = copy_from 0 entries tail_whole m
+
+  pub Mem-copies : {at region : ℕ} {row : NodeRow} → At region at entries → Mem row (part parameter region)
+      → Mem (row_in_copy parameter entries next at region row) (copies_from parameter entries next 0 entries)
+  Mem-copies {at} a m = copy_there 0 at at entries a (omega arith) m
