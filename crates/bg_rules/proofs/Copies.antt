@@ -152,6 +152,10 @@ module _ (parameter : Big) where
       let more = late_cons earlier first entries in
       omega (arith, less, few, more)
 
+IsDistinct-none : {X : Type 0} (same : X → X → Bool) → IsDistinct same []
+unfolding IsDistinct
+IsDistinct-none same = tt
+
 -- what stands before a place is among the first so many
 At-taken : {x i j : ℕ} (xs : List ℕ) → At x i xs → i < j → Mem x (take j xs)
 At-taken {j = zero} xs a less = absurd (omega (arith, less))
@@ -317,14 +321,15 @@ module _ (parameter : Big) (entries : List ℕ) (next : ℕ) where
   unfolding copies_from
   copies_none at = refl
 
-  copy_from : (at : ℕ) (rest : List ℕ) → IsTail at rest → {copy : NodeRow} → Mem copy (copies_from parameter entries next at rest) → IsCopy copy
+  copy_from : (at : ℕ) (rest : List ℕ) → IsTail at rest → {copy : NodeRow} → Mem copy (copies_from parameter entries next at rest)
+      → (is : IsCopy copy) × (at ≤ is.at)
   copy_from at [] tail {copy} m = let none : Mem copy [] = subst (λ (rows : List NodeRow). Mem copy rows) (copies_none at) m in elim none [ ]
   copy_from at (region ∷ rest) tail {copy} m =
       elim (Mem-append_cases (map (row_in_copy parameter entries next at region) (part parameter region)) (copies_from parameter entries next (suc at) rest)
       (subst (λ (rows : List NodeRow). Mem copy rows) (copies_cons at region rest) m)) [
         | inl k ↦ (let w = Mem-unmap (row_in_copy parameter entries next at region) (part parameter region) k in
-            record { at = at; region = region; row = w.0; asked = tail_head tail; of_part = w.1; same = w.2 })
-        | inr k ↦ copy_from (suc at) rest (tail_tail tail) k
+            (record { at = at; region = region; row = w.0; asked = tail_head tail; of_part = w.1; same = w.2 }, omega arith))
+        | inr k ↦ (let w = copy_from (suc at) rest (tail_tail tail) k in let less = w.1 in (w.0, omega (arith, less)))
       ]
 
   copy_there : (at i n : ℕ) {region : ℕ} (rest : List ℕ) {row : NodeRow} → At region i rest → n ≡ at + i → Mem row (part parameter region)
@@ -343,8 +348,37 @@ module _ (parameter : Big) (entries : List ℕ) (next : ℕ) where
       (copy_there (suc at) i n rest a (omega (arith, e)) m))
 
   pub copy_cases : {copy : NodeRow} → Mem copy (copies_from parameter entries next 0 entries) → IsCopy copy
-  copy_cases m = copy_from 0 entries tail_whole m
+  copy_cases m = (copy_from 0 entries tail_whole m).0
 
   pub Mem-copies : {at region : ℕ} {row : NodeRow} → At region at entries → Mem row (part parameter region)
       → Mem (row_in_copy parameter entries next at region row) (copies_from parameter entries next 0 entries)
   Mem-copies {at} a m = copy_there 0 at at entries a (omega arith) m
+
+  -- ---- the rows of the copies are apart
+
+  module _ (valid : IsValid parameter) (below : (node : ℕ) → Mem node (node_numbers parameter.nodes) → node < next) where
+    row_injective : (at region : ℕ) (row other : NodeRow) → Mem row (part parameter region) → Mem other (part parameter region)
+        → eq_by_cmp node_cmp row other ≡ false
+        → eq_by_cmp node_cmp (row_in_copy parameter entries next at region row) (row_in_copy parameter entries next at region other) ≡ false
+    row_injective at region row other m n differ =
+        apart_numbers (number_in_copy parameter entries next at region row.id) (number_in_copy parameter entries next at region other.id)
+        (λ e. false≢true (sym differ ∙ tied_numbers row.id other.id (copy_injective at region (number_mem m) (number_mem n) e)))
+
+    distinct_from : (at : ℕ) (rest : List ℕ) → IsTail at rest → IsDistinct (eq_by_cmp node_cmp) (copies_from parameter entries next at rest)
+    distinct_from at [] tail = subst (IsDistinct (eq_by_cmp node_cmp)) (sym (copies_none at)) (IsDistinct-none (eq_by_cmp node_cmp))
+    distinct_from at (region ∷ rest) tail =
+        subst (IsDistinct (eq_by_cmp node_cmp)) (sym (copies_cons at region rest))
+        (IsDistinct-append (eq_by_cmp node_cmp) (map (row_in_copy parameter entries next at region) (part parameter region))
+        (copies_from parameter entries next (suc at) rest)
+        (IsDistinct-map_on (eq_by_cmp node_cmp) (eq_by_cmp node_cmp) (row_in_copy parameter entries next at region) (part parameter region)
+        (row_injective at region) (part_distinct parameter region valid))
+        (distinct_from (suc at) rest (tail_tail tail))
+        (λ x y m n. let v = Mem-unmap (row_in_copy parameter entries next at region) (part parameter region) m in
+        let w = copy_from (suc at) rest (tail_tail tail) n in
+        let less = w.1 in
+        apart_numbers x.id y.id
+        (λ e. copies_differ below (tail_head tail) w.0.asked (omega (arith, less)) v.1 w.0.of_part
+        (ap (λ (row : NodeRow). row.id) v.2 ∙ e ∙ sym (ap (λ (row : NodeRow). row.id) w.0.same)))))
+
+    pub copies_distinct : IsDistinct (eq_by_cmp node_cmp) (copies_from parameter entries next 0 entries)
+    copies_distinct = distinct_from 0 entries tail_whole
