@@ -14,3 +14,5 @@ pub mod Construct
 pub mod Occurrences
 pub mod Copies
 pub mod Instances
+pub mod Frames
+pub mod Reactions
