@@ -16,3 +16,4 @@ pub mod Copies
 pub mod Instances
 pub mod Frames
 pub mod Reactions
+pub mod Signed

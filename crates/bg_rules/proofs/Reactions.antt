@@ -25,6 +25,7 @@ use Rattle.bg_rules.specs.Solid.{IsPattern}
 use Rattle.bg_rules.specs.Decomposition.{IsParameter, AreNew, frame, Decomposes, Occurs}
 use Rattle.bg_rules.specs.Instantiation.{instantiate, next_after}
 use Rattle.bg_rules.specs.Reaction.{Numbered, IsNumbered, AreSides, recomposed, Reacts}
+use Rattle.bg_rules.specs.Recomposition.{next_frame, next_instance, IsRecomposable}
 use Rattle.bg_rules.proofs.Glued.{Glued}
 use Rattle.bg_rules.proofs.Bridge.{IsSide}
 use Rattle.bg_rules.proofs.Patterns.{number_row, number_mem}
@@ -72,11 +73,11 @@ module _ (host : Numbered) (redex reactum : Big) (entries nodes : List ℕ) (num
   next = host.next_node + length reactum.nodes
 
   -- the reactum's frame, and the instance that goes into it
-  abbrev pub made : Big
-  made = frame reactum (counted host.next_node (length reactum.nodes)) (counted host.next_edge (length reactum.edges)) parameter.outer
+  abbrev made : Big
+  made = next_frame host reactum parameter
 
-  abbrev pub filling : Big
-  filling = instantiate parameter entries (host.next_node + length reactum.nodes)
+  abbrev filling : Big
+  filling = next_instance host reactum entries parameter
 
   side : IsSide reactum
   side = reactum_side redex reactum entries sides
@@ -98,8 +99,8 @@ module _ (host : Numbered) (redex reactum : Big) (entries nodes : List ℕ) (num
       subst (λ n. n < host.next_node) w.2
       (All-member (λ (r : NodeRow). r.id < host.next_node) host.big.nodes numbered.nodes_below (glued.of_parameter w.0 w.1))
 
-  below : (node : ℕ) → Mem node (node_numbers parameter.nodes) → node < next
-  below node m = let less = parameter_below node m in omega (arith, less)
+  pub next_below : (node : ℕ) → Mem node (node_numbers parameter.nodes) → node < host.next_node + length reactum.nodes
+  next_below node m = let less = parameter_below node m in omega (arith, less)
 
   context_edge_below : {edge : ℕ} → Mem edge context.edges → edge < host.next_edge
   context_edge_below {edge} m = All-member (λ edge. edge < host.next_edge) host.big.edges numbered.edges_below (glued.edges_in edge (inr m))
@@ -115,15 +116,11 @@ module _ (host : Numbered) (redex reactum : Big) (entries nodes : List ℕ) (num
       (frame_edge reactum new_nodes new_edges parameter side glued.is_parameter nodes_new edges_new m)
 
   filling_range : {row : NodeRow} → Mem row filling.nodes → Mem row.id (node_numbers parameter.nodes) ⊎ (next ≤ row.id)
-  filling_range m = instance_numbers parameter entries next glued.is_parameter below m
+  filling_range m = instance_numbers parameter entries next glued.is_parameter next_below m
 
   -- ---- the operations are defined
 
-  pub reactum_apart : Apart (rename reactum (counted host.next_node (length reactum.nodes)) (counted host.next_edge (length reactum.edges)))
-      (identity 0 parameter.outer)
-  reactum_apart = frame_apart reactum new_nodes new_edges parameter side glued.is_parameter nodes_new edges_new
-
-  pub filled_faces : FacesAgree made filling
+  filled_faces : FacesAgree made filling
   filled_faces =
       record {
         widths = instance_regions parameter entries next ∙ sides.as_many
@@ -132,7 +129,7 @@ module _ (host : Numbered) (redex reactum : Big) (entries nodes : List ℕ) (num
             ∙ sym (frame_names reactum new_nodes new_edges parameter side glued.is_parameter nodes_new edges_new);
       }
 
-  pub filled_supports : SupportsApart made filling
+  filled_supports : SupportsApart made filling
   filled_supports =
       SupportsApart-from_members made filling
       (λ row other m n e. let r = made_range m in
@@ -144,10 +141,10 @@ module _ (host : Numbered) (redex reactum : Big) (entries nodes : List ℕ) (num
       ])
       (record { apart = λ x m n. let none = subst (λ es. Mem x es) (instance_edges parameter entries next) n in elim none [ ] })
 
-  abbrev pub inside : Big
+  abbrev inside : Big
   inside = compose made filling
 
-  pub placed_faces : FacesAgree context inside
+  placed_faces : FacesAgree context inside
   placed_faces =
       record {
         widths = compose_regions made filling
@@ -158,7 +155,7 @@ module _ (host : Numbered) (redex reactum : Big) (entries nodes : List ℕ) (num
             ∙ ap (λ names. names ++ parameter.outer) (sym sides.outer) ∙ sym glued.names;
       }
 
-  pub placed_supports : SupportsApart context inside
+  placed_supports : SupportsApart context inside
   placed_supports =
       SupportsApart-from_members context inside
       (λ row other m n e. let less = context_below m in
@@ -177,21 +174,31 @@ module _ (host : Numbered) (redex reactum : Big) (entries nodes : List ℕ) (num
         ];
       })
 
+  pub recomposable : IsRecomposable host reactum entries context parameter
+  recomposable =
+      record {
+        apart = frame_apart reactum new_nodes new_edges parameter side glued.is_parameter nodes_new edges_new;
+        filled = filled_faces;
+        filled_apart = filled_supports;
+        placed = placed_faces;
+        placed_apart = placed_supports;
+      }
+
   -- ---- the result is valid and ground
 
-  made_valid : IsValid made
-  made_valid = frame_valid reactum new_nodes new_edges parameter side glued.is_parameter nodes_new edges_new
+  pub frame_of_next : IsValid (next_frame host reactum parameter)
+  frame_of_next = frame_valid reactum new_nodes new_edges parameter side glued.is_parameter nodes_new edges_new
 
-  filling_valid : IsValid filling
-  filling_valid = instance_valid parameter entries next glued.is_parameter below
+  pub instance_of_next : IsValid (next_instance host reactum entries parameter)
+  instance_of_next = instance_valid parameter entries next glued.is_parameter next_below
 
-  inside_valid : IsValid inside
-  inside_valid = compose_valid made filling filled_faces filled_supports made_valid filling_valid
+  pub inside_valid : IsValid (compose (next_frame host reactum parameter) (next_instance host reactum entries parameter))
+  inside_valid = compose_valid made filling filled_faces filled_supports frame_of_next instance_of_next
 
   abbrev whole : Big
   whole = compose context inside
 
-  whole_valid : IsValid whole
+  pub whole_valid : IsValid (compose context (compose (next_frame host reactum parameter) (next_instance host reactum entries parameter)))
   whole_valid = compose_valid context inside placed_faces placed_supports glued.context_valid inside_valid
 
   pub recomposed_ground : IsGround (recomposed host reactum entries context parameter)
@@ -214,7 +221,7 @@ module _ (host : Numbered) (redex reactum : Big) (entries nodes : List ℕ) (num
         | inr w ↦ (let same : w.0.id ≡ row.id = ap (λ (r : NodeRow). r.id) w.2 in
             elim (Mem-compose_cases made filling w.1) [
               | inl two ↦ (let high = (made_range two).1 in omega (arith, high, same))
-              | inr v ↦ (let below_next = instance_below parameter entries next glued.is_parameter below v.1 in
+              | inr v ↦ (let below_next = instance_below parameter entries next glued.is_parameter next_below v.1 in
                   let also : v.0.id ≡ w.0.id = ap (λ (r : NodeRow). r.id) v.2 in omega (arith, below_next, also, same))
             ])
       ]

@@ -4,3 +4,4 @@ pub mod LocalConditions
 pub mod Occurrences
 pub mod Instantiation
 pub mod Reaction
+pub mod Recomposition
