@@ -36,11 +36,11 @@ some_from_unwrap test None e = cc
 some_from_unwrap test (Some row) e = (row, refl, e)
 
 module _ (rows : List NodeRow) where
-  row_from_under : (region moves node : ℕ) → is_under rows region (suc moves) (Node node) ≡ true
+  pub row_from_under : (region moves node : ℕ) → is_under rows region (suc moves) (Node node) ≡ true
       → (row : NodeRow) × (row_of rows node ≡ Some row) × (is_under rows region moves row.parent ≡ true)
   row_from_under region moves node e = some_from_unwrap (λ (row : NodeRow). is_under rows region moves row.parent) (row_of rows node) e
 
-  under_row : (region moves node : ℕ) {row : NodeRow} → row_of rows node ≡ Some row
+  pub under_row : (region moves node : ℕ) {row : NodeRow} → row_of rows node ≡ Some row
       → is_under rows region (suc moves) (Node node) ≡ is_under rows region moves row.parent
   under_row region moves node e =
       ap (λ o. unwrap_or (option_map (λ (row : NodeRow). is_under rows region moves row.parent) o) false) e
@@ -52,7 +52,7 @@ module _ (rows : List NodeRow) where
   under_more region (suc moves) (Node node) e =
       let w = row_from_under region moves node e in under_row region (suc moves) node w.1 ∙ under_more region moves w.0.parent w.2
 
-  one_region : (region other moves : ℕ) (place : Place) → is_under rows region moves place ≡ true → is_under rows other moves place ≡ true → region ≡ other
+  pub one_region : (region other moves : ℕ) (place : Place) → is_under rows region moves place ≡ true → is_under rows other moves place ≡ true → region ≡ other
   one_region region other zero (Node node) e f = cc
   one_region region other zero (Region at) e f = sym (eqb-true at region e) ∙ eqb-true at other f
   one_region region other (suc moves) (Region at) e f = sym (eqb-true at region e) ∙ eqb-true at other f
@@ -133,7 +133,7 @@ module _ (parameter : Big) where
       let more = late_cons earlier first (take (suc i) entries) in
       omega (arith, less, few, more)
 
-  late_more : (earlier entries : List ℕ) (i j : ℕ) → i ≤ j → late_nodes parameter earlier (take i entries) ≤ late_nodes parameter earlier (take j entries)
+  pub late_more : (earlier entries : List ℕ) (i j : ℕ) → i ≤ j → late_nodes parameter earlier (take i entries) ≤ late_nodes parameter earlier (take j entries)
   late_more earlier entries zero j le = let none = late_none earlier in omega (arith, none)
   late_more earlier entries (suc i) zero le = absurd (omega (arith, le))
   late_more earlier [] (suc i) (suc j) le = omega arith
@@ -203,11 +203,11 @@ module _ (parameter : Big) (entries : List ℕ) (next : ℕ) where
           })
       ]
 
-  late_low : {at region node : ℕ} → IsLate parameter entries next at region node
+  pub late_low : {at region node : ℕ} → IsLate parameter entries next at region node
       → next + late_nodes parameter [] (take at entries) ≤ number_in_copy parameter entries next at region node
   late_low late = let e = late.number in omega (arith, e)
 
-  late_high : {at region node : ℕ} → At region at entries → IsLate parameter entries next at region node
+  pub late_high : {at region node : ℕ} → At region at entries → IsLate parameter entries next at region node
       → number_in_copy parameter entries next at region node < next + late_nodes parameter [] (take (suc at) entries)
   late_high {at} {region} a late =
       let e = late.number in
@@ -217,7 +217,7 @@ module _ (parameter : Big) (entries : List ℕ) (next : ℕ) where
       omega (arith, e, below, long, step)
 
   -- in one copy each node has a number of its own
-  copy_injective : (at region : ℕ) {node other : ℕ} → Mem node (node_numbers (part parameter region)) → Mem other (node_numbers (part parameter region))
+  pub copy_injective : (at region : ℕ) {node other : ℕ} → Mem node (node_numbers (part parameter region)) → Mem other (node_numbers (part parameter region))
       → number_in_copy parameter entries next at region node ≡ number_in_copy parameter entries next at region other → node ≡ other
   copy_injective at region {node} {other} m n e =
       elim (number_cases at region m) [
@@ -243,7 +243,7 @@ module _ (parameter : Big) (entries : List ℕ) (next : ℕ) where
         below node (Mem-same w.2 (number_mem (Mem-unpart parameter region w.1).0))
 
     -- no node of a copy has the number of a node of a later one
-    copies_differ : {at other region twin : ℕ} {row copied : NodeRow} → At region at entries → At twin other entries → at < other
+    pub copies_differ : {at other region twin : ℕ} {row copied : NodeRow} → At region at entries → At twin other entries → at < other
         → Mem row (part parameter region) → Mem copied (part parameter twin)
         → number_in_copy parameter entries next at region row.id ≡ number_in_copy parameter entries next other twin copied.id → ⊥
     copies_differ {at} {other} {region} {twin} {row} {copied} a b less m n e =

@@ -27,8 +27,15 @@ use Rattle.bg_base.proofs.Climbs.{Climb, at_region, at_node, Climb-from_place}
 use Rattle.bg_algebra.proofs.Parts.{IsSound, Fits, valid_from_rows, valid_under_from_rows}
 use Rattle.bg_rules.specs.Decomposition.{IsParameter}
 use Rattle.bg_rules.specs.Instantiation.{is_under, part, number_in_copy, place_in_copy, row_in_copy, copies_from, instantiate, next_after}
-use Rattle.bg_rules.proofs.Patterns.{number_mem, parent_there, link_there}
+use Rattle.bg_rules.proofs.Patterns.{number_row, number_mem, parent_there, link_there}
 use Rattle.bg_rules.proofs.Copies.{is_in_part, parent_under, Mem-part, Mem-unpart, IsCopy, copy_cases, Mem-copies, copies_distinct, number_below, number_origin}
+
+-- each row's number is below, so each number is
+pub number_below_from_all : (parameter : Big) (next : ℕ) → All (λ (row : NodeRow). row.id < next) parameter.nodes
+    → (node : ℕ) → Mem node (node_numbers parameter.nodes) → node < next
+number_below_from_all parameter next below node m =
+    let w = number_row parameter.nodes m in
+    subst (λ n. n < next) w.2 (All-member (λ (row : NodeRow). row.id < next) parameter.nodes below w.1)
 
 module _ (parameter : Big) (entries : List ℕ) (next : ℕ) where
   pub instance_edges : (instantiate parameter entries next).edges ≡ []
@@ -83,7 +90,7 @@ module _ (parameter : Big) (entries : List ℕ) (next : ℕ) where
     valid : IsValid parameter
     valid = is.ground.valid
 
-    instance_up : IsStrictlySortedBy node_cmp (instantiate parameter entries next).nodes
+    pub instance_up : IsStrictlySortedBy node_cmp (instantiate parameter entries next).nodes
     unfolding instantiate
     instance_up =
         sorted_from_Ascending (sort (before node_cmp) (copies_from parameter entries next 0 entries))
@@ -118,7 +125,7 @@ module _ (parameter : Big) (entries : List ℕ) (next : ℕ) where
         (row_of-member (instantiate parameter entries next).nodes instance_up (Mem-instance a mem) (ap (number_in_copy parameter entries next at region) w.1))
         (copy_climb a climb (parent_under parameter.nodes region (length parameter.nodes) node row_is here_under))
 
-    parent_in_part : {row : NodeRow} (region : ℕ) → Mem row (part parameter region) → is_in_part parameter region row.parent ≡ true
+    pub parent_in_part : {row : NodeRow} (region : ℕ) → Mem row (part parameter region) → is_in_part parameter region row.parent ≡ true
     parent_in_part {row} region m =
         let w = Mem-unpart parameter region m in
         parent_under parameter.nodes region (length parameter.nodes) row.id (row_of-member parameter.nodes valid.nodes_ascend w.0 refl) w.1

@@ -17,3 +17,4 @@ pub mod Instances
 pub mod Frames
 pub mod Reactions
 pub mod Signed
+pub mod Wholes

@@ -5,6 +5,7 @@ ghost use Rattle.bg_base.specs.declared.big.NodeRow.{NodeRow};
 ghost use Rattle.bg_base.specs.declared.big.Big.{Big};
 ghost use Rattle.bg_base.specs.declared.signature.Control.{Control};
 ghost use Rattle.bg_base.specs.Bigraph.{IsGround, IsValidUnder};
+ghost use Rattle.bg_base.specs.Elementary.{counted};
 ghost use Rattle.bg_base.specs.Instance.{node_numbers};
 ghost use Rattle.bg_rules.specs.Decomposition.{IsParameter, Decomposes, Occurs};
 ghost use Rattle.bg_rules.specs.Instantiation.{instantiate, next_after};
@@ -29,6 +30,12 @@ pub fn instances_are_ground()
     ensures fits { (signature : List Control) (parameter : Big) (entries : List ℕ) (next : ℕ) → IsParameter parameter
         → All (λ (row : NodeRow). row.id < next) parameter.nodes → IsValidUnder signature parameter
         → IsValidUnder signature (instantiate parameter entries next) }
+{}
+
+/// The instance that asks for each part once, in the order of the regions, is the parameter.
+pub fn instance_of_all_is_the_parameter()
+    ensures { (parameter : Big) (next : ℕ) → IsParameter parameter → All (λ (row : NodeRow). row.id < next) parameter.nodes
+        → instantiate parameter (counted 0 parameter.regions) next ≡ parameter }
 {}
 
 /// A numbered host reacts at each occurrence of the redex, and to one result only: the operations that recompose it are

@@ -6,17 +6,11 @@ use Rattle.bg_base.specs.declared.big.Big.{Big}
 use Rattle.bg_base.specs.Instance.{node_numbers}
 use Rattle.bg_rules.specs.Instantiation.{instantiate, next_after}
 use Rattle.bg_rules.proofs.Patterns.{number_row}
-use Rattle.bg_rules.proofs.Instances.{instance_edges, instance_outer, instance_regions, instance_ground, instance_numbers, instance_below, instance_valid_under}
+use Rattle.bg_rules.proofs.Instances.{number_below_from_all, instance_edges, instance_outer, instance_regions, instance_ground, instance_numbers, instance_below, instance_valid_under}
 use Rattle.bg_rules.proofs.reaction_laws.instances_are_ground.Goals as goal
 
-number_below : (parameter : Big) (next : ℕ) → All (λ (row : NodeRow). row.id < next) parameter.nodes
-    → (node : ℕ) → Mem node (node_numbers parameter.nodes) → node < next
-number_below parameter next below node m =
-    let w = number_row parameter.nodes m in
-    subst (λ n. n < next) w.2 (All-member (λ (row : NodeRow). row.id < next) parameter.nodes below w.1)
-
 pub returns-clause-ground : goal.returns-clause-ground
-returns-clause-ground c = λ parameter entries next is below. instance_ground parameter entries next is (number_below parameter next below)
+returns-clause-ground c = λ parameter entries next is below. instance_ground parameter entries next is (number_below_from_all parameter next below)
 
 pub returns-clause-no_edges : goal.returns-clause-no_edges
 returns-clause-no_edges c = instance_edges
@@ -31,15 +25,15 @@ pub returns-clause-numbers : goal.returns-clause-numbers
 returns-clause-numbers c =
     λ parameter entries next is below.
     All-from_members (λ (row : NodeRow). Mem row.id (node_numbers parameter.nodes) ⊎ (next ≤ row.id)) (instantiate parameter entries next).nodes
-    (λ row m. instance_numbers parameter entries next is (number_below parameter next below) m)
+    (λ row m. instance_numbers parameter entries next is (number_below_from_all parameter next below) m)
 
 pub returns-clause-below : goal.returns-clause-below
 returns-clause-below c =
     λ parameter entries next is below.
     All-from_members (λ (row : NodeRow). row.id < next_after parameter entries next) (instantiate parameter entries next).nodes
-    (λ row m. instance_below parameter entries next is (number_below parameter next below) m)
+    (λ row m. instance_below parameter entries next is (number_below_from_all parameter next below) m)
 
 pub returns-clause-fits : goal.returns-clause-fits
 returns-clause-fits c =
     λ signature parameter entries next is below fits.
-    instance_valid_under parameter entries next is (number_below parameter next below) signature fits
+    instance_valid_under parameter entries next is (number_below_from_all parameter next below) signature fits
