@@ -18,3 +18,4 @@ pub mod Frames
 pub mod Reactions
 pub mod Signed
 pub mod Wholes
+pub mod ReactionExamples
