@@ -1,13 +1,13 @@
 -- The copies of the parts of a parameter: which rows they have, and that no two of these rows have one number.
-use Rattle.std.proofs.Common.{◌≡◌, ℕ, zero, suc, ◌+◌, ◌<◌, ◌≤◌, ◌==◌, Bool, true, false, cond, if◌then◌else◌, List, [], ◌∷◌, ◌++◌, map, filter, length, take, find, Option, Some, None, unwrap_or, option_map, nat_cmp, is_eq, Less, refl, sym, ap, subst, ◌∙◌, ◌⊎◌, inl, inr, arith, eqb-true, eq-eqb}
-use Rattle.std.specs.List.{IsDistinct, list_any, position_or_len}
+use Rattle.std.proofs.Common.{◌≡◌, ℕ, zero, suc, ◌+◌, ◌<◌, ◌≤◌, ◌==◌, Bool, true, false, if◌then◌else◌, List, [], ◌∷◌, ◌++◌, map, filter, length, take, Option, Some, None, unwrap_or, option_map, refl, sym, ap, subst, ◌∙◌, ◌⊎◌, inl, inr, arith, eqb-true, eq-eqb}
+use Rattle.std.specs.List.{IsDistinct, position_or_len}
 use Rattle.std.specs.Ordering.{eq_by_cmp}
 use Rattle.std.proofs.lemmas.Bool.{cond-true, cond-false, cases_Bool, false≢true}
 use Rattle.std.proofs.lemmas.List.Folds.{find_at}
 use Rattle.std.proofs.lemmas.List.{length-map}
 use Rattle.bg_lists.specs.Lists.{Mem, here, there, At, at_here, at_there}
 use Rattle.bg_lists.proofs.Members.{Mem-cons_cases, Mem-same, Mem-map, Mem-unmap, Mem-filter, Mem-unfilter, Mem-append_left, Mem-append_right, Mem-append_cases}
-use Rattle.bg_lists.proofs.Places.{At-same, At-one, At-below, At-slice_get, Mem-from_At}
+use Rattle.bg_lists.proofs.Places.{At-same, At-one, At-below, At-slice_get}
 use Rattle.bg_lists.proofs.Ascents.{Ascending-from_sorted, Ascending-filter}
 use Rattle.bg_lists.proofs.Sorting.{IsDistinct-append, IsDistinct-map_on, IsDistinct-from_Ascending}
 use Rattle.bg_lists.proofs.Words.{is_some_find, found}
@@ -17,7 +17,7 @@ use Rattle.bg_base.specs.declared.big.NodeRow.{NodeRow}
 use Rattle.bg_base.specs.declared.big.Big.{Big}
 use Rattle.bg_base.specs.Bigraph.{IsValid, node_cmp, row_of}
 use Rattle.bg_base.specs.Instance.{node_numbers}
-use Rattle.bg_base.proofs.LookUps.{same_row, row_from_row_of, apart_numbers, tied_numbers}
+use Rattle.bg_base.proofs.LookUps.{apart_numbers, tied_numbers}
 use Rattle.bg_rules.specs.Instantiation.{is_under, part, is_among, late_nodes, number_in_copy, row_in_copy, copies_from}
 use Rattle.bg_rules.proofs.Patterns.{number_mem}
 use Rattle.bg_rules.proofs.Upwards.{is_among-member, member_from_is_among}
@@ -192,15 +192,15 @@ module _ (parameter : Big) (entries : List ℕ) (next : ℕ) where
   number_cases at region {node} m =
       elim (cases_Bool (is_among region (take at entries))) [
         | inl late ↦ inr (record {
-            again = member_from_is_among (take at entries) region late;
-            rank = position_or_len (λ other. other == node) (node_numbers (part parameter region));
-            ranked = At-position (node_numbers (part parameter region)) m;
-            number = number_late at region node late;
-          })
+          again = member_from_is_among (take at entries) region late;
+          rank = position_or_len (λ other. other == node) (node_numbers (part parameter region));
+          ranked = At-position (node_numbers (part parameter region)) m;
+          number = number_late at region node late;
+        })
         | inr kept ↦ inl (record {
-            first = λ k. false≢true (sym kept ∙ is_among-member (take at entries) k);
-            same = number_kept at region node kept;
-          })
+          first = λ k. false≢true (sym kept ∙ is_among-member (take at entries) k);
+          same = number_kept at region node kept;
+        })
       ]
 
   pub late_low : {at region node : ℕ} → IsLate parameter entries next at region node

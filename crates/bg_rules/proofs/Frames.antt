@@ -1,11 +1,11 @@
 -- The frame of a side of a rule is valid, also under a signature; its numbers are those that the side was given.
-use Rattle.std.proofs.Common.{◌≡◌, ℕ, ◌<◌, ◌≤◌, ◌+◌, true, List, [], ◌++◌, map, length, nat_cmp, All, IsTrue, refl, sym, ap, subst, ◌∙◌, inl, inr}
+use Rattle.std.proofs.Common.{◌≡◌, ℕ, true, List, ◌++◌, map, length, nat_cmp, IsTrue, sym, ap, subst, ◌∙◌}
 use Rattle.std.proofs.lemmas.List.{length-map, map-id}
-use Rattle.bg_lists.specs.Lists.{Mem, sort}
+use Rattle.bg_lists.specs.Lists.{Mem}
 use Rattle.bg_lists.specs.Orders.{before}
-use Rattle.bg_lists.proofs.Members.{Mem-map, Mem-unmap, map-map}
+use Rattle.bg_lists.proofs.Members.{Mem-map, map-map}
 use Rattle.bg_lists.proofs.Sorting.{Mem-unsort, IsDistinct-from_Ascending}
-use Rattle.bg_lists.proofs.Words.{All-member, All-from_members}
+use Rattle.bg_lists.proofs.Words.{All-member}
 use Rattle.bg_base.specs.declared.names.Name.{Name}
 use Rattle.bg_base.specs.declared.names.Name.TheVariants.{Plain, Port, Opened}
 use Rattle.bg_base.specs.declared.big.NodeRow.{NodeRow}

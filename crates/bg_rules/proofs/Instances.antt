@@ -1,17 +1,13 @@
 -- An instance of a parameter is a valid ground bigraph without edges, with the parameter's outer names and a region for
 -- each entry; its numbers are numbers of the parameter, or new.
-use Rattle.std.proofs.Common.{◌≡◌, ℕ, zero, suc, ◌+◌, ◌<◌, ◌≤◌, true, false, List, [], ◌∷◌, map, length, Some, is_some, unwrap_or, option_map, All, IsTrue, nat_cmp, refl, sym, ap, subst, ◌∙◌, ◌⊎◌, inl, inr, arith}
-use Rattle.std.specs.List.{list_all}
+use Rattle.std.proofs.Common.{◌≡◌, ℕ, ◌<◌, ◌≤◌, true, false, List, [], length, Some, unwrap_or, option_map, All, refl, sym, ap, subst, ◌∙◌, ◌⊎◌}
 use Rattle.std.specs.List.Sorted.{IsStrictlySortedBy}
-use Rattle.std.proofs.lemmas.Bool.{false≢true}
 use Rattle.bg_lists.specs.Lists.{Mem, At, sort}
 use Rattle.bg_lists.specs.Orders.{before}
-use Rattle.bg_lists.proofs.Members.{Mem-same}
 use Rattle.bg_lists.proofs.Places.{At-below}
 use Rattle.bg_lists.proofs.Ascents.{sorted_from_Ascending}
 use Rattle.bg_lists.proofs.Sorting.{Mem-sort, Mem-unsort, Ascending-sort}
-use Rattle.bg_lists.proofs.Words.{All-member, list_all-member, list_all-from_members}
-use Rattle.bg_base.specs.declared.names.Name.{Name}
+use Rattle.bg_lists.proofs.Words.{All-member, list_all-from_members}
 use Rattle.bg_base.specs.declared.names.Place.{Place}
 use Rattle.bg_base.specs.declared.names.Place.TheVariants.{Node, Region}
 use Rattle.bg_base.specs.declared.names.Link.{Link}
@@ -22,11 +18,11 @@ use Rattle.bg_base.specs.declared.signature.Control.{Control}
 use Rattle.bg_base.specs.Order.{name_cmp}
 use Rattle.bg_base.specs.Bigraph.{IsValid, IsValidUnder, IsGround, node_cmp, row_of, has_place, has_link, is_atomic, is_atomic_control, arity_of}
 use Rattle.bg_base.specs.Instance.{node_numbers}
-use Rattle.bg_base.proofs.LookUps.{node_cmp_total, row_from_row_of, row_of-member, row_from_has, region_from_has, has_row, has_region, member_from_has_edge}
+use Rattle.bg_base.proofs.LookUps.{node_cmp_total, row_from_row_of, row_of-member, row_from_has, has_row, has_region, member_from_has_edge}
 use Rattle.bg_base.proofs.Climbs.{Climb, at_region, at_node, Climb-from_place}
 use Rattle.bg_algebra.proofs.Parts.{IsSound, Fits, valid_from_rows, valid_under_from_rows}
 use Rattle.bg_rules.specs.Decomposition.{IsParameter}
-use Rattle.bg_rules.specs.Instantiation.{is_under, part, number_in_copy, place_in_copy, row_in_copy, copies_from, instantiate, next_after}
+use Rattle.bg_rules.specs.Instantiation.{part, number_in_copy, place_in_copy, row_in_copy, copies_from, instantiate, next_after}
 use Rattle.bg_rules.proofs.Patterns.{number_row, number_mem, parent_there, link_there}
 use Rattle.bg_rules.proofs.Copies.{is_in_part, parent_under, Mem-part, Mem-unpart, IsCopy, copy_cases, Mem-copies, copies_distinct, number_below, number_origin}
 

@@ -1,37 +1,32 @@
 -- A reaction at an occurrence has exactly one result, and it is a numbered ground host again.
-use Rattle.std.proofs.Common.{◌≡◌, ℕ, ◌<◌, ◌≤◌, ◌+◌, true, List, [], ◌++◌, map, filter, length, nat_cmp, All, IsTrue, refl, sym, ap, subst, ◌∙◌, ◌⊎◌, inl, inr, arith}
+use Rattle.std.proofs.Common.{◌≡◌, ℕ, ◌<◌, ◌≤◌, ◌+◌, List, ◌++◌, map, length, All, IsTrue, refl, sym, ap, subst, ◌∙◌, ◌⊎◌, inl, inr, arith}
 use Rattle.bg_lists.specs.Lists.{Mem}
 use Rattle.bg_lists.proofs.Members.{Mem-same, Mem-unfilter}
 use Rattle.bg_lists.proofs.Words.{All-member, All-from_members}
 use Rattle.bg_base.specs.declared.names.Name.{Name}
-use Rattle.bg_base.specs.declared.names.Place.{Place}
 use Rattle.bg_base.specs.declared.names.Link.TheVariants.{Edge}
 use Rattle.bg_base.specs.declared.big.NodeRow.{NodeRow}
-use Rattle.bg_base.specs.declared.big.InnerRow.{InnerRow}
 use Rattle.bg_base.specs.declared.big.Big.{Big}
-use Rattle.bg_base.specs.declared.signature.Control.{Control}
-use Rattle.bg_base.specs.Bigraph.{IsValid, IsValidUnder, IsGround}
-use Rattle.bg_base.specs.Composition.{compose, FacesAgree, SupportsApart, inner_names, place_through, inner_through, row_through}
-use Rattle.bg_base.specs.Elementary.{counted, identity}
-use Rattle.bg_base.specs.Instance.{node_numbers, rename}
+use Rattle.bg_base.specs.Bigraph.{IsValid, IsGround}
+use Rattle.bg_base.specs.Composition.{compose, FacesAgree, SupportsApart, place_through, inner_through}
+use Rattle.bg_base.specs.Elementary.{counted}
+use Rattle.bg_base.specs.Instance.{node_numbers}
 use Rattle.bg_base.specs.Products.{lean, has_point}
 use Rattle.bg_base.proofs.Composed.{SupportsApart-from_members, Mem-compose_cases, Mem-compose_edge_cases, compose_sites, compose_inner, compose_regions, compose_outer}
-use Rattle.bg_base.proofs.ComposedValid.{compose_valid, compose_valid_under}
+use Rattle.bg_base.proofs.ComposedValid.{compose_valid}
 use Rattle.bg_algebra.specs.Frame.{is_plain}
-use Rattle.bg_algebra.specs.Laws.{Apart}
-use Rattle.bg_algebra.proofs.Changes.{lean_valid, lean_valid_under}
+use Rattle.bg_algebra.proofs.Changes.{lean_valid}
 use Rattle.bg_algebra.proofs.Nested.{Mem-counted}
-use Rattle.bg_rules.specs.Solid.{IsPattern}
-use Rattle.bg_rules.specs.Decomposition.{IsParameter, AreNew, frame, Decomposes, Occurs}
-use Rattle.bg_rules.specs.Instantiation.{instantiate, next_after}
+use Rattle.bg_rules.specs.Decomposition.{AreNew, Decomposes, Occurs}
+use Rattle.bg_rules.specs.Instantiation.{next_after}
 use Rattle.bg_rules.specs.Reaction.{Numbered, IsNumbered, AreSides, recomposed, Reacts}
 use Rattle.bg_rules.specs.Recomposition.{next_frame, next_instance, IsRecomposable}
 use Rattle.bg_rules.proofs.Glued.{Glued}
 use Rattle.bg_rules.proofs.Bridge.{IsSide}
 use Rattle.bg_rules.proofs.Patterns.{number_row, number_mem}
 use Rattle.bg_rules.proofs.Occurrences.{glued_of, one_decomposition}
-use Rattle.bg_rules.proofs.Instances.{instance_edges, instance_sites, instance_inner, instance_regions, instance_outer, instance_valid, instance_below, instance_numbers, instance_valid_under}
-use Rattle.bg_rules.proofs.Frames.{counted_new, frame_regions, frame_outer, frame_width, frame_names, frame_number, frame_edge, frame_apart, frame_valid, frame_valid_under}
+use Rattle.bg_rules.proofs.Instances.{instance_edges, instance_sites, instance_inner, instance_regions, instance_outer, instance_valid, instance_below, instance_numbers}
+use Rattle.bg_rules.proofs.Frames.{counted_new, frame_regions, frame_outer, frame_width, frame_names, frame_number, frame_edge, frame_apart, frame_valid}
 
 lean_sites : (big : Big) → (lean big).sites ≡ big.sites
 unfolding lean

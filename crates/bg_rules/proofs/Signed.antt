@@ -1,23 +1,23 @@
 -- Where a host is valid under a signature, so are the context and the parameter of a decomposition; and where the reactum
 -- is too, so is the result of the reaction.
-use Rattle.std.proofs.Common.{◌≡◌, ℕ, ◌<◌, ◌+◌, true, false, List, [], map, length, Some, unwrap_or, option_map, All, IsTrue, refl, sym, ap, subst, ◌∙◌, arith}
+use Rattle.std.proofs.Common.{◌≡◌, ℕ, ◌<◌, ◌+◌, true, false, List, [], length, Some, unwrap_or, option_map, refl, sym, ap, subst, ◌∙◌, arith}
 use Rattle.std.proofs.lemmas.List.{length-map}
-use Rattle.bg_lists.specs.Lists.{Mem, At}
+use Rattle.bg_lists.specs.Lists.{Mem}
 use Rattle.bg_lists.proofs.Places.{At-from_Mem, At-below, get_or-At}
-use Rattle.bg_lists.proofs.Words.{All-member, All-from_members}
+use Rattle.bg_lists.proofs.Words.{All-member}
 use Rattle.bg_base.specs.declared.names.Place.{Place}
 use Rattle.bg_base.specs.declared.names.Place.TheVariants.{Node, Region}
 use Rattle.bg_base.specs.declared.big.NodeRow.{NodeRow}
 use Rattle.bg_base.specs.declared.big.Big.{Big}
 use Rattle.bg_base.specs.declared.signature.Control.{Control}
-use Rattle.bg_base.specs.Bigraph.{IsValid, IsValidUnder, IsGround, row_of, has_place, is_atomic, is_atomic_control, arity_of}
+use Rattle.bg_base.specs.Bigraph.{IsValidUnder, IsGround, row_of, has_place, is_atomic, is_atomic_control, arity_of}
 use Rattle.bg_base.specs.Composition.{link_through, place_through, compose}
 use Rattle.bg_base.specs.Elementary.{counted}
 use Rattle.bg_base.specs.Instance.{place_renamed}
 use Rattle.bg_base.proofs.LookUps.{row_of-member, row_from_has}
 use Rattle.bg_base.proofs.ComposedValid.{compose_valid_under}
 use Rattle.bg_algebra.proofs.Changes.{lean_valid_under}
-use Rattle.bg_algebra.proofs.Parts.{Fits, valid_under_from_rows}
+use Rattle.bg_algebra.proofs.Parts.{valid_under_from_rows}
 use Rattle.bg_rules.specs.Solid.{IsPattern}
 use Rattle.bg_rules.specs.Decomposition.{Decomposes}
 use Rattle.bg_rules.specs.Reaction.{Numbered, IsNumbered, AreSides, recomposed, Reacts}

@@ -1,5 +1,5 @@
 -- The instance that asks for each part once, in the order of the regions, is the parameter.
-use Rattle.std.proofs.Common.{◌≡◌, ℕ, zero, suc, ◌+◌, ◌<◌, ◌==◌, true, List, [], ◌∷◌, map, length, take, refl, sym, ap, subst, ◌∙◌, inl, inr, arith, eqb-true, eq-eqb, ltb-true}
+use Rattle.std.proofs.Common.{◌≡◌, ℕ, zero, suc, ◌+◌, ◌<◌, true, List, [], ◌∷◌, length, take, refl, sym, ap, subst, ◌∙◌, inl, inr, arith, eqb-true, eq-eqb, ltb-true}
 use Rattle.bg_lists.specs.Lists.{Mem, here, there, At, at_here, at_there}
 use Rattle.bg_lists.proofs.Members.{Mem-same}
 use Rattle.bg_lists.proofs.Places.{At-total, At-same}

@@ -4,4 +4,6 @@
 mod laws;
 mod reaction_laws;
 
-pub use reaction_laws::{instance_of_all_is_the_parameter, instances_are_ground, reactions_have_one_result};
+pub use reaction_laws::{
+    instance_of_all_is_the_parameter, instances_are_ground, reactions_have_one_result,
+};
