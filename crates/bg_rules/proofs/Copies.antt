@@ -21,136 +21,14 @@ use Rattle.bg_base.proofs.LookUps.{apart_numbers, tied_numbers}
 use Rattle.bg_rules.specs.Instantiation.{is_under, part, is_among, late_nodes, number_in_copy, row_in_copy, copies_from}
 use Rattle.bg_rules.proofs.Patterns.{number_mem}
 use Rattle.bg_rules.proofs.Upwards.{is_among-member, member_from_is_among}
+use Rattle.bg_rules.proofs.ParameterParts.{is_in_part, Mem-part, Mem-unpart, part_region, part_distinct}
+use Rattle.bg_rules.proofs.LateCopies.{late_step, late_more, late_upto}
 
 -- a member is first found at the place at which it stands
 pub At-position : {x : ℕ} (xs : List ℕ) → Mem x xs → At x (position_or_len (λ other. other == x) xs) xs
 At-position {x} xs m =
     let w = found (λ (other : ℕ). other == x) xs (is_some_find (λ (other : ℕ). other == x) xs m (eq-eqb x x refl)) in
     At-same (eqb-true w.0 x w.3) (At-slice_get (position_or_len (λ other. other == x) xs) xs (sym (find_at (λ (other : ℕ). other == x) xs) ∙ w.1))
-
--- ---- from a place one region is reached
-
-some_from_unwrap : (test : NodeRow → Bool) (o : Option NodeRow) → unwrap_or (option_map test o) false ≡ true
-    → (row : NodeRow) × (o ≡ Some row) × (test row ≡ true)
-some_from_unwrap test None e = cc
-some_from_unwrap test (Some row) e = (row, refl, e)
-
-module _ (rows : List NodeRow) where
-  pub row_from_under : (region moves node : ℕ) → is_under rows region (suc moves) (Node node) ≡ true
-      → (row : NodeRow) × (row_of rows node ≡ Some row) × (is_under rows region moves row.parent ≡ true)
-  row_from_under region moves node e = some_from_unwrap (λ (row : NodeRow). is_under rows region moves row.parent) (row_of rows node) e
-
-  pub under_row : (region moves node : ℕ) {row : NodeRow} → row_of rows node ≡ Some row
-      → is_under rows region (suc moves) (Node node) ≡ is_under rows region moves row.parent
-  under_row region moves node e =
-      ap (λ o. unwrap_or (option_map (λ (row : NodeRow). is_under rows region moves row.parent) o) false) e
-
-  under_more : (region moves : ℕ) (place : Place) → is_under rows region moves place ≡ true → is_under rows region (suc moves) place ≡ true
-  under_more region zero (Node node) e = cc
-  under_more region zero (Region other) e = e
-  under_more region (suc moves) (Region other) e = e
-  under_more region (suc moves) (Node node) e =
-      let w = row_from_under region moves node e in under_row region (suc moves) node w.1 ∙ under_more region moves w.0.parent w.2
-
-  pub one_region : (region other moves : ℕ) (place : Place) → is_under rows region moves place ≡ true → is_under rows other moves place ≡ true → region ≡ other
-  one_region region other zero (Node node) e f = cc
-  one_region region other zero (Region at) e f = sym (eqb-true at region e) ∙ eqb-true at other f
-  one_region region other (suc moves) (Region at) e f = sym (eqb-true at region e) ∙ eqb-true at other f
-  one_region region other (suc moves) (Node node) e f =
-      let v = row_from_under region moves node e in
-      let w = row_from_under other moves node f in
-      let both : Some w.0 ≡ Some v.0 = sym w.1 ∙ v.1 in
-      let same : w.0 ≡ v.0 = cc in
-      one_region region other moves v.0.parent v.2 (subst (λ (row : NodeRow). is_under rows other moves row.parent ≡ true) same w.2)
-
-  -- what a node lies in is under the region that the node is under
-  pub parent_under : (region moves node : ℕ) {row : NodeRow} → row_of rows node ≡ Some row → is_under rows region moves (Node node) ≡ true
-      → is_under rows region moves row.parent ≡ true
-  parent_under region zero node e under = cc
-  parent_under region (suc moves) node {row} e under = under_more region moves row.parent (sym (under_row region moves node e) ∙ under)
-
--- ---- parts
-
--- the place is in the part of the parameter under the region
-abbrev pub is_in_part : Big → ℕ → Place → Bool
-is_in_part parameter region place = is_under parameter.nodes region (length parameter.nodes) place
-
-module _ (parameter : Big) where
-  pub Mem-part : {row : NodeRow} (region : ℕ) → Mem row parameter.nodes → is_in_part parameter region (Node row.id) ≡ true → Mem row (part parameter region)
-  unfolding part
-  Mem-part region m under = Mem-filter (λ (row : NodeRow). is_in_part parameter region (Node row.id)) parameter.nodes m under
-
-  pub Mem-unpart : {row : NodeRow} (region : ℕ) → Mem row (part parameter region) → Mem row parameter.nodes × (is_in_part parameter region (Node row.id) ≡ true)
-  unfolding part
-  Mem-unpart region m = Mem-unfilter (λ (row : NodeRow). is_in_part parameter region (Node row.id)) parameter.nodes m
-
-  -- a node is in the part of one region
-  pub part_region : {row other : NodeRow} (region twin : ℕ) → Mem row (part parameter region) → Mem other (part parameter twin) → row.id ≡ other.id → region ≡ twin
-  part_region {row} {other} region twin m n e =
-      one_region parameter.nodes region twin (length parameter.nodes) (Node row.id) (Mem-unpart region m).1
-      (subst (λ node. is_in_part parameter twin (Node node) ≡ true) (sym e) (Mem-unpart twin n).1)
-
-  part_distinct : (region : ℕ) → IsValid parameter → IsDistinct (eq_by_cmp node_cmp) (part parameter region)
-  unfolding part
-  part_distinct region valid =
-      IsDistinct-from_Ascending (filter (λ (row : NodeRow). is_in_part parameter region (Node row.id)) parameter.nodes)
-      (Ascending-filter (λ (row : NodeRow). is_in_part parameter region (Node row.id)) parameter.nodes (Ascending-from_sorted parameter.nodes valid.nodes_ascend))
-
-  -- ---- the nodes of late copies
-
-  -- those of one copy
-  late_here : List ℕ → ℕ → ℕ
-  late_here earlier region = if is_among region earlier then length (part parameter region) else 0
-
-  late_cons : (earlier : List ℕ) (region : ℕ) (entries : List ℕ)
-      → late_nodes parameter earlier (region ∷ entries) ≡ late_here earlier region + late_nodes parameter (region ∷ earlier) entries
-  unfolding late_nodes late_here
-  late_cons earlier region entries = refl
-
-  late_here-among : (earlier : List ℕ) (region : ℕ) → Mem region earlier → late_here earlier region ≡ length (part parameter region)
-  unfolding late_here
-  late_here-among earlier region m = cond-true (is_among region earlier) (length (part parameter region)) 0 (is_among-member earlier m)
-
-  late_none : (earlier : List ℕ) → late_nodes parameter earlier [] ≡ 0
-  unfolding late_nodes
-  late_none earlier = refl
-
-  late_step : (earlier : List ℕ) {region at : ℕ} (entries : List ℕ) → At region at entries → Mem region earlier ⊎ Mem region (take at entries)
-      → late_nodes parameter earlier (take at entries) + length (part parameter region) ≤ late_nodes parameter earlier (take (suc at) entries)
-  late_step earlier [] a m = elim a [ ]
-  late_step earlier {region} (first ∷ entries) (at_here e) m =
-      let among : Mem region earlier = elim m [ inl k ↦ k | inr k ↦ elim k [ ] ] in
-      let count = late_here-among earlier first (Mem-same (sym e) among) in
-      let same : length (part parameter first) ≡ length (part parameter region) = ap (λ r. length (part parameter r)) e in
-      let more = late_cons earlier first [] in
-      let none = late_none earlier in
-      omega (arith, count, same, more, none)
-  late_step earlier {region} (first ∷ entries) (at_there {i = i} a) m =
-      let among : Mem region (first ∷ earlier) ⊎ Mem region (take i entries) =
-      elim m [ inl k ↦ inl (there k) | inr k ↦ elim (Mem-cons_cases k) [ inl e ↦ inl (here e) | inr n ↦ inr n ] ] in
-      let less = late_step (first ∷ earlier) entries a among in
-      let few = late_cons earlier first (take i entries) in
-      let more = late_cons earlier first (take (suc i) entries) in
-      omega (arith, less, few, more)
-
-  pub late_more : (earlier entries : List ℕ) (i j : ℕ) → i ≤ j → late_nodes parameter earlier (take i entries) ≤ late_nodes parameter earlier (take j entries)
-  late_more earlier entries zero j le = let none = late_none earlier in omega (arith, none)
-  late_more earlier entries (suc i) zero le = absurd (omega (arith, le))
-  late_more earlier [] (suc i) (suc j) le = omega arith
-  late_more earlier (first ∷ entries) (suc i) (suc j) le =
-      let less = late_more (first ∷ earlier) entries i j (omega (arith, le)) in
-      let few = late_cons earlier first (take i entries) in
-      let more = late_cons earlier first (take j entries) in
-      omega (arith, less, few, more)
-
-  late_upto : (earlier entries : List ℕ) (i : ℕ) → late_nodes parameter earlier (take i entries) ≤ late_nodes parameter earlier entries
-  late_upto earlier entries zero = let none = late_none earlier in omega (arith, none)
-  late_upto earlier [] (suc i) = omega arith
-  late_upto earlier (first ∷ entries) (suc i) =
-      let less = late_upto (first ∷ earlier) entries i in
-      let few = late_cons earlier first (take i entries) in
-      let more = late_cons earlier first entries in
-      omega (arith, less, few, more)
 
 IsDistinct-none : {X : Type 0} (same : X → X → Bool) → IsDistinct same []
 unfolding IsDistinct

@@ -24,7 +24,14 @@ use Rattle.bg_algebra.proofs.Parts.{IsSound, Fits, valid_from_rows, valid_under_
 use Rattle.bg_rules.specs.Decomposition.{IsParameter}
 use Rattle.bg_rules.specs.Instantiation.{part, number_in_copy, place_in_copy, row_in_copy, copies_from, instantiate, next_after}
 use Rattle.bg_rules.proofs.Patterns.{number_row, number_mem, parent_there, link_there}
-use Rattle.bg_rules.proofs.Copies.{is_in_part, parent_under, Mem-part, Mem-unpart, IsCopy, copy_cases, Mem-copies, copies_distinct, number_below, number_origin}
+use Rattle.bg_rules.proofs.ParameterParts.{is_in_part, parent_under, Mem-part, Mem-unpart}
+use Rattle.bg_rules.proofs.Copies.{IsCopy, copy_cases, Mem-copies, copies_distinct, number_below, number_origin}
+
+-- a node is atomic where the control of its row is
+pub is_atomic-row : (signature : List Control) (big : Big) (node : ℕ) {row : NodeRow} → row_of big.nodes node ≡ Some row
+    → is_atomic signature big (Node node) ≡ is_atomic_control signature row.control
+is_atomic-row signature big node e =
+    ap (λ o. unwrap_or (option_map (λ (row : NodeRow). is_atomic_control signature row.control) o) false) e
 
 -- each row's number is below, so each number is
 pub number_below_from_all : (parameter : Big) (next : ℕ) → All (λ (row : NodeRow). row.id < next) parameter.nodes
@@ -162,19 +169,14 @@ module _ (parameter : Big) (entries : List ℕ) (next : ℕ) where
     -- ---- under a signature
 
     module _ (signature : List Control) (fits : IsValidUnder signature parameter) where
-      is_atomic-row : (big : Big) (node : ℕ) {row : NodeRow} → row_of big.nodes node ≡ Some row
-          → is_atomic signature big (Node node) ≡ is_atomic_control signature row.control
-      is_atomic-row big node e =
-          ap (λ o. unwrap_or (option_map (λ (row : NodeRow). is_atomic_control signature row.control) o) false) e
-
       copy_normal : {at region : ℕ} → At region at entries → (place : Place) → has_place parameter place ≡ true → is_in_part parameter region place ≡ true
           → is_atomic signature parameter place ≡ false
           → is_atomic signature (instantiate parameter entries next) (place_in_copy parameter entries next at region place) ≡ false
       copy_normal {at} {region} a (Node node) has under normal =
           let w = part_row region node under has in
-          is_atomic-row (instantiate parameter entries next) (number_in_copy parameter entries next at region node)
+          is_atomic-row signature (instantiate parameter entries next) (number_in_copy parameter entries next at region node)
           (row_of-member (instantiate parameter entries next).nodes instance_up (Mem-instance a w.1) (ap (number_in_copy parameter entries next at region) w.2))
-          ∙ sym (is_atomic-row parameter node (row_of-member parameter.nodes valid.nodes_ascend w.3 w.2)) ∙ normal
+          ∙ sym (is_atomic-row signature parameter node (row_of-member parameter.nodes valid.nodes_ascend w.3 w.2)) ∙ normal
       copy_normal a (Region other) has under normal = refl
 
       copy_fits : (at region : ℕ) (row : NodeRow) → At region at entries → Mem row (part parameter region)

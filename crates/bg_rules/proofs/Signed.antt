@@ -26,15 +26,10 @@ use Rattle.bg_rules.proofs.Glued.{Glued, pattern_row, parameter_row}
 use Rattle.bg_rules.proofs.Patterns.{parent_there, site_there, full_region}
 use Rattle.bg_rules.proofs.Occurrences.{glued_of}
 use Rattle.bg_rules.proofs.Frames.{counted_new, frame_valid_under}
-use Rattle.bg_rules.proofs.Instances.{instance_valid_under}
+use Rattle.bg_rules.proofs.Instances.{is_atomic-row, instance_valid_under}
 use Rattle.bg_rules.proofs.Reactions.{reactum_side, next_below, recomposable, frame_of_next, instance_of_next, inside_valid, whole_valid}
 
 module _ (signature : List Control) where
-  is_atomic-row : (big : Big) (node : ℕ) {row : NodeRow} → row_of big.nodes node ≡ Some row
-      → is_atomic signature big (Node node) ≡ is_atomic_control signature row.control
-  is_atomic-row big node e =
-      ap (λ o. unwrap_or (option_map (λ (row : NodeRow). is_atomic_control signature row.control) o) false) e
-
   normal_parent : (big : Big) → IsValidUnder signature big → {row : NodeRow} → Mem row big.nodes → is_atomic signature big row.parent ≡ false
   normal_parent big fits m = All-member (λ (row : NodeRow). is_atomic signature big row.parent ≡ false) big.nodes fits.no_atomic_parent m
 
@@ -52,7 +47,7 @@ module _ (signature : List Control) where
     context_atomic (Region region) has = refl
     context_atomic (Node node) has =
         let w = row_from_has context.nodes node has in
-        is_atomic-row context node w.1 ∙ sym (is_atomic-row host node (row_of-member host.nodes ground.valid.nodes_ascend (glued.of_context w.0 w.2) w.3))
+        is_atomic-row signature context node w.1 ∙ sym (is_atomic-row signature host node (row_of-member host.nodes ground.valid.nodes_ascend (glued.of_context w.0 w.2) w.3))
 
     -- a site of the context is what the image of a child of its region lies in
     context_site : (place : Place) → Mem place context.sites → is_atomic signature context place ≡ false
@@ -83,8 +78,8 @@ module _ (signature : List Control) where
     parameter_normal {row} m (Node node) e =
         let w = row_from_has parameter.nodes node (subst (λ p. has_place parameter p ≡ true) e (parent_there parameter glued.is_parameter.ground.valid m)) in
         let parent : (parameter_row pattern nodes context row).parent ≡ Node node = ap (λ p. (parameter_row pattern nodes context (record row { parent = p })).parent) e in
-        is_atomic-row parameter node w.1
-        ∙ sym (is_atomic-row host node (row_of-member host.nodes ground.valid.nodes_ascend (glued.of_parameter w.0 w.2) w.3))
+        is_atomic-row signature parameter node w.1
+        ∙ sym (is_atomic-row signature host node (row_of-member host.nodes ground.valid.nodes_ascend (glued.of_parameter w.0 w.2) w.3))
         ∙ subst (λ p. is_atomic signature host p ≡ false) parent (normal_parent host fits (glued.of_parameter row m))
 
     pub parameter_valid_under : IsValidUnder signature parameter

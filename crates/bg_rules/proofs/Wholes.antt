@@ -17,23 +17,9 @@ use Rattle.bg_algebra.proofs.Nested.{length-counted}
 use Rattle.bg_rules.specs.Decomposition.{IsParameter}
 use Rattle.bg_rules.specs.Instantiation.{is_under, part, number_in_copy, place_in_copy, row_in_copy, instantiate}
 use Rattle.bg_rules.proofs.Patterns.{number_mem, node_place, parent_there}
-use Rattle.bg_rules.proofs.Copies.{is_in_part, under_row, Mem-part, Mem-unpart, number_cases}
+use Rattle.bg_rules.proofs.ParameterParts.{is_in_part, in_some_part, region_from_under, Mem-part, Mem-unpart}
+use Rattle.bg_rules.proofs.Copies.{number_cases}
 use Rattle.bg_rules.proofs.Instances.{instance_edges, instance_sites, instance_inner, instance_regions, instance_outer, instance_cases, instance_up, Mem-instance, parent_in_part}
-
--- a place that reaches one of the regions is under the region that it reaches
-under_from_reaches : (rows : List NodeRow) (regions moves : ℕ) (place : Place) → reaches rows regions moves place ≡ true
-    → (region : ℕ) × (region < regions) × (is_under rows region moves place ≡ true)
-under_from_reaches rows regions zero (Node node) e = cc
-under_from_reaches rows regions zero (Region region) e = (region, ltb-true region regions e, eq-eqb region region refl)
-under_from_reaches rows regions (suc moves) (Region region) e = (region, ltb-true region regions e, eq-eqb region region refl)
-under_from_reaches rows regions (suc moves) (Node node) e =
-    let w = row_from_reaches rows regions moves node e in
-    let v = under_from_reaches rows regions moves w.0.parent w.2 in
-    (v.0, v.1, under_row rows v.0 moves node w.1 ∙ v.2)
-
-region_from_under : (rows : List NodeRow) (region other moves : ℕ) → is_under rows region moves (Region other) ≡ true → other ≡ region
-region_from_under rows region other zero e = eqb-true other region e
-region_from_under rows region other (suc moves) e = eqb-true other region e
 
 -- one of the first so many stands at one of the first so many places
 At-from_taken : {x : ℕ} (xs : List ℕ) (most : ℕ) → Mem x (take most xs) → (i : ℕ) × (i < most) × At x i xs
@@ -87,9 +73,8 @@ module _ (parameter : Big) (next : ℕ) (is : IsParameter parameter) (below : (n
 
   back : (row : NodeRow) → Mem row parameter.nodes → Mem row (instantiate parameter all next).nodes
   back row m =
-      let root = reaches-Climb (Climb-from_place parameter valid (Node row.id) (node_place parameter (number_mem m))) in
-      let w = under_from_reaches parameter.nodes parameter.regions (length parameter.nodes) (Node row.id) root in
-      let k = Mem-part parameter w.0 m w.2 in
+      let w = in_some_part parameter valid m in
+      let k = w.2 in
       let less = w.1 in
       let long = length-counted 0 parameter.regions in
       let v = At-total all w.0 (omega (arith, less, long)) in
