@@ -1,27 +1,24 @@
 -- The copies of the parts of a parameter: which rows they have, and that no two of these rows have one number.
-use Rattle.std.proofs.Common.{◌≡◌, ℕ, zero, suc, ◌+◌, ◌<◌, ◌≤◌, ◌==◌, Bool, true, false, if◌then◌else◌, List, [], ◌∷◌, ◌++◌, map, filter, length, take, Option, Some, None, unwrap_or, option_map, refl, sym, ap, subst, ◌∙◌, ◌⊎◌, inl, inr, arith, eqb-true, eq-eqb}
+use Rattle.std.proofs.Common.{◌≡◌, ℕ, zero, suc, ◌+◌, ◌<◌, ◌≤◌, ◌==◌, Bool, true, false, List, [], ◌∷◌, ◌++◌, map, take, refl, sym, ap, subst, ◌∙◌, ◌⊎◌, inl, inr, arith, eqb-true, eq-eqb}
 use Rattle.std.specs.List.{IsDistinct, position_or_len}
 use Rattle.std.specs.Ordering.{eq_by_cmp}
 use Rattle.std.proofs.lemmas.Bool.{cond-true, cond-false, cases_Bool, false≢true}
 use Rattle.std.proofs.lemmas.List.Folds.{find_at}
 use Rattle.std.proofs.lemmas.List.{length-map}
 use Rattle.bg_lists.specs.Lists.{Mem, here, there, At, at_here, at_there}
-use Rattle.bg_lists.proofs.Members.{Mem-cons_cases, Mem-same, Mem-map, Mem-unmap, Mem-filter, Mem-unfilter, Mem-append_left, Mem-append_right, Mem-append_cases}
+use Rattle.bg_lists.proofs.Members.{Mem-same, Mem-map, Mem-unmap, Mem-append_left, Mem-append_right, Mem-append_cases}
 use Rattle.bg_lists.proofs.Places.{At-same, At-one, At-below, At-slice_get}
-use Rattle.bg_lists.proofs.Ascents.{Ascending-from_sorted, Ascending-filter}
-use Rattle.bg_lists.proofs.Sorting.{IsDistinct-append, IsDistinct-map_on, IsDistinct-from_Ascending}
+use Rattle.bg_lists.proofs.Sorting.{IsDistinct-append, IsDistinct-map_on}
 use Rattle.bg_lists.proofs.Words.{is_some_find, found}
-use Rattle.bg_base.specs.declared.names.Place.{Place}
-use Rattle.bg_base.specs.declared.names.Place.TheVariants.{Node, Region}
 use Rattle.bg_base.specs.declared.big.NodeRow.{NodeRow}
 use Rattle.bg_base.specs.declared.big.Big.{Big}
-use Rattle.bg_base.specs.Bigraph.{IsValid, node_cmp, row_of}
+use Rattle.bg_base.specs.Bigraph.{IsValid, node_cmp}
 use Rattle.bg_base.specs.Instance.{node_numbers}
 use Rattle.bg_base.proofs.LookUps.{apart_numbers, tied_numbers}
-use Rattle.bg_rules.specs.Instantiation.{is_under, part, is_among, late_nodes, number_in_copy, row_in_copy, copies_from}
+use Rattle.bg_rules.specs.Instantiation.{part, is_among, late_nodes, number_in_copy, row_in_copy, copies_from}
 use Rattle.bg_rules.proofs.Patterns.{number_mem}
 use Rattle.bg_rules.proofs.Upwards.{is_among-member, member_from_is_among}
-use Rattle.bg_rules.proofs.ParameterParts.{is_in_part, Mem-part, Mem-unpart, part_region, part_distinct}
+use Rattle.bg_rules.proofs.ParameterParts.{Mem-unpart, part_region, part_distinct}
 use Rattle.bg_rules.proofs.LateCopies.{late_step, late_more, late_upto}
 
 -- a member is first found at the place at which it stands
@@ -81,6 +78,7 @@ module _ (parameter : Big) (entries : List ℕ) (next : ℕ) where
         })
       ]
 
+  -- the range of a late copy: above the late copies before it, and below those after it
   pub late_low : {at region node : ℕ} → IsLate parameter entries next at region node
       → next + late_nodes parameter [] (take at entries) ≤ number_in_copy parameter entries next at region node
   late_low late = let e = late.number in omega (arith, e)

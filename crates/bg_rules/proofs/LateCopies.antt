@@ -1,26 +1,11 @@
 -- How many nodes the late copies have: the first so many entries, and all.
-use Rattle.std.proofs.Common.{◌≡◌, ℕ, zero, suc, ◌+◌, ◌<◌, ◌≤◌, ◌==◌, Bool, true, false, if◌then◌else◌, List, [], ◌∷◌, ◌++◌, map, filter, length, take, Option, Some, None, unwrap_or, option_map, refl, sym, ap, subst, ◌∙◌, ◌⊎◌, inl, inr, arith, eqb-true, eq-eqb}
-use Rattle.std.specs.List.{IsDistinct, position_or_len}
-use Rattle.std.specs.Ordering.{eq_by_cmp}
-use Rattle.std.proofs.lemmas.Bool.{cond-true, cond-false, cases_Bool, false≢true}
-use Rattle.std.proofs.lemmas.List.Folds.{find_at}
-use Rattle.std.proofs.lemmas.List.{length-map}
+use Rattle.std.proofs.Common.{◌≡◌, ℕ, zero, suc, ◌+◌, ◌≤◌, if◌then◌else◌, List, [], ◌∷◌, length, take, refl, sym, ap, ◌⊎◌, inl, inr, arith}
+use Rattle.std.proofs.lemmas.Bool.{cond-true}
 use Rattle.bg_lists.specs.Lists.{Mem, here, there, At, at_here, at_there}
-use Rattle.bg_lists.proofs.Members.{Mem-cons_cases, Mem-same, Mem-map, Mem-unmap, Mem-filter, Mem-unfilter, Mem-append_left, Mem-append_right, Mem-append_cases}
-use Rattle.bg_lists.proofs.Places.{At-same, At-one, At-below, At-slice_get}
-use Rattle.bg_lists.proofs.Ascents.{Ascending-from_sorted, Ascending-filter}
-use Rattle.bg_lists.proofs.Sorting.{IsDistinct-append, IsDistinct-map_on, IsDistinct-from_Ascending}
-use Rattle.bg_lists.proofs.Words.{is_some_find, found}
-use Rattle.bg_base.specs.declared.names.Place.{Place}
-use Rattle.bg_base.specs.declared.names.Place.TheVariants.{Node, Region}
-use Rattle.bg_base.specs.declared.big.NodeRow.{NodeRow}
+use Rattle.bg_lists.proofs.Members.{Mem-cons_cases, Mem-same}
 use Rattle.bg_base.specs.declared.big.Big.{Big}
-use Rattle.bg_base.specs.Bigraph.{IsValid, node_cmp, row_of}
-use Rattle.bg_base.specs.Instance.{node_numbers}
-use Rattle.bg_base.proofs.LookUps.{apart_numbers, tied_numbers}
-use Rattle.bg_rules.specs.Instantiation.{is_under, part, is_among, late_nodes, number_in_copy, row_in_copy, copies_from}
-use Rattle.bg_rules.proofs.Patterns.{number_mem}
-use Rattle.bg_rules.proofs.Upwards.{is_among-member, member_from_is_among}
+use Rattle.bg_rules.specs.Instantiation.{part, is_among, late_nodes}
+use Rattle.bg_rules.proofs.Upwards.{is_among-member}
 
 module _ (parameter : Big) where
   -- those of one copy
@@ -40,6 +25,7 @@ module _ (parameter : Big) where
   unfolding late_nodes
   late_none earlier = refl
 
+  -- a late copy adds as many nodes as its part has
   pub late_step : (earlier : List ℕ) {region at : ℕ} (entries : List ℕ) → At region at entries → Mem region earlier ⊎ Mem region (take at entries)
       → late_nodes parameter earlier (take at entries) + length (part parameter region) ≤ late_nodes parameter earlier (take (suc at) entries)
   late_step earlier [] a m = elim a [ ]
@@ -58,6 +44,7 @@ module _ (parameter : Big) where
       let more = late_cons earlier first (take (suc i) entries) in
       omega (arith, less, few, more)
 
+  -- more entries have no fewer late nodes
   pub late_more : (earlier entries : List ℕ) (i j : ℕ) → i ≤ j → late_nodes parameter earlier (take i entries) ≤ late_nodes parameter earlier (take j entries)
   late_more earlier entries zero j le = let none = late_none earlier in omega (arith, none)
   late_more earlier entries (suc i) zero le = absurd (omega (arith, le))

@@ -1,6 +1,6 @@
 -- Where a host is valid under a signature, so are the context and the parameter of a decomposition; and where the reactum
 -- is too, so is the result of the reaction.
-use Rattle.std.proofs.Common.{◌≡◌, ℕ, ◌<◌, ◌+◌, true, false, List, [], length, Some, unwrap_or, option_map, refl, sym, ap, subst, ◌∙◌, arith}
+use Rattle.std.proofs.Common.{◌≡◌, ℕ, ◌<◌, ◌+◌, true, false, List, [], length, refl, sym, ap, subst, ◌∙◌, arith}
 use Rattle.std.proofs.lemmas.List.{length-map}
 use Rattle.bg_lists.specs.Lists.{Mem}
 use Rattle.bg_lists.proofs.Places.{At-from_Mem, At-below, get_or-At}
@@ -10,7 +10,7 @@ use Rattle.bg_base.specs.declared.names.Place.TheVariants.{Node, Region}
 use Rattle.bg_base.specs.declared.big.NodeRow.{NodeRow}
 use Rattle.bg_base.specs.declared.big.Big.{Big}
 use Rattle.bg_base.specs.declared.signature.Control.{Control}
-use Rattle.bg_base.specs.Bigraph.{IsValidUnder, IsGround, row_of, has_place, is_atomic, is_atomic_control, arity_of}
+use Rattle.bg_base.specs.Bigraph.{IsValidUnder, IsGround, has_place, is_atomic, arity_of}
 use Rattle.bg_base.specs.Composition.{link_through, place_through, compose}
 use Rattle.bg_base.specs.Elementary.{counted}
 use Rattle.bg_base.specs.Instance.{place_renamed}

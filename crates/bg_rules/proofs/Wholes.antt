@@ -1,5 +1,5 @@
 -- The instance that asks for each part once, in the order of the regions, is the parameter.
-use Rattle.std.proofs.Common.{◌≡◌, ℕ, zero, suc, ◌+◌, ◌<◌, true, List, [], ◌∷◌, length, take, refl, sym, ap, subst, ◌∙◌, inl, inr, arith, eqb-true, eq-eqb, ltb-true}
+use Rattle.std.proofs.Common.{◌≡◌, ℕ, zero, suc, ◌+◌, ◌<◌, true, List, [], ◌∷◌, length, take, sym, ap, subst, ◌∙◌, inl, inr, arith}
 use Rattle.bg_lists.specs.Lists.{Mem, here, there, At, at_here, at_there}
 use Rattle.bg_lists.proofs.Members.{Mem-same}
 use Rattle.bg_lists.proofs.Places.{At-total, At-same}
@@ -7,16 +7,15 @@ use Rattle.bg_base.specs.declared.names.Place.{Place}
 use Rattle.bg_base.specs.declared.names.Place.TheVariants.{Node, Region}
 use Rattle.bg_base.specs.declared.big.NodeRow.{NodeRow}
 use Rattle.bg_base.specs.declared.big.Big.{Big}
-use Rattle.bg_base.specs.Bigraph.{IsValid, has_place, reaches}
+use Rattle.bg_base.specs.Bigraph.{IsValid, has_place}
 use Rattle.bg_base.specs.Elementary.{counted}
 use Rattle.bg_base.specs.Instance.{node_numbers}
 use Rattle.bg_base.proofs.LookUps.{row_from_has}
-use Rattle.bg_base.proofs.Climbs.{row_from_reaches, reaches-Climb, Climb-from_place}
 use Rattle.bg_algebra.proofs.CompositionLaws.{At-counted, same_parts, same_nodes}
 use Rattle.bg_algebra.proofs.Nested.{length-counted}
 use Rattle.bg_rules.specs.Decomposition.{IsParameter}
-use Rattle.bg_rules.specs.Instantiation.{is_under, part, number_in_copy, place_in_copy, row_in_copy, instantiate}
-use Rattle.bg_rules.proofs.Patterns.{number_mem, node_place, parent_there}
+use Rattle.bg_rules.specs.Instantiation.{part, number_in_copy, place_in_copy, row_in_copy, instantiate}
+use Rattle.bg_rules.proofs.Patterns.{number_mem, parent_there}
 use Rattle.bg_rules.proofs.ParameterParts.{is_in_part, in_some_part, region_from_under, Mem-part, Mem-unpart}
 use Rattle.bg_rules.proofs.Copies.{number_cases}
 use Rattle.bg_rules.proofs.Instances.{instance_edges, instance_sites, instance_inner, instance_regions, instance_outer, instance_cases, instance_up, Mem-instance, parent_in_part}
