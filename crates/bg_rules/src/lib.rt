@@ -1,4 +1,6 @@
 //! Patterns, and where they occur in a host.
+//!
+//! - [`laws`]: occurrences are decompositions.
 #![tactic(auto)]
 
-mod laws;
+pub mod laws;
