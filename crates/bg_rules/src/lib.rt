@@ -1,9 +1,8 @@
-//! Patterns, and where they occur in a host.
+//! Patterns, where they occur in a host, and how a host reacts there.
+//!
+//! - [`laws`]: occurrences are decompositions.
+//! - [`reaction_laws`]: a reaction at an occurrence has one result.
 #![tactic(auto)]
 
-mod laws;
-mod reaction_laws;
-
-pub use reaction_laws::{
-    instance_of_all_is_the_parameter, instances_are_ground, reactions_have_one_result,
-};
+pub mod laws;
+pub mod reaction_laws;

@@ -5,14 +5,16 @@ use Rattle.std.specs.Option.{IsSomeAnd}
 use Rattle.std.proofs.lemmas.Bool.Decides.{nat_tests, eqb_tells, leb_tells}
 use Rattle.std.specs.declared.option.Option.{Option}
 use Rattle.bg_top.specs.Answer.{Answer, number, too_long}
+use Rattle.bg_top.specs.Check.{parsed, refused}
 use Rattle.bg_top.specs.Compose.{IsComposition, composed, told}
 use Rattle.bg_top.specs.Right.{IsReply, IsTextOf, IsTaken, IsRefused, IsRight, IsAccepted, Answers}
 use Rattle.bg_top.specs.Ended.{Ended, IsStopped, ComesWhere}
 use Rattle.bg_top.specs.declared.command.Command.{Command}
-use Rattle.bg_top.specs.declared.command.Command.TheVariants.{Compose}
+use Rattle.bg_top.specs.declared.command.Command.TheVariants.{Compose, Check}
 use Rattle.bg_top.specs.declared.refusal.Refusal.{Refusal}
 use Rattle.bg_top.specs.declared.reply.Status.TheVariants.{Refused}
 use Rattle.bg_top.specs.declared.top.TheConstants.{READ_FAILURE, WRITE_FAILURE, NO_MEMORY}
+use Rattle.bg_top.proofs.Texts.{fault_is_no_model}
 use Rattle.bg_top.proofs.Law.{composition_of, composed_of}
 
 -- the answer is the text that the command makes of the input
@@ -45,18 +47,23 @@ record IsJudged (most : ℕ) (command : Command) (input : List ℕ) (answer : An
 abbrev Match : ℕ → Command → List ℕ → Answer → Bool → Type 0
 Match most command input answer test = MatchBool test (answer ≡ too_long) (IsReply command input answer)
 
+reply_ends : (command : Command) (input : List ℕ) (answer : Answer) → IsReply command input answer → IsDone command input answer ⊎ IsTurnedDown command input answer
+reply_ends Compose input answer is = told_ends input (composed input) answer refl is
+reply_ends Check input answer (parsed m) = inl (record { status_is = refl; text_is = (m, refl) })
+reply_ends Check input answer (refused f) = inr (record { status_is = refl; refused = λ taken. fault_is_no_model f taken.1.0 })
+
 judged : (most : ℕ) (command : Command) (input : List ℕ) (answer : Answer)
     → Match most command input answer (nat_lt most (length input))
     → IsLong most input answer ⊎ IsJudged most command input answer
-judged most Compose input answer right =
+judged most command input answer right =
     ⊎_elim
     (λ few. let within : length input ≤ most = few.1 in
     let test : nat_lt most (length input) ≡ false = search (arith, nat_tests) in
-    let is : answer ≡ told (composed input) = subst (Match most Compose input answer) test right in
-    inr (record { few = within; verdict = told_ends input (composed input) answer refl is }))
+    let is : IsReply command input answer = subst (Match most command input answer) test right in
+    inr (record { few = within; verdict = reply_ends command input answer is }))
     (λ more. let past : most < length input = more.1 in
     let test : nat_lt most (length input) ≡ true = search (arith, nat_tests) in
-    let is : answer ≡ too_long = subst (Match most Compose input answer) test right in
+    let is : answer ≡ too_long = subst (Match most command input answer) test right in
     inl (record { status_is = ap (λ a. number a.status) is; more = past }))
     (leb_tells (length input) most)
 
@@ -69,7 +76,7 @@ written_from most None left status reads writes old new ended zero =
     let some = ended.answered (omega arith) (omega arith) (omega arith) in
     let two : number some.0.status ≡ 2 = ap (λ a. number a.status) some.1 in
     absurd (omega (arith, some.2.0))
-written_from most (Some Compose) left status reads writes old new ended zero =
+written_from most (Some command) left status reads writes old new ended zero =
     let some = ended.answered (omega arith) (omega arith) (omega arith) in
     let input = some.1.0 in
     ⊎_elim
@@ -78,7 +85,7 @@ written_from most (Some Compose) left status reads writes old new ended zero =
     (λ done. (input, some.1.1, (some.0.text, done.text_is, some.2.1)))
     (λ turned. absurd (omega (arith, some.2.0, turned.status_is)))
     short.verdict)
-    (judged most Compose input some.0 some.1.2)
+    (judged most command input some.0 some.1.2)
 
 -- the call was stopped, or was not
 stops : (status : ℕ) → IsStopped status ⊎ ((status ≢ READ_FAILURE) × (status ≢ WRITE_FAILURE) × (status ≢ NO_MEMORY))
@@ -96,31 +103,31 @@ refused_only most None input status reads writes old new ended one =
     let some = ended.answered (omega arith) (omega arith) (omega arith) in
     let two : number some.0.status ≡ 2 = ap (λ a. number a.status) some.1 in
     absurd (omega (arith, some.2.0))
-refused_only most (Some Compose) input status reads writes old new ended one =
+refused_only most (Some command) input status reads writes old new ended one =
     let some = ended.answered (omega arith) (omega arith) (omega arith) in
     ⊎_elim
     (λ long. absurd (omega (arith, some.2.0, long.status_is)))
     (λ short. ⊎_elim
     (λ done. absurd (omega (arith, some.2.0, done.status_is)))
-    (λ turned. subst (IsFewRefused most Compose) some.1.1 (short.few, turned.refused))
+    (λ turned. subst (IsFewRefused most command) some.1.1 (short.few, turned.refused))
     short.verdict)
-    (judged most Compose some.1.0 some.0 some.1.2)
+    (judged most command some.1.0 some.0 some.1.2)
 
 refused_always : (most : ℕ) (asked : Option Command) (input : List ℕ) (status : ℕ) (reads writes : Type 0) (old new : Option (List ℕ))
     → Ended (IsRight most asked (Some input)) status reads writes old new
     → IsSomeAnd asked (λ command. IsFewRefused most command input) → IsStopped status ⊎ (status ≡ 1)
 refused_always most None input status reads writes old new ended where_it = absurd where_it
-refused_always most (Some Compose) input status reads writes old new ended where_it =
+refused_always most (Some command) input status reads writes old new ended where_it =
     ⊎_elim (λ stopped. inl stopped) (λ goes.
     let some = ended.answered goes.0 goes.1 goes.2 in
-    let here = subst (IsFewRefused most Compose) (sym some.1.1) where_it in
+    let here = subst (IsFewRefused most command) (sym some.1.1) where_it in
     ⊎_elim
     (λ long. absurd (omega (arith, here.0, long.more)))
     (λ short. ⊎_elim
     (λ done. absurd (here.1 (some.0.text, done.text_is)))
     (λ turned. inr (some.2.0 ∙ turned.status_is))
     short.verdict)
-    (judged most Compose some.1.0 some.0 some.1.2))
+    (judged most command some.1.0 some.0 some.1.2))
     (stops status)
 
 pub refused_from : (most : ℕ) (asked : Option Command) (left : Option (List ℕ)) (status : ℕ) (reads writes : Type 0) (old new : Option (List ℕ))
@@ -134,16 +141,16 @@ pub complete_from : (most : ℕ) (asked : Option Command) (left : Option (List �
     → Ended (IsRight most asked left) status reads writes old new → IsAccepted most asked left → ¬ reads → ¬ writes
     → (status ≡ 0) ⊎ (status ≡ NO_MEMORY)
 complete_from most None left status reads writes old new ended accepted no_read no_write = absurd accepted
-complete_from most (Some Compose) None status reads writes old new ended accepted no_read no_write = absurd accepted
-complete_from most (Some Compose) (Some input) status reads writes old new ended accepted no_read no_write =
+complete_from most (Some command) None status reads writes old new ended accepted no_read no_write = absurd accepted
+complete_from most (Some command) (Some input) status reads writes old new ended accepted no_read no_write =
     ⊎_elim (λ e. inr e.1) (λ e.
     let some = ended.answered (λ is. no_read (ended.read_failure is).0) (λ is. no_write (ended.write_failure is).0) e.1 in
-    let here = subst (λ i. (length i ≤ most) × IsTaken Compose i) (sym some.1.1) accepted in
+    let here = subst (λ i. (length i ≤ most) × IsTaken command i) (sym some.1.1) accepted in
     ⊎_elim
     (λ long. absurd (omega (arith, here.0, long.more)))
     (λ short. ⊎_elim
     (λ done. inl (some.2.0 ∙ done.status_is))
     (λ turned. absurd (turned.refused here.1))
     short.verdict)
-    (judged most Compose some.1.0 some.0 some.1.2))
+    (judged most command some.1.0 some.0 some.1.2))
     (eqb_tells status NO_MEMORY)

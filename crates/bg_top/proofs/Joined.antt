@@ -1,5 +1,5 @@
 -- The composition of two bigraphs, or its refusal, from the facts of the field.
-use Rattle.std.proofs.Common.{Bool, true, false, not, Ok, Err, Result, if◌then◌else◌, ◌↔◌, ◌≡◌, ◌∙◌, refl, ap}
+use Rattle.std.proofs.Common.{ℕ, zero, suc, ◌<◌, [], ◌∷◌, get_or, Contains, arith, Bool, true, false, not, Ok, Err, Result, if◌then◌else◌, ◌↔◌, ◌≡◌, ◌∙◌, refl, ap}
 use Rattle.std.specs.Prelude.{IsErrOf}
 use Rattle.bg_base.specs.declared.big.Big.{Big}
 use Rattle.bg_base.specs.Composition.{FacesAgree, SupportsApart, faces_agree, supports_apart, compose}
@@ -32,11 +32,25 @@ joined_meet g f faces meet =
     ap (λ b. by_tests g f b (supports_apart g f)) (test-FacesAgree g f faces)
     ∙ ap (by_tests g f true) (fails (supports_apart g f) (λ e. meet (SupportsApart-from_test g f e)))
 
+-- a fault that is none of the three
+not_among : (fault : AlgebraFault) (k : ℕ) → k < 3 → get_or (algebra.FacesDiffer ∷ algebra.SupportMeets ∷ algebra.OutOfMemory ∷ []) k fault ≡ fault
+    → (algebra.FacesDiffer ≡ fault → ⊥) → (algebra.SupportMeets ≡ fault → ⊥) → (algebra.OutOfMemory ≡ fault → ⊥) → ⊥
+not_among fault zero l e first second third = first e
+not_among fault (suc zero) l e first second third = second e
+not_among fault (suc (suc zero)) l e first second third = third e
+not_among fault (suc (suc (suc k))) l e first second third = omega arith
+
 -- the fault of the algebra is the refusal
 pub joined_fault : (g f : Big) (fault : AlgebraFault)
     → (IsErrOf {T = Big} (Err fault) algebra.FacesDiffer ↔ ¬ FacesAgree g f)
     → (IsErrOf {T = Big} (Err fault) algebra.SupportMeets ↔ (FacesAgree g f × ¬ SupportsApart g f))
+    → Contains (algebra.FacesDiffer ∷ algebra.SupportMeets ∷ algebra.OutOfMemory ∷ []) fault
     → Tells (of_algebra fault) (joined g f)
-joined_fault g f algebra.FacesDiffer faces supports = joined_differ g f (faces.0 refl)
-joined_fault g f algebra.SupportMeets faces supports = let meet = supports.0 refl in joined_meet g f meet.0 meet.1
-joined_fault g f algebra.OutOfMemory faces supports = tt
+joined_fault g f algebra.FacesDiffer faces supports among = joined_differ g f (faces.0 refl)
+joined_fault g f algebra.SupportMeets faces supports among = let meet = supports.0 refl in joined_meet g f meet.0 meet.1
+joined_fault g f algebra.OutOfMemory faces supports among = tt
+joined_fault g f algebra.NamesMeet faces supports among = absurd (not_among algebra.NamesMeet among.0 among.1 among.2 (λ e. cc) (λ e. cc) (λ e. cc))
+joined_fault g f algebra.InnerNamesMeet faces supports among = absurd (not_among algebra.InnerNamesMeet among.0 among.1 among.2 (λ e. cc) (λ e. cc) (λ e. cc))
+joined_fault g f algebra.WidthsDiffer faces supports among = absurd (not_among algebra.WidthsDiffer among.0 among.1 among.2 (λ e. cc) (λ e. cc) (λ e. cc))
+joined_fault g f algebra.NoSuchName faces supports among = absurd (not_among algebra.NoSuchName among.0 among.1 among.2 (λ e. cc) (λ e. cc) (λ e. cc))
+joined_fault g f algebra.HasInnerNames faces supports among = absurd (not_among algebra.HasInnerNames among.0 among.1 among.2 (λ e. cc) (λ e. cc) (λ e. cc))

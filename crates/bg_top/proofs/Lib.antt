@@ -3,4 +3,5 @@ mod Joined
 mod Law
 mod Reading
 mod Right
+mod Texts
 mod Verdicts

@@ -5,7 +5,7 @@ use Rattle.bg_listing.specs.declared.fault.ListingFault.TheVariants as listing
 use Rattle.bg_algebra.specs.declared.fault.AlgebraFault.{AlgebraFault}
 use Rattle.bg_algebra.specs.declared.fault.AlgebraFault.TheVariants as algebra
 use Rattle.bg_top.specs.declared.refusal.Refusal.{Refusal}
-use Rattle.bg_top.specs.declared.refusal.Refusal.TheVariants.{Listing, FacesDiffer, SupportMeets}
+use Rattle.bg_top.specs.declared.refusal.Refusal.TheVariants.{Listing, FacesDiffer, SupportMeets, NamesMeet, InnerNamesMeet, WidthsDiffer, NoSuchName, HasInnerNames}
 use Rattle.bg_top.specs.declared.failure.Failure.{Failure}
 use Rattle.bg_top.specs.declared.failure.Failure.TheVariants.{Refused, OutOfMemory}
 
@@ -16,6 +16,11 @@ of_listing listing.OutOfMemory = OutOfMemory
 abbrev pub of_algebra : AlgebraFault → Failure
 of_algebra algebra.FacesDiffer = Refused FacesDiffer
 of_algebra algebra.SupportMeets = Refused SupportMeets
+of_algebra algebra.NamesMeet = Refused NamesMeet
+of_algebra algebra.InnerNamesMeet = Refused InnerNamesMeet
+of_algebra algebra.WidthsDiffer = Refused WidthsDiffer
+of_algebra algebra.NoSuchName = Refused NoSuchName
+of_algebra algebra.HasInnerNames = Refused HasInnerNames
 of_algebra algebra.OutOfMemory = OutOfMemory
 
 -- the failure is the refusal, or want of memory

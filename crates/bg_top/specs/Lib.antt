@@ -1,4 +1,5 @@
 pub mod Answer
+pub mod Check
 pub mod Compose
 pub mod Ended
 pub mod Failure

@@ -5,6 +5,8 @@ ghost use Rattle.std.specs.Prelude.{◌≡◌};
 pub enum Command {
     /// The composition of two bigraphs.
     Compose,
+    /// Whether a text is a model.
+    Check,
 }
 
 ghost use Rattle.bg_top.specs.Words.{asked};
@@ -15,6 +17,7 @@ pub(crate) fn command_of(words: &[String]) -> Option<Command>
 {
     match words {
         [_, word] if word.as_str() == "compose" => Some(Command::Compose),
+        [_, word] if word.as_str() == "check" => Some(Command::Check),
         _ => None,
     }
 }

@@ -54,7 +54,7 @@ fn join(alloc: Global, upper: &Big, lower: &Big) -> Result<Big, Failure>
 }
 
 /// The answer to an input that is refused.
-fn refuse(alloc: Global, refusal: Refusal) -> Result<Reply, AllocError>
+pub(crate) fn refuse(alloc: Global, refusal: Refusal) -> Result<Reply, AllocError>
     ensures { IfOk result (λ reply. answer_of reply ≡ told (Err refusal)) }
 {
     let mut text = refusal.to_string(alloc)?;

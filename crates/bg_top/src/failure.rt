@@ -35,6 +35,11 @@ impl From<AlgebraFault> for Failure {
         match fault {
             AlgebraFault::FacesDiffer => Failure::Refused(Refusal::FacesDiffer),
             AlgebraFault::SupportMeets => Failure::Refused(Refusal::SupportMeets),
+            AlgebraFault::NamesMeet => Failure::Refused(Refusal::NamesMeet),
+            AlgebraFault::InnerNamesMeet => Failure::Refused(Refusal::InnerNamesMeet),
+            AlgebraFault::WidthsDiffer => Failure::Refused(Refusal::WidthsDiffer),
+            AlgebraFault::NoSuchName => Failure::Refused(Refusal::NoSuchName),
+            AlgebraFault::HasInnerNames => Failure::Refused(Refusal::HasInnerNames),
             AlgebraFault::OutOfMemory => Failure::OutOfMemory,
         }
     }

@@ -1,6 +1,7 @@
 //! The top call: from the words of the command line and the bytes of the input to the text of the answer.
 #![tactic(auto)]
 
+mod checking;
 mod command;
 mod composition;
 mod failure;

@@ -1,5 +1,5 @@
 ghost use Rattle.std.specs.Prelude.{◌≡◌, Some};
-ghost use Rattle.bg_top.specs.Refusal.{fault_name};
+ghost use Rattle.bg_top.specs.Refusal.{fault_name, model_fault_name};
 
 use std::fmt;
 
@@ -8,10 +8,22 @@ use std::fmt;
 pub enum Refusal {
     /// A listing is refused: by which code, and at which line of the input, counted from 1.
     Listing { code: u8, line: u32 },
+    /// A text is no model: by which code, and at which line and column of the input, both counted from 1.
+    Model { code: u8, line: u32, column: u32 },
     /// The inner face of the first bigraph is not the outer face of the second.
     FacesDiffer,
     /// A node or an edge is in both bigraphs.
     SupportMeets,
+    /// A name is in both bigraphs.
+    NamesMeet,
+    /// An inner name is in both bigraphs.
+    InnerNamesMeet,
+    /// The first bigraph has not as many sites as the second has regions.
+    WidthsDiffer,
+    /// There is no such outer name.
+    NoSuchName,
+    /// The upper bigraph of a nesting has an inner name.
+    HasInnerNames,
 }
 
 impl fmt::Display for Refusal {
@@ -25,8 +37,17 @@ impl fmt::Display for Refusal {
                 let name = fault_name(code);
                 write!(f, "refused {code} {name} at {line}")
             }
+            Refusal::Model { code, line, column } => {
+                let name = model_fault_name(code);
+                write!(f, "refused {code} {name} at {line}:{column}")
+            }
             Refusal::FacesDiffer => f.write_str("refused 11 FacesDiffer"),
             Refusal::SupportMeets => f.write_str("refused 12 SupportMeets"),
+            Refusal::NamesMeet => f.write_str("refused 13 NamesMeet"),
+            Refusal::InnerNamesMeet => f.write_str("refused 14 InnerNamesMeet"),
+            Refusal::WidthsDiffer => f.write_str("refused 15 WidthsDiffer"),
+            Refusal::NoSuchName => f.write_str("refused 16 NoSuchName"),
+            Refusal::HasInnerNames => f.write_str("refused 17 HasInnerNames"),
         }
     }
 }
@@ -45,5 +66,19 @@ fn fault_name(code: u8) -> &'static str
         7 => "Cycle",
         8 => "Extra",
         _ => "DuplicateLabel",
+    }
+}
+
+/// The name of a code by which a text is no model.
+fn model_fault_name(code: u8) -> &'static str
+    ensures { result.now ≡ model_fault_name code }
+{
+    match code {
+        21 => "BadByte",
+        22 => "OpenString",
+        23 => "NumberTooLarge",
+        24 => "DecimalNumber",
+        31 => "Unexpected",
+        _ => "TooDeep",
     }
 }

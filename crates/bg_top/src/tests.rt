@@ -119,7 +119,7 @@ fn other_words_are_refused_and_nothing_is_read(rt: HostRuntime) -> Result<(), Fa
     let refused: [&[&str]; 5] = [
         &[],
         &["bigengine"],
-        &["bigengine", "check"],
+        &["bigengine", "checks"],
         &["bigengine", "compose", "compose"],
         &["bigengine", "compose "],
     ];
@@ -128,6 +128,37 @@ fn other_words_are_refused_and_nothing_is_read(rt: HostRuntime) -> Result<(), Fa
         let end = end_of(alloc, texts, source, &[])?;
         assert_eq!(rt; end.status, 2);
         assert_eq!(rt; end.written.as_slice(), b"words\n".as_slice());
+    }
+    Ok(())
+}
+
+/// Texts, and what `check` answers to each.
+const CHECKED: [(&str, u8, &str); 10] = [
+    ("", 0, "parsed\n"),
+    ("ctrl Room = 0;\nbig s = Room.1;\n", 0, "parsed\n"),
+    ("ctrl A = 0", 1, "refused 31 Unexpected at 1:11\n"),
+    ("big s = A ! B;", 1, "refused 31 Unexpected at 1:11\n"),
+    ("ctrl A = 0;\n  end", 1, "refused 31 Unexpected at 2:3\n"),
+    ("int n = 1.5;", 1, "refused 24 DecimalNumber at 1:9\n"),
+    ("ctrl $", 1, "refused 21 BadByte at 1:6\n"),
+    ("\nstring s = \"abc", 1, "refused 22 OpenString at 2:12\n"),
+    (
+        "ctrl A = 9223372036854775808;",
+        1,
+        "refused 23 NumberTooLarge at 1:10\n",
+    ),
+    ("big s = K();", 1, "refused 31 Unexpected at 1:11\n"),
+];
+
+#[test]
+fn a_text_is_a_model_or_refused_at_its_first_fault(rt: HostRuntime) -> Result<(), Fail> {
+    let alloc = rt.alloc();
+    for (text, status, line) in CHECKED {
+        let bytes = text.as_bytes().to_vec(alloc)?;
+        let source = MemorySource::new(bytes, 8, Vec::new(alloc));
+        let end = end_of(alloc, &["bigengine", "check"], source, &[])?;
+        assert_eq!(rt; end.status, status);
+        assert_eq!(rt; end.written.as_slice(), line.as_bytes());
     }
     Ok(())
 }

@@ -6,6 +6,7 @@ ghost use Rattle.bg_top.specs.Answer.{number, answer_of};
 ghost use Rattle.bg_top.specs.Right.{IsReply, IsRight, Answers, IsRefused, IsAccepted};
 ghost use Rattle.bg_top.specs.Ended.{Ended, ComesWhere};
 
+use crate::checking::check;
 use crate::command::{Command, command_of};
 use crate::composition::compose;
 use crate::reply::{Reply, Status};
@@ -113,6 +114,7 @@ fn reply_to(alloc: Global, command: Command, input: &[u8]) -> Result<Reply, Allo
 {
     match command {
         Command::Compose => compose(alloc, input),
+        Command::Check => check(alloc, input),
     }
 }
 

@@ -5,7 +5,7 @@ use Rattle.bg_top.proofs.composition.join.Goals as goal
 pub returns-in_err-compose-clause-exact : goal.returns-in_err-compose-clause-exact
 returns-in_err-compose-clause-exact c =
     let clauses = c.in_err-compose.ensures in
-    let told = joined_fault c.args.upper.now c.args.lower.now c.in_err-compose.field-0.0 clauses.faces clauses.supports in
+    let told = joined_fault c.args.upper.now c.args.lower.now c.in_err-compose.field-0.0 clauses.faces clauses.supports clauses.no_other in
     search (rules, told)
 
 pub returns-clause-exact : goal.returns-clause-exact

@@ -1,0 +1,5 @@
+pub mod Plans
+pub mod Predictions
+pub mod Stops
+pub mod Faults
+pub mod Solid

@@ -1,0 +1,26 @@
+-- Written by tools/grammar.py.
+use Rattle.std.proofs.Common.{◌≡◌, arith}
+use Rattle.bg_syntax.specs.Grammar.{model_ways, model_deepens, grammar}
+use Rattle.bg_syntax.proofs.Readings.{moves_next, moves_open, fails_here, fails_next, fails_open, err_exit}
+use Rattle.bg_syntax.specs.StatementsSteps.{test_steps}
+use Rattle.bg_syntax.proofs.reader.Reader.test.Goals as goal
+
+pub returns-in_err-part1 : goal.returns-in_err-part1
+unfolding grammar model_ways model_deepens
+returns-in_err-part1 c = let known = c.in_ok-choose.ensures.known in let e : c.in_ok-choose.field-0 ≡ 0 = omega arith in err_exit _ _ _ c.from_residual-in_err-part1.ensures.1 (fails_open _ 0 c.in_ok-choose.ensures e (fails_here _ c.in_err-part1.ensures))
+
+pub returns-in_err-part2 : goal.returns-in_err-part2
+unfolding grammar model_ways model_deepens
+returns-in_err-part2 c = let known = c.in_ok-choose.ensures.known in let e : c.in_ok-choose.field-0 ≡ 0 = omega arith in err_exit _ _ _ c.from_residual-in_err-part2.ensures.1 (fails_open _ 0 c.in_ok-choose.ensures e (fails_next c.in_ok-part1.ensures (fails_here _ c.in_err-part2.ensures)))
+
+pub returns-in_err-part3 : goal.returns-in_err-part3
+unfolding grammar model_ways model_deepens
+returns-in_err-part3 c = let known = c.in_ok-choose.ensures.known in let e : c.in_ok-choose.field-0 ≡ 0 = omega arith in err_exit _ _ _ c.from_residual-in_err-part3.ensures.1 (fails_open _ 0 c.in_ok-choose.ensures e (fails_next c.in_ok-part1.ensures (fails_next c.in_ok-part2.ensures (fails_here _ c.in_err-part3.ensures.read))))
+
+pub returns-in_err-part4 : goal.returns-in_err-part4
+unfolding grammar model_ways model_deepens
+returns-in_err-part4 c = let known = c.in_ok-choose.ensures.known in let e : c.in_ok-choose.field-0 ≡ 0 = omega arith in err_exit _ _ _ c.from_residual-in_err-part4.ensures.1 (fails_open _ 0 c.in_ok-choose.ensures e (fails_next c.in_ok-part1.ensures (fails_next c.in_ok-part2.ensures (fails_next c.in_ok-part3.ensures.read (fails_here _ c.in_err-part4.ensures)))))
+
+pub returns : goal.returns
+unfolding grammar model_ways model_deepens test_steps
+returns c = let known = c.in_ok-choose.ensures.known in let e : c.in_ok-choose.field-0 ≡ 0 = omega arith in moves_open _ 0 c.in_ok-choose.ensures e (moves_next c.in_ok-part1.ensures (moves_next c.in_ok-part2.ensures (moves_next c.in_ok-part3.ensures.read c.in_ok-part4.ensures)))

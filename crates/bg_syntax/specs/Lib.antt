@@ -1,0 +1,11 @@
+pub mod Numbers
+pub mod Grammar
+pub mod Plan
+pub mod Steps
+pub mod NamesSteps
+pub mod ArithmeticSteps
+pub mod ExpressionsSteps
+pub mod StatementsSteps
+pub mod ModelsSteps
+pub mod Models
+pub mod Reading

@@ -1,0 +1,21 @@
+//! The grammar of the model language: from tokens to the tree of their derivation.
+//!
+//! - [`parse`]: the tree of the tokens, or their first fault ([`SyntaxFault`]).
+//! - [`tree`]: a type for each symbol of the grammar; [`Tree`] is the whole.
+#![tactic(auto)]
+
+mod fault;
+mod parsing;
+mod read;
+mod reader;
+mod symbol;
+mod table;
+pub mod tree;
+
+pub use fault::{SyntaxFault, TOO_DEEP, UNEXPECTED};
+pub use parsing::parse;
+pub use symbol::Symbol;
+pub use tree::Tree;
+
+#[cfg(test)]
+mod tests;

@@ -1,0 +1,421 @@
+"""Writes the Rust files and the definitions: see grammar.py."""
+
+import re
+
+from grammar_sets import *
+
+# ---- writing
+
+FIRST_LINE = 'Written by tools/grammar.py'
+FILES = {}
+
+
+def put(path, text):
+    text = needed(text)
+    FILES[f'crates/bg_syntax/{path}'] = text if text.endswith('\n') else text + '\n'
+
+
+def needed(text):
+    """The text without the imports that it does not use."""
+    lines = text.split('\n')
+    body = '\n'.join(line for line in lines if not line.lstrip().startswith(('use ', 'ghost use ')))
+    words = set(re.findall(r'[^\s(){},;]+', re.sub(r'--.*|//.*', '', body)))
+    words |= {part for word in words for part in word.split('.')}
+    kept = []
+    for line in lines:
+        found = re.match(r'((?:ghost use|use Rattle)[^{]*)\{(.*)\}(;?)$', line)
+        alias = re.match(r'(?:ghost )?use .* as (\w+);?$', line)
+        if found:
+            names = [n for n in found[2].split(', ') if n.split(' as ')[-1].strip('◌') in words]
+            if names:
+                kept.append(f'{found[1]}{{{", ".join(names)}}}{found[3]}')
+        elif not alias or alias[1] in words:
+            kept.append(line)
+    return '\n'.join(kept)
+
+
+def rust(path, about, text):
+    put(path, f'//! {about} {FIRST_LINE}.\n{text}')
+
+
+def antt(path, about, text):
+    put(path, f'-- {about} {FIRST_LINE}.\n{text}')
+
+
+def write_symbols():
+    lines = ['', '/// A symbol of the grammar.', '#[derive(Clone, Copy, Debug, PartialEq, Eq)]', 'pub enum Symbol {']
+    for s in SYMBOLS:
+        lines += [f'    /// `{rule(s)}`', f'    {s},']
+    rust('src/symbol.rt', 'The symbols of the grammar.', '\n'.join(lines + ['}']))
+
+
+def write_table():
+    lines = ['', '/// For each symbol a row: for each kind of token, and last for the end of input, one more than the number of the',
+             '/// alternative to take there, or 0 for none.', f'pub const ROWS: [[u8; {END + 1}]; {len(SYMBOLS)}] = [']
+    for s in SYMBOLS:
+        lines += [f'    // {s}', '    [' + ', '.join(map(str, ROWS[s])) + '],']
+    rust('src/table.rt', 'The table of the grammar.', '\n'.join(lines + ['];']))
+
+
+def write_types():
+    for topic, about, _ in TOPICS:
+        lines, used = [], set()
+        for s in symbols_of(topic):
+            if is_list(s):
+                lines += type_lines(s, f'Syn{s}Item', item_ways(s), f'An item of `{rule(s)}`')
+            else:
+                lines += type_lines(s, f'Syn{s}', WAYS[s], f'`{rule(s)}`')
+            used |= {p for w in WAYS[s] for p in w if is_symbol(p) and topic_of(p) != topic}
+        uses = {}
+        for p in sorted(used, key=SYMBOL_NUMBER.get):
+            uses.setdefault(topic_of(p), []).append(f'Syn{p}Item' if is_list(p) else f'Syn{p}')
+        head = [f'use crate::tree::{t}::{{{", ".join(sorted(names))}}};' for t, names in sorted(uses.items())]
+        rust(f'src/tree/{topic}.rt', about, '\n'.join(head + lines))
+
+
+def type_lines(s, name, ways, doc):
+    lines = ['', f'/// {doc}']
+    if s in CYCLE:
+        lines.append(f'#[cycle({cycle_name(s)})]')
+    lines.append('#[derive(Drop)]')
+    if len(ways) == 1:
+        lines.append(f'pub struct {name} {{')
+        lines += [f'    pub part{i + 1}: {type_of(s, p)},' for i, p in enumerate(ways[0])]
+    else:
+        lines.append(f'pub enum {name} {{')
+        for i, w in enumerate(ways):
+            parts = ', '.join(type_of(s, p) for p in w)
+            lines += [f'    /// `{spelled(w)}`', f'    Way{i + 1}({parts}),' if w else f'    Way{i + 1},']
+    return lines + ['}']
+
+
+def write_numbers():
+    lines = ['use Rattle.std.specs.Prelude.{ℕ}', 'use Rattle.bg_text.specs.declared.token.TokenKind.{TokenKind}',
+             'use Rattle.bg_text.specs.declared.token.TokenKind.TheVariants as kinds',
+             'use Rattle.bg_syntax.specs.declared.symbol.Symbol.{Symbol}', 'use Rattle.bg_syntax.specs.declared.symbol.Symbol.TheVariants as symbols', '',
+             'abbrev pub kind_number : TokenKind → ℕ']
+    lines += [f'kind_number kinds.{v} = {n}' for v, n in KIND_NUMBER.items()]
+    lines += ['', 'abbrev pub symbol_number : Symbol → ℕ']
+    lines += [f'symbol_number symbols.{s} = {n}' for s, n in SYMBOL_NUMBER.items()]
+    antt('specs/Numbers.antt', 'The numbers of the kinds of tokens and of the symbols.', '\n'.join(lines))
+
+
+def part_term(p):
+    return f's symbols.{p}' if is_symbol(p) else f'k kinds.{KIND[p]}'
+
+
+def chain(terms):
+    return ' ∷ '.join(terms + ['[]'])
+
+
+def write_grammar():
+    lines = ['use Rattle.std.specs.Prelude.{ℕ, ◌==◌, ◌||◌, Bool, true, false, List, [], ◌∷◌}',
+             'use Rattle.bg_text.specs.declared.token.TokenKind.{TokenKind}',
+             'use Rattle.bg_text.specs.declared.token.TokenKind.TheVariants as kinds',
+             'use Rattle.bg_syntax.specs.declared.symbol.Symbol.{Symbol}', 'use Rattle.bg_syntax.specs.declared.symbol.Symbol.TheVariants as symbols',
+             'use Rattle.bg_grammar.specs.Grammar.{Part, kind, symbol, Grammar}', 'use Rattle.bg_syntax.specs.Numbers.{kind_number, symbol_number}', '',
+             '-- a kind of token as a part, and a symbol', 'abbrev pub k : TokenKind → Part', 'k x = kind (kind_number x)', '',
+             'abbrev pub s : Symbol → Part', 's x = symbol (symbol_number x)', '',
+             '-- the alternatives of each symbol, in the order of the symbols', 'unfoldable pub model_ways : List (List (List Part))', 'model_ways =']
+    for s in SYMBOLS:
+        ways = chain(['(' + chain([part_term(p) for p in w]) + ')' if w else '[]' for w in WAYS[s]])
+        lines += [f'    -- {rule(s)}', f'    ({ways}) ∷']
+    lines += ['    []', '', f'-- what stands below {" and ".join(DEEPENS)} is one deeper', 'unfoldable pub model_deepens : List Bool',
+              'model_deepens = ' + chain(['true' if s in DEEPENS else 'false' for s in SYMBOLS]), '',
+              '-- the grammar of the model language', 'unfoldable pub grammar : Grammar', 'grammar = record { ways = model_ways; deepens = model_deepens }']
+    antt('specs/Grammar.antt', 'The grammar of the model language, as data.', '\n'.join(lines))
+
+
+def write_plan():
+    lines = ['use Rattle.std.specs.Prelude.{ℕ, List, [], ◌∷◌}', 'use Rattle.bg_grammar.specs.Plan.{Plan}', 'use Rattle.bg_syntax.specs.declared.table.TheConstants.{ROWS}', '',
+             '-- 1 where the kind, or the end of input, may follow the symbol', 'unfoldable pub model_follows : List (List ℕ)', 'model_follows =']
+    for s in SYMBOLS:
+        lines += [f'    -- {s}', '    (' + chain(['1' if k in FOLLOW[s] else '0' for k in range(END + 1)]) + ') ∷']
+    lines += ['    []', '', '-- some alternative of each symbol has only symbols of lower ranks', 'unfoldable pub model_ranks : List ℕ',
+              'model_ranks = ' + chain([str(RANKS[s]) for s in SYMBOLS]), '', '-- the plan that the parser goes by; that it is right is computed',
+              'unfoldable pub plan : Plan', f'plan = record {{ end = {END}; start = 0; rows = ROWS; follows = model_follows; ranks = model_ranks }}']
+    antt('specs/Plan.antt', 'The plan of the grammar.', '\n'.join(lines))
+
+# ---- the steps of the derivation that a tree is
+
+def cycle_types(s):
+    """The types of the symbol's cycle in the order of its folds: enums by name, then structs by name."""
+    names = []
+    for t in CYCLE[s]:
+        ways = item_ways(t) if is_list(t) else WAYS[t]
+        names.append((len(ways) == 1, f'Syn{t}Item' if is_list(t) else f'Syn{t}', t))
+    return [(name, t, single) for single, name, t in sorted(names)]
+
+
+def module_of(s):
+    """The generated module of the symbol's type; a cycle's is that of its first enum."""
+    name = cycle_types(s)[0][0] if s in CYCLE else (f'Syn{s}Item' if is_list(s) else f'Syn{s}')
+    return f'Rattle.bg_syntax.specs.declared.tree.{topic_of(s)}.{name}'
+
+
+def type_module(s):
+    name = f'Syn{s}Item' if is_list(s) else f'Syn{s}'
+    return f'Rattle.bg_syntax.specs.declared.tree.{topic_of(s)}.{name}', name
+
+
+def steps_name(s):
+    return f'{snake(s)}_steps'
+
+
+def item_name(s):
+    return f'{snake(s)}_item_steps' if is_list(s) else steps_name(s)
+
+
+def below(s, depth='d'):
+    return f'({depth} + 1)' if s in DEEPENS else depth
+
+
+def steps_term(s, i, way, names, read):
+    """The steps of alternative i; `read` gives the steps of a part that is a symbol."""
+    d = below(s)
+    last = '[]'
+    for p, name in list(zip(way, names))[::-1]:
+        if is_symbol(p):
+            term = read(p, name, d)
+            last = term if last == '[]' else f'({term} ++ {last})'
+        else:
+            last = f'(takes kinds.{KIND[p]} {d} {name} ∷ {last})'
+    return f'opens symbols.{s} {i} ∷ {last}'
+
+
+def variant_name(s, i):
+    """The name of a variant's layer: bare where no other enum of the cycle has one of that name."""
+    owners = [t for _, t, single in cycle_types(s) if not single and len(item_ways(t) if is_list(t) else WAYS[t]) > i]
+    return f'Way{i + 1}' if len(owners) == 1 else f'Syn{s}{"Item" if is_list(s) else ""}::Way{i + 1}'
+
+
+def write_steps():
+    for topic, about, _ in TOPICS:
+        lines, uses = [], {}
+
+        def use(module, name):
+            uses.setdefault(module, [])
+            if name not in uses[module]:
+                uses[module].append(name)
+
+        def steps_of(p):
+            if topic_of(p) != topic:
+                use(f'Rattle.bg_syntax.specs.{topic_of(p).capitalize()}Steps', steps_name(p))
+            return steps_name(p)
+
+        done = set()
+        for s in ordered(topic):
+            if s in CYCLE:
+                if s not in done:
+                    lines += cycle_steps(s, use, steps_of)
+                    done |= CYCLE[s]
+                continue
+            module, name = type_module(s)
+            use(module, name)
+            ways = item_ways(s) if is_list(s) else WAYS[s]
+            lines += ['', f'-- {rule(s)}', f'unfoldable pub {item_name(s)} : {name} → Steps']
+
+            def read(p, value, d):
+                return f'{steps_of(p)} {value}{".items" if is_list(p) else ""} {d}'
+
+            if len(ways) == 1:
+                names = [f'x.part{i + 1}' for i in range(len(ways[0]))]
+                lines.append(f'{item_name(s)} x d = {steps_term(s, 0, ways[0], names, read)}')
+            else:
+                for i, w in enumerate(ways):
+                    names = [f'part{j + 1}' for j in range(len(w))]
+                    pattern = ' '.join([f'{snake(s)}_ways.Way{i + 1}'] + names)
+                    lines.append(f'{item_name(s)} ({pattern}) d = {steps_term(s, i, w, names, read)}')
+                use(f'{module}.TheVariants', None)
+            if is_list(s):
+                lines += list_steps(s, name)
+        head = ['use Rattle.std.specs.Prelude.{ℕ, ◌+◌, List, [], ◌∷◌, ◌++◌, map}', 'use Rattle.bg_text.specs.declared.token.TokenKind.TheVariants as kinds',
+                'use Rattle.bg_syntax.specs.declared.symbol.Symbol.TheVariants as symbols', 'use Rattle.bg_grammar.specs.Grammar.{Step}',
+                'use Rattle.bg_syntax.specs.Steps.{Steps, opens, takes, in_turn}']
+        for module, names in uses.items():
+            if names == [None]:
+                owner = module.split('.')[-2]
+                head.append(f'use {module} as {snake(re.sub("^Syn|Item$", "", owner))}_ways')
+            else:
+                head.append(f'use {module}.{{{", ".join(n for n in names if n)}}}')
+        antt(f'specs/{topic.capitalize()}Steps.antt', f'The steps of trees: {topic}.', '\n'.join(head + lines))
+
+
+def list_steps(s, name):
+    return ['', f'unfoldable pub {steps_name(s)} : List {name} → Steps',
+            f'{steps_name(s)} items = in_turn (opens symbols.{s} {len(WAYS[s]) - 1}) (map {item_name(s)} items)']
+
+
+def cycle_steps(first, use, steps_of):
+    types = cycle_types(first)
+    module = module_of(first)
+    results = ' '.join(['Steps'] * len(types))
+    layers = ' '.join(layer_name(t) for _, t, _ in types)
+    lines = ['', '-- the types of this cycle are read by folds; a layer has the steps of its parts in place of the parts']
+    for name, t, single in types:
+        ways = item_ways(t) if is_list(t) else WAYS[t]
+        use(f'{module}.TheOpen', f'{name}-F')
+        lines += ['', f'-- {rule(t)}', f'abbrev pub {layer_name(t)} : {name}-F {results} → Steps']
+
+        def read(p, value, d):
+            if p in CYCLE[first]:
+                return f'in_turn (opens symbols.{p} {len(WAYS[p]) - 1}) {value}.items {d}' if is_list(p) else f'{value}.value {d}'
+            return f'{steps_of(p)} {value}{".items" if is_list(p) else ""} {d}'
+
+        if single:
+            names = [f'x.part{i + 1}' for i in range(len(ways[0]))]
+            lines.append(f'{layer_name(t)} x d = {steps_term(t, 0, ways[0], names, read)}')
+        else:
+            for i, w in enumerate(ways):
+                names = [f'part{j + 1}' for j in range(len(w))]
+                use(f'{module}.TheOpen.{name}-F', f'{variant_name(t, i)} as {snake(t)}_{i + 1}')
+                lines.append(f'{layer_name(t)} ({" ".join([f"{snake(t)}_{i + 1}"] + names)}) d = {steps_term(t, i, w, names, read)}')
+    for name, t, single in types:
+        use(type_module(t)[0], name)
+        use(f'{module}.TheFolds', f'fold-{name}')
+        lines += ['', f'unfoldable pub {item_name(t)} : {name} → Steps', f'{item_name(t)} = fold-{name} {results} {layers}']
+    for name, t, single in types:
+        if is_list(t):
+            lines += list_steps(t, name)
+    return lines
+
+
+def layer_name(s):
+    return f'{snake(s)}_item_layer' if is_list(s) else f'{snake(s)}_layer'
+
+
+def ordered(topic):
+    """The symbols of a topic, each behind those that its type has parts of."""
+    found = []
+
+    def visit(s):
+        if s in found or s in todo:
+            return
+        todo.append(s)
+        group = CYCLE.get(s, {s})
+        for t in sorted(group, key=SYMBOL_NUMBER.get):
+            for w in WAYS[t]:
+                for p in w:
+                    if is_symbol(p) and p not in group and topic_of(p) == topic:
+                        visit(p)
+        found.append(s)
+
+    todo = []
+    for s in symbols_of(topic):
+        visit(s)
+    return found
+
+
+# ---- the reading functions
+
+def reaches_deep(s):
+    return s in DEEPENS or any(d in REACH[s] for d in DEEPENS)
+
+
+# what is read one deeper than its symbol before a token is taken, by K
+BELOW_K = ['N', 'N1', 'A', 'Ref']
+
+
+def read_head(s, name, result, contract):
+    lines = [f'    // {rule(s)}']
+    if s in CYCLE:
+        lines.append(f'    #[cycle({cycle_name(s)})]')
+    lines += [f'    pub fn {name}(&self, at: &mut usize, depth: u32) -> Result<{result}, SyntaxFault>',
+              '        requires inside { at.old ≤ length self.now.tokens.now }']
+    if reaches_deep(s):
+        lines.append(f'        requires shallow {{ depth ≤ at.old{" + 1" if s in BELOW_K else ""} }}')
+    return lines + [f'        ensures {{ {contract} }}', '    {']
+
+
+def read_parts(s, way, indent):
+    """Lines that read the parts, and the names of the values."""
+    lines, values = [], []
+    for i, p in enumerate(way):
+        name = f'part{i + 1}'
+        if is_symbol(p):
+            lines.append(f'{indent}let {name} = self.{snake(p)}(at, depth)?;')
+        else:
+            lines.append(f'{indent}let {name} = self.take(at, depth, TokenKind::{KIND[p]})?;')
+        if is_boxed(s, p):
+            lines.append(f'{indent}let box{i + 1} = Box::new(self.alloc, {name})?;')
+            name = f'box{i + 1}'
+        values.append(name)
+    return lines, values
+
+
+def value_of(type_name, ways, i, values):
+    if len(ways) == 1:
+        fields = ', '.join(f'part{j + 1}' if v == f'part{j + 1}' else f'part{j + 1}: {v}' for j, v in enumerate(values))
+        return f'{type_name} {{ {fields} }}'
+    return f'{type_name}::Way{i + 1}' + (f'({", ".join(values)})' if values else '')
+
+
+def read_arms(s, type_name, ways, wrap):
+    """The match on the alternative; `wrap` makes the answer of a value."""
+    lines = ['        match way {']
+    for i, w in enumerate(ways):
+        label = '_' if i == len(ways) - 1 else str(i)
+        parts, values = read_parts(s, w, '                ')
+        value = wrap(value_of(type_name, [v for v in ways if v] if is_list(s) else ways, i, values) if w or not is_list(s) else None)
+        if parts:
+            lines += [f'            {label} => {{'] + parts + [f'                {value}', '            }']
+        else:
+            lines.append(f'            {label} => {value},')
+    return lines + ['        }']
+
+
+def read_symbol(s):
+    contract = f'Reads (λ x. {steps_name(s)} x depth) self.now.tokens.now at.old (wants depth symbols.{s}) at.new result'
+    lines = read_head(s, snake(s), f'Syn{s}', contract)
+    deeper = ['        let depth = depth + 1;'] if s in DEEPENS else []
+    if len(WAYS[s]) == 1:
+        parts, values = read_parts(s, WAYS[s][0], '        ')
+        lines += [f'        self.choose(*at, Symbol::{s})?;'] + deeper + parts
+        lines.append(f'        Ok({value_of(f"Syn{s}", WAYS[s], 0, values)})')
+    else:
+        lines.append(f'        let way = self.choose(*at, Symbol::{s})?;')
+        lines += deeper + read_arms(s, f'Syn{s}', WAYS[s], lambda v: f'Ok({v})')
+    return lines + ['    }']
+
+
+def read_list(s):
+    end = f'(opens symbols.{s} {len(WAYS[s]) - 1} ∷ [])'
+    contract = f'ReadsItem (λ x. {item_name(s)} x depth) self.now.tokens.now at.old depth symbols.{s} {end} at.new result'
+    lines = read_head(s, f'{snake(s)}_item', f'Option<Syn{s}Item>', contract)
+    lines.append(f'        let way = self.choose(*at, Symbol::{s})?;')
+    ways = [w[:-1] for w in WAYS[s]]
+    lines += read_arms(s, f'Syn{s}Item', ways, lambda v: f'Ok(Some({v}))' if v else 'Ok(None)') + ['    }', '']
+    contract = f'Reads (λ x. {steps_name(s)} x.items depth) self.now.tokens.now at.old (wants depth symbols.{s}) at.new result'
+    lines += read_head(s, snake(s), f'Vec<Syn{s}Item>', contract)
+    lines += ['        let mut items = Vec::new(self.alloc);', f'        while let Some(item) = self.{snake(s)}_item(at, depth)? {{',
+              '            items.push(item)?;', '        }', '        Ok(items)', '    }']
+    return lines
+
+
+def write_readers():
+    for topic, about, _ in TOPICS:
+        lines, names = ['', "impl Reader<'_> {"], []
+        for s in symbols_of(topic):
+            lines += (read_list(s) if is_list(s) else read_symbol(s)) + ['']
+            names.append(f'Syn{s}Item' if is_list(s) else f'Syn{s}')
+        lines[-1] = '}'
+        words = [n for s in symbols_of(topic) for n in ([item_name(s), steps_name(s)] if is_list(s) else [steps_name(s)])]
+        head = ['ghost use Rattle.std.specs.Prelude.{◌+◌, ◌≤◌, [], ◌∷◌, length};',
+                'ghost use Rattle.bg_syntax.specs.declared.symbol.Symbol.TheVariants as symbols;',
+                'ghost use Rattle.bg_syntax.specs.Steps.{opens};',
+                f'ghost use Rattle.bg_syntax.specs.{topic.capitalize()}Steps.{{{", ".join(words)}}};',
+                'ghost use Rattle.bg_syntax.specs.Reading.{wants, Reads, ReadsItem};', '',
+                'use crate::fault::SyntaxFault;', 'use crate::reader::Reader;', 'use crate::symbol::Symbol;',
+                f'use crate::tree::{topic}::{{{", ".join(sorted(names))}}};', 'use bg_text::TokenKind;']
+        rust(f'src/read/{topic}.rt', f'Reading. {about}', '\n'.join(head + lines))
+
+
+def write():
+    write_symbols()
+    write_table()
+    write_types()
+    write_numbers()
+    write_grammar()
+    write_plan()
+    write_steps()
+    write_readers()
