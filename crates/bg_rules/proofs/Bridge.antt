@@ -31,39 +31,18 @@ use Rattle.bg_base.proofs.LookUps.{node_cmp_total}
 use Rattle.bg_base.proofs.Composed.{SupportsApart-from_members, nodes_apart, edges_apart, Mem-compose_upper, Mem-compose_lower, Mem-compose_cases, Mem-compose_edge_upper, Mem-compose_edge_lower, Mem-compose_edge_cases, compose_nodes_ascend, compose_edges_ascend, compose_sites, compose_inner, compose_regions, compose_outer}
 use Rattle.bg_algebra.specs.Frame.{is_plain, is_port, framed}
 use Rattle.bg_algebra.specs.Laws.{Apart}
-use Rattle.bg_algebra.proofs.Framed.{framed_same}
 use Rattle.bg_algebra.proofs.Renamed.{renamed_numbers, renamed_distinct}
 use Rattle.bg_algebra.proofs.Through.{link_same}
 use Rattle.bg_algebra.proofs.ProductLaws.{InnerApart-from_members, OuterApart-from_members}
 use Rattle.bg_algebra.proofs.CompositionLaws.{same_parts, same_nodes, same_edges}
 use Rattle.bg_rules.specs.Decomposition.{port_names, names_of, IsParameter, frame, AreNew, Decomposes}
 use Rattle.bg_rules.specs.LocalConditions.{image_of}
+use Rattle.bg_rules.proofs.Frames.{IsSide, frame_is, frame_regions, frame_outer, frame_sites, frame_inner, frame_width, frame_names, frame_number, frame_edge, frame_apart}
 use Rattle.bg_rules.proofs.Glued.{place_filled, lifted, pattern_row, parameter_row, Glued}
-
--- the names of ports are names of ports
-ports_of : (node count : ℕ) (name : Name) → Mem name (port_names node count) → is_port name ≡ true
-ports_of node count name m = let w = Mem-unmap (λ index. Port node index) (counted 0 count) m in subst (λ y. is_port y ≡ true) w.2 refl
-
-pub names_are_ports : (rows : List NodeRow) (name : Name) → Mem name (names_of rows) → is_port name ≡ true
-names_are_ports [] name m = elim m [ ]
-names_are_ports (row ∷ rows) name m =
-    elim (Mem-append_cases (port_names row.id (length row.links)) (names_of rows) m)
-    [ inl one ↦ ports_of row.id (length row.links) name one | inr more ↦ names_are_ports rows name more ]
-
-plain_no_port : (x : Name) → is_plain x ≡ true → is_port x ≡ true → ⊥
-plain_no_port (Plain word) p q = cc
-plain_no_port (Port node index) p q = cc
-plain_no_port (Opened edge) p q = cc
 
 identity_inner : (names : List Name) → map row_to_itself names ≡ (identity 0 names).inner
 unfolding identity
 identity_inner names = refl
-
--- a side of a rule: valid, without inner names, with plain outer names
-pub record IsSide (big : Big) : Type 0 where
-  pub valid : IsValid big
-  pub no_inner : big.inner ≡ []
-  pub names_plain : All (λ (name : Name). IsTrue (is_plain name)) big.outer
 
 module _ (pattern : Big) (nodes edges : List ℕ) (parameter : Big) (side : IsSide pattern) (is_parameter : IsParameter parameter)
     (nodes_new : AreNew nodes (length pattern.nodes)) (edges_new : AreNew edges (length pattern.edges)) where
@@ -77,76 +56,52 @@ module _ (pattern : Big) (nodes edges : List ℕ) (parameter : Big) (side : IsSi
   abbrev explicit : Big
   explicit = framed pattern nodes edges parameter.outer
 
-  ports : All (λ name. IsTrue (is_port name)) parameter.outer
-  ports =
-      All-from_members (λ name. IsTrue (is_port name)) parameter.outer
-      (λ name m. names_are_ports parameter.nodes name (subst (λ ns. Mem name ns) is_parameter.names m))
+  same : frame pattern nodes edges parameter.outer ≡ framed pattern nodes edges parameter.outer
+  same = frame_is pattern nodes edges parameter side is_parameter nodes_new edges_new
 
-  pub frame_is : frame pattern nodes edges parameter.outer ≡ framed pattern nodes edges parameter.outer
-  frame_is =
-      framed_same pattern nodes edges parameter.outer side.valid side.no_inner side.names_plain nodes_new.as_many edges_new.as_many
-      nodes_new.differ edges_new.differ is_parameter.ground.valid.outer_ascends ports
-
-  -- ---- what the parts of the frame are
-
-  frame_regions : made.regions ≡ pattern.regions
-  frame_regions = ap (λ (b : Big). b.regions) frame_is
-
-  frame_outer : made.outer ≡ pattern.outer ++ names
-  frame_outer = ap (λ (b : Big). b.outer) frame_is
-
-  frame_sites : made.sites ≡ map (place_renamed pattern nodes) pattern.sites
-  frame_sites = ap (λ (b : Big). b.sites) frame_is
-
-  frame_inner : made.inner ≡ map row_to_itself names
-  frame_inner = ap (λ (b : Big). b.inner) frame_is
-
-  frame_names : inner_names made.inner ≡ names
-  frame_names = ap inner_names frame_inner ∙ map-map row_to_itself (λ (row : InnerRow). row.name) names ∙ map-id names
+  inner_is : made.inner ≡ map row_to_itself names
+  inner_is = frame_inner pattern nodes edges parameter side is_parameter nodes_new edges_new
 
   -- a row of the pattern is in the frame, renumbered, and no other is
   Mem-frame : {row : NodeRow} → Mem row pattern.nodes → Mem (row_renamed pattern nodes edges row) made.nodes
   Mem-frame {row} m =
-      subst (λ (b : Big). Mem (row_renamed pattern nodes edges row) b.nodes) (sym frame_is)
+      subst (λ (b : Big). Mem (row_renamed pattern nodes edges row) b.nodes) (sym same)
       (Mem-sort (before node_cmp) (map (row_renamed pattern nodes edges) pattern.nodes) (Mem-map (row_renamed pattern nodes edges) m))
 
   Mem-frame_cases : {row : NodeRow} → Mem row made.nodes → (below : NodeRow) × Mem below pattern.nodes × (row_renamed pattern nodes edges below ≡ row)
   Mem-frame_cases {row} m =
       Mem-unmap (row_renamed pattern nodes edges) pattern.nodes
-      (Mem-unsort (before node_cmp) (map (row_renamed pattern nodes edges) pattern.nodes) (subst (λ (b : Big). Mem row b.nodes) frame_is m))
+      (Mem-unsort (before node_cmp) (map (row_renamed pattern nodes edges) pattern.nodes) (subst (λ (b : Big). Mem row b.nodes) same m))
 
   Mem-frame_edge : {edge : ℕ} → Mem edge edges → Mem edge made.edges
-  Mem-frame_edge {edge} m = subst (λ (b : Big). Mem edge b.edges) (sym frame_is) (Mem-sort (before nat_cmp) edges m)
+  Mem-frame_edge {edge} m = subst (λ (b : Big). Mem edge b.edges) (sym same) (Mem-sort (before nat_cmp) edges m)
 
   Mem-unframe_edge : {edge : ℕ} → Mem edge made.edges → Mem edge edges
-  Mem-unframe_edge {edge} m = Mem-unsort (before nat_cmp) edges (subst (λ (b : Big). Mem edge b.edges) frame_is m)
+  Mem-unframe_edge m = frame_edge pattern nodes edges parameter side is_parameter nodes_new edges_new m
 
   -- a number of the list is that of a row of the frame
   frame_onto : {node : ℕ} → Mem node nodes → (row : NodeRow) × Mem row made.nodes × (row.id ≡ node)
   frame_onto {node} m =
-      let same = renamed_numbers pattern nodes edges side.valid nodes_new.as_many edges_new.as_many in
-      let w = Mem-unmap (λ (row : NodeRow). row.id) (map (row_renamed pattern nodes edges) pattern.nodes) (subst (λ ns. Mem node ns) (sym same) m) in
-      (w.0, subst (λ (b : Big). Mem w.0 b.nodes) (sym frame_is) (Mem-sort (before node_cmp) (map (row_renamed pattern nodes edges) pattern.nodes) w.1), w.2)
+      let numbers = renamed_numbers pattern nodes edges side.valid nodes_new.as_many edges_new.as_many in
+      let w = Mem-unmap (λ (row : NodeRow). row.id) (map (row_renamed pattern nodes edges) pattern.nodes) (subst (λ ns. Mem node ns) (sym numbers) m) in
+      (w.0, subst (λ (b : Big). Mem w.0 b.nodes) (sym same) (Mem-sort (before node_cmp) (map (row_renamed pattern nodes edges) pattern.nodes) w.1), w.2)
 
-  frame_number : {row : NodeRow} → Mem row made.nodes → Mem row.id nodes
-  frame_number {row} m =
-      let same = renamed_numbers pattern nodes edges side.valid nodes_new.as_many edges_new.as_many in
-      let k = Mem-unsort (before node_cmp) (map (row_renamed pattern nodes edges) pattern.nodes) (subst (λ (b : Big). Mem row b.nodes) frame_is m) in
-      subst (λ ns. Mem row.id ns) same (Mem-map (λ (r : NodeRow). r.id) k)
+  number_of : {row : NodeRow} → Mem row made.nodes → Mem row.id nodes
+  number_of m = frame_number pattern nodes edges parameter side is_parameter nodes_new edges_new m
 
   -- ---- through the frame
 
   place_in_frame : (place : Place) → place_through made place ≡ place_filled pattern nodes place
   place_in_frame (Node node) = refl
   place_in_frame (Region region) =
-      ap (λ ps. get_or ps region (Region region)) frame_sites ∙ get_or-map (place_renamed pattern nodes) pattern.sites region (Region region)
+      ap (λ ps. get_or ps region (Region region)) (frame_sites pattern nodes edges parameter side is_parameter nodes_new edges_new) ∙ get_or-map (place_renamed pattern nodes) pattern.sites region (Region region)
 
   link_from_inner : (a b : Big) → a.inner ≡ b.inner → (link : Link) → link_through a link ≡ link_through b link
   link_from_inner a b e (Edge edge) = refl
   link_from_inner a b e (Outer name) = ap (λ rows. link_through (record b { inner = rows }) (Outer name)) e
 
   link_in_frame : (link : Link) → link_through made link ≡ link
-  link_in_frame link = link_from_inner made (identity 0 names) (frame_inner ∙ identity_inner names) link ∙ link_same 0 names link
+  link_in_frame link = link_from_inner made (identity 0 names) (inner_is ∙ identity_inner names) link ∙ link_same 0 names link
 
   -- a row of the pattern and a row of the parameter, in the host
   pattern_row_is : (context : Big) (row : NodeRow) → row_through context (row_renamed pattern nodes edges row) ≡ pattern_row pattern nodes context edges row
@@ -171,10 +126,10 @@ module _ (pattern : Big) (nodes edges : List ℕ) (parameter : Big) (side : IsSi
   inside = compose made parameter
 
   inside_regions : inside.regions ≡ pattern.regions
-  inside_regions = compose_regions made parameter ∙ frame_regions
+  inside_regions = compose_regions made parameter ∙ frame_regions pattern nodes edges parameter side is_parameter nodes_new edges_new
 
   inside_outer : inside.outer ≡ pattern.outer ++ names
-  inside_outer = compose_outer made parameter ∙ frame_outer
+  inside_outer = compose_outer made parameter ∙ frame_outer pattern nodes edges parameter side is_parameter nodes_new edges_new
 
   module _ (host context : Big) where
     -- ---- a decomposition says it of the rows
@@ -202,7 +157,7 @@ module _ (pattern : Big) (nodes edges : List ℕ) (parameter : Big) (side : IsSi
             is_parameter = d.is_parameter;
             nodes_new = d.nodes_new;
             edges_new = d.edges_new;
-            parameter_width = d.filled.widths ∙ ap length frame_sites ∙ length-map pattern.sites (place_renamed pattern nodes);
+            parameter_width = d.filled.widths ∙ frame_width pattern nodes edges parameter side is_parameter nodes_new edges_new;
             pattern_width = sym inside_regions ∙ d.placed.widths;
             names = sym d.placed.names ∙ inside_outer;
             regions = sym (compose_regions context inside) ∙ ap (λ (b : Big). b.regions) d.whole;
@@ -249,23 +204,11 @@ module _ (pattern : Big) (nodes edges : List ℕ) (parameter : Big) (side : IsSi
     -- ---- and the other way round
 
     module _ (ground : IsGround host) (g : Glued host pattern nodes context edges parameter) where
-      tensored : Apart (rename pattern nodes edges) (identity 0 names)
-      unfolding identity rename
-      tensored =
-          record {
-            supports = SupportsApart-from_members (rename pattern nodes edges) (identity 0 names) (λ row other m n e. elim n [ ]) (record { apart = λ x m n. elim n [ ] });
-            inner = InnerApart-from_members (rename pattern nodes edges) (identity 0 names)
-                (λ row other m n e. let k = subst (λ rows. Mem row (map (inner_renamed pattern edges) rows)) side.no_inner m in elim k [ ]);
-            outer = OuterApart-from_members (rename pattern nodes edges) (identity 0 names)
-                (λ name m n. plain_no_port name (All-member (λ (y : Name). IsTrue (is_plain y)) pattern.outer side.names_plain m)
-                (All-member (λ (y : Name). IsTrue (is_port y)) parameter.outer ports n));
-          }
-
       filled_faces : FacesAgree made parameter
       filled_faces =
           record {
-            widths = g.parameter_width ∙ sym (ap length frame_sites ∙ length-map pattern.sites (place_renamed pattern nodes));
-            names = sym frame_names;
+            widths = g.parameter_width ∙ sym (frame_width pattern nodes edges parameter side is_parameter nodes_new edges_new);
+            names = sym (frame_names pattern nodes edges parameter side is_parameter nodes_new edges_new);
           }
 
       number_in : (rows : List NodeRow) {row : NodeRow} → Mem row rows → Mem row.id (node_numbers rows)
@@ -274,7 +217,7 @@ module _ (pattern : Big) (nodes edges : List ℕ) (parameter : Big) (side : IsSi
       filled_supports : SupportsApart made parameter
       filled_supports =
           SupportsApart-from_members made parameter
-          (λ row other m n e. g.pattern_parameter.apart other.id (subst (λ x. Mem x nodes) e (frame_number m)) (number_in parameter.nodes n))
+          (λ row other m n e. g.pattern_parameter.apart other.id (subst (λ x. Mem x nodes) e (number_of m)) (number_in parameter.nodes n))
           (record { apart = λ x m n. let k = subst (λ es. Mem x es) is_parameter.no_edges n in elim k [ ] })
 
       placed_faces : FacesAgree context inside
@@ -284,7 +227,7 @@ module _ (pattern : Big) (nodes edges : List ℕ) (parameter : Big) (side : IsSi
       placed_supports =
           SupportsApart-from_members context inside
           (λ row other m n e. elim (Mem-compose_cases made parameter n) [
-            | inl two ↦ g.pattern_context.apart other.id (frame_number two) (subst (λ x. Mem x (node_numbers context.nodes)) e (number_in context.nodes m))
+            | inl two ↦ g.pattern_context.apart other.id (number_of two) (subst (λ x. Mem x (node_numbers context.nodes)) e (number_in context.nodes m))
             | inr w ↦ (let same : row.id ≡ w.0.id = e ∙ sym (ap (λ (r : NodeRow). r.id) w.2) in
                 g.parameter_context.apart w.0.id (number_in parameter.nodes w.1) (subst (λ x. Mem x (node_numbers context.nodes)) same (number_in context.nodes m)))
           ])
@@ -297,14 +240,14 @@ module _ (pattern : Big) (nodes edges : List ℕ) (parameter : Big) (side : IsSi
 
       made_up : IsStrictlySortedBy node_cmp made.nodes
       made_up =
-          subst (λ (b : Big). IsStrictlySortedBy node_cmp b.nodes) (sym frame_is)
+          subst (λ (b : Big). IsStrictlySortedBy node_cmp b.nodes) (sym same)
           (sorted_from_Ascending (sort (before node_cmp) (map (row_renamed pattern nodes edges) pattern.nodes))
           (Ascending-sort node_cmp_total (map (row_renamed pattern nodes edges) pattern.nodes)
           (renamed_distinct pattern nodes edges side.valid nodes_new.as_many edges_new.as_many nodes_new.differ edges_new.differ)))
 
       made_edges_up : IsStrictlySortedBy nat_cmp made.edges
       made_edges_up =
-          subst (λ (b : Big). IsStrictlySortedBy nat_cmp b.edges) (sym frame_is)
+          subst (λ (b : Big). IsStrictlySortedBy nat_cmp b.edges) (sym same)
           (sorted_from_Ascending (sort (before nat_cmp) edges) (Ascending-sort nat_cmp_total edges edges_new.differ))
 
       inside_up : IsStrictlySortedBy node_cmp inside.nodes
@@ -352,7 +295,7 @@ module _ (pattern : Big) (nodes edges : List ℕ) (parameter : Big) (side : IsSi
             is_parameter = g.is_parameter;
             nodes_new = g.nodes_new;
             edges_new = g.edges_new;
-            apart = tensored;
+            apart = frame_apart pattern nodes edges parameter side is_parameter nodes_new edges_new;
             filled = filled_faces;
             filled_apart = filled_supports;
             placed = placed_faces;

@@ -22,11 +22,10 @@ use Rattle.bg_rules.specs.Instantiation.{next_after}
 use Rattle.bg_rules.specs.Reaction.{Numbered, IsNumbered, AreSides, recomposed, Reacts}
 use Rattle.bg_rules.specs.Recomposition.{next_frame, next_instance, IsRecomposable}
 use Rattle.bg_rules.proofs.Glued.{Glued}
-use Rattle.bg_rules.proofs.Bridge.{IsSide}
 use Rattle.bg_rules.proofs.Patterns.{number_row, number_mem}
 use Rattle.bg_rules.proofs.Occurrences.{glued_of, one_decomposition}
 use Rattle.bg_rules.proofs.Instances.{instance_edges, instance_sites, instance_inner, instance_regions, instance_outer, instance_valid, instance_below, instance_numbers}
-use Rattle.bg_rules.proofs.Frames.{counted_new, frame_regions, frame_outer, frame_width, frame_names, frame_number, frame_edge, frame_apart, frame_valid}
+use Rattle.bg_rules.proofs.Frames.{IsSide, counted_new, frame_regions, frame_outer, frame_width, frame_names, frame_number, frame_edge, frame_apart, frame_valid}
 
 lean_sites : (big : Big) → (lean big).sites ≡ big.sites
 unfolding lean
