@@ -28,7 +28,8 @@ use Rattle.bg_rules.specs.Decomposition.{port_names, names_of, AreNew}
 use Rattle.bg_rules.specs.LocalConditions.{image_of, IsImage, IsEdgeImage, MeetsLocally}
 use Rattle.bg_rules.proofs.Glued.{place_filled, lifted, pattern_row, parameter_row, Glued}
 use Rattle.bg_rules.proofs.Patterns.{same_node_row, parent_region, link_there, edge_there, name_there, full_region, used_name, plain_name, number_row, along_at_place, edge_onto, image_row_mem}
-use Rattle.bg_rules.proofs.Upwards.{is_among, is_among-none, among_cases, not_among, member_from_is_among, IsMet, not_IsMet-region, IsMet-here, meets_some, IsMet-from_meets_some, meets_some-IsMet}
+use Rattle.bg_rules.specs.Instantiation.{is_among}
+use Rattle.bg_rules.proofs.Upwards.{is_among-none, among_cases, not_among, member_from_is_among, IsMet, not_IsMet-region, IsMet-here, meets_some, IsMet-from_meets_some, meets_some-IsMet}
 use Rattle.bg_rules.proofs.PortNames.{length-port_names, At-port_names, port_from_name, plain_not_port}
 use Rattle.bg_rules.proofs.Choices.{Choice, choose, chosen_for, position, At-position}
 use Rattle.bg_rules.proofs.Images.{pattern_edges_differ, same_below, image_control, image_links, image_port, below_image}
@@ -170,14 +171,14 @@ module _ (host pattern : Big) (nodes : List ℕ) (is : IsPattern pattern) (host_
       elim m [
         | inl image ↦ (let w = edge_onto pattern is.valid edges (fit_edges_new host pattern nodes is host_valid local edges sites inner fits) image in
             Mem-same w.2 (edge_image_there host pattern nodes is host_valid local edges sites inner fits w.1))
-        | inr left ↦ (Mem-unfilter (λ (other : ℕ). not (is_among edges other)) host.edges left).0
+        | inr left ↦ (Mem-unfilter (λ (other : ℕ). not (is_among other edges)) host.edges left).0
       ]
 
   edge_cases : (edge : ℕ) → Mem edge host.edges → Mem edge edges ⊎ Mem edge (edges_left host.edges edges)
   edge_cases edge m =
       elim (among_cases edges edge) [
         | inl image ↦ inl image
-        | inr none ↦ inr (Mem-filter (λ (other : ℕ). not (is_among edges other)) host.edges m (not_from_false (is_among edges edge) (is_among-none edges edge none)))
+        | inr none ↦ inr (Mem-filter (λ (other : ℕ). not (is_among other edges)) host.edges m (not_from_false (is_among edge edges) (is_among-none edges edge none)))
       ]
 
   -- what fits the host makes it up
@@ -213,7 +214,7 @@ module _ (host pattern : Big) (nodes : List ℕ) (is : IsPattern pattern) (host_
               (subst (λ k. IsMet host.nodes nodes (Node k)) (ap (λ (r : NodeRow). r.id) v.2 ∙ w.2 ∙ sym u.2) v.1.met);
         };
         edges_apart = record {
-          apart = λ x m n. not_among edges (not-true (is_among edges x) (Mem-unfilter (λ (other : ℕ). not (is_among edges other)) host.edges n).1) m;
+          apart = λ x m n. not_among edges (not-true (is_among x edges) (Mem-unfilter (λ (other : ℕ). not (is_among other edges)) host.edges n).1) m;
         };
         of_context = λ row m. (outside_from_Mem host nodes host_valid m).0;
         of_pattern = λ row m. let w = local.images row m in Mem-same (sym (pattern_row_image w.1)) w.1.of_host;

@@ -33,7 +33,8 @@ use Rattle.bg_rules.specs.Solid.{IsPattern}
 use Rattle.bg_rules.specs.Decomposition.{names_of, AreNew}
 use Rattle.bg_rules.specs.LocalConditions.{IsImage, IsEdgeImage, MeetsLocally}
 use Rattle.bg_rules.proofs.Patterns.{parent_there, link_there, edge_onto, used_edge, plain_name, image_row_mem}
-use Rattle.bg_rules.proofs.Upwards.{is_among, is_among-none, is_among-member, member_from_is_among, not_among, IsMet, IsMet-here, IsMet-above, meets_some, IsMet-from_meets_some, meets_some-IsMet}
+use Rattle.bg_rules.specs.Instantiation.{is_among}
+use Rattle.bg_rules.proofs.Upwards.{is_among-none, is_among-member, member_from_is_among, not_among, IsMet, IsMet-here, IsMet-above, meets_some, IsMet-from_meets_some, meets_some-IsMet}
 use Rattle.bg_rules.proofs.PortNames.{names_of_ascend, plain_before_ports}
 use Rattle.bg_rules.proofs.Images.{pattern_edges_differ, same_below, image_port}
 use Rattle.bg_rules.proofs.Parameters.{IsInside, place_of_climb, parameter_rows, parameter_of, parameter_made}
@@ -48,7 +49,7 @@ context_rows host nodes = filter (is_outside host nodes) host.nodes
 
 -- the edges that are none of these
 abbrev pub edges_left : List ℕ → List ℕ → List ℕ
-edges_left edges numbers = filter (λ (edge : ℕ). not (is_among numbers edge)) edges
+edges_left edges numbers = filter (λ (edge : ℕ). not (is_among edge numbers)) edges
 
 -- the context with these images of edges, these sites and these inner rows
 abbrev pub context_of : Big → List ℕ → List ℕ → List Place → List InnerRow → Big
@@ -163,8 +164,8 @@ module _ (host pattern : Big) (nodes : List ℕ) (is : IsPattern pattern) (host_
       → has_link (context_of host nodes edges sites inner) link ≡ true
   link_left (Edge edge) has none =
       has_edge (edges_left host.edges edges)
-      (Mem-filter (λ (other : ℕ). not (is_among edges other)) host.edges (member_from_has_edge host.edges edge has)
-      (not_from_false (is_among edges edge)
+      (Mem-filter (λ (other : ℕ). not (is_among other edges)) host.edges (member_from_has_edge host.edges edge has)
+      (not_from_false (is_among edge edges)
       (is_among-none edges edge (λ m. let w = edge_onto pattern is.valid edges fit_edges_new m in none w.0 w.1 (ap Edge (sym w.2))))))
   link_left (Outer name) has none = has
 
@@ -226,6 +227,6 @@ module _ (host pattern : Big) (nodes : List ℕ) (is : IsPattern pattern) (host_
   context_valid =
       valid_from_rows (context_of host nodes edges sites inner) (context_up host nodes host_valid)
       (sorted_from_Ascending (edges_left host.edges edges)
-      (Ascending-filter (λ (edge : ℕ). not (is_among edges edge)) host.edges (Ascending-from_sorted host.edges host_valid.edges_ascend)))
+      (Ascending-filter (λ (edge : ℕ). not (is_among edge edges)) host.edges (Ascending-from_sorted host.edges host_valid.edges_ascend)))
       fit_inner_up host_valid.outer_ascends outside_sound site_outside
       (λ row m. carried_link (fits.carries row m))

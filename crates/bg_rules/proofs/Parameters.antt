@@ -27,7 +27,8 @@ use Rattle.bg_rules.specs.Solid.{IsPattern}
 use Rattle.bg_rules.specs.Decomposition.{port_names, names_of, IsParameter}
 use Rattle.bg_rules.specs.LocalConditions.{image_of, IsImage, MeetsLocally}
 use Rattle.bg_rules.proofs.Patterns.{number_mem, image_row, parent_there}
-use Rattle.bg_rules.proofs.Upwards.{is_among, is_among-none, among_cases, not_among, is_among-member, IsMet, not_IsMet-region, IsMet-parent, meets_some, IsMet-from_meets_some, meets_some-IsMet}
+use Rattle.bg_rules.specs.Instantiation.{is_among}
+use Rattle.bg_rules.proofs.Upwards.{is_among-none, among_cases, not_among, is_among-member, IsMet, not_IsMet-region, IsMet-parent, meets_some, IsMet-from_meets_some, meets_some-IsMet}
 use Rattle.bg_rules.proofs.PortNames.{length-port_names, port_of_name, Mem-names_of, names_of_ascend}
 use Rattle.bg_rules.proofs.Choices.{position, At-position}
 
@@ -40,7 +41,7 @@ pub record IsInside (host : Big) (nodes : List ℕ) (row : NodeRow) : Type 0 whe
   pub met : IsMet host.nodes nodes (Node row.id)
 
 abbrev pub is_inside : Big → List ℕ → NodeRow → Bool
-is_inside host nodes row = not (is_among nodes row.id) && meets_some host nodes (Node row.id)
+is_inside host nodes row = not (is_among row.id nodes) && meets_some host nodes (Node row.id)
 
 -- the places of the sites of the pattern, in the host
 abbrev pub sites_in : Big → List ℕ → List Place
@@ -48,7 +49,7 @@ sites_in pattern nodes = map (place_renamed pattern nodes) pattern.sites
 
 -- an image is cut: in its place is the region of the site that lies in it
 abbrev pub cut_place : Big → List ℕ → Place → Place
-cut_place pattern nodes (Node node) = if is_among nodes node then Region (position (sites_in pattern nodes) (Node node)) else Node node
+cut_place pattern nodes (Node node) = if is_among node nodes then Region (position (sites_in pattern nodes) (Node node)) else Node node
 cut_place pattern nodes (Region region) = Region region
 
 abbrev pub cut_row : Big → List ℕ → NodeRow → NodeRow
@@ -83,10 +84,10 @@ place_of_climb big (at_node {node = node} is row_is climb) =
 
 module _ (pattern : Big) (nodes : List ℕ) where
   pub cut_image : {node : ℕ} → Mem node nodes → cut_place pattern nodes (Node node) ≡ Region (position (sites_in pattern nodes) (Node node))
-  cut_image {node} m = cond-true (is_among nodes node) _ _ (is_among-member nodes m)
+  cut_image {node} m = cond-true (is_among node nodes) _ _ (is_among-member nodes m)
 
   pub cut_other : {node : ℕ} → (Mem node nodes → ⊥) → cut_place pattern nodes (Node node) ≡ Node node
-  cut_other {node} none = cond-false (is_among nodes node) _ _ (is_among-none nodes node none)
+  cut_other {node} none = cond-false (is_among node nodes) _ _ (is_among-none nodes node none)
 
   pub cut_length : (row : NodeRow) → length (cut_row pattern nodes row).links ≡ length row.links
   cut_length row = length-map (port_names row.id (length row.links)) Outer ∙ length-port_names row.id (length row.links)
@@ -99,8 +100,8 @@ module _ (host pattern : Big) (nodes : List ℕ) (host_valid : IsValid host) whe
   Mem-parameter {row} inside =
       Mem-map (cut_row pattern nodes)
       (Mem-filter (is_inside host nodes) host.nodes inside.of_host
-      (and_from (not (is_among nodes row.id)) (meets_some host nodes (Node row.id))
-      (not_from_false (is_among nodes row.id) (is_among-none nodes row.id inside.no_image))
+      (and_from (not (is_among row.id nodes)) (meets_some host nodes (Node row.id))
+      (not_from_false (is_among row.id nodes) (is_among-none nodes row.id inside.no_image))
       (meets_some-IsMet host nodes host_valid (has_row host.nodes inside.of_host refl) inside.met)))
 
   pub inside_from_Mem : {row : NodeRow} → Mem row (parameter_of host pattern nodes).nodes
@@ -108,11 +109,11 @@ module _ (host pattern : Big) (nodes : List ℕ) (host_valid : IsValid host) whe
   inside_from_Mem m =
       let w = Mem-unmap (cut_row pattern nodes) (filter (is_inside host nodes) host.nodes) m in
       let v = Mem-unfilter (is_inside host nodes) host.nodes w.1 in
-      let both = and_parts (not (is_among nodes w.0.id)) (meets_some host nodes (Node w.0.id)) v.1 in (
+      let both = and_parts (not (is_among w.0.id nodes)) (meets_some host nodes (Node w.0.id)) v.1 in (
         w.0,
         record {
           of_host = v.0;
-          no_image = not_among nodes (not-true (is_among nodes w.0.id) both.0);
+          no_image = not_among nodes (not-true (is_among w.0.id nodes) both.0);
           met = IsMet-from_meets_some host nodes (Node w.0.id) both.1;
         },
         w.2,
