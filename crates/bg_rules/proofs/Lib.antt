@@ -12,3 +12,5 @@ pub mod Parameters
 pub mod Contexts
 pub mod Construct
 pub mod Occurrences
+mod CaseTests
+mod CaseRows
