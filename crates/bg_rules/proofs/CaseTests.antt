@@ -1,6 +1,6 @@
 -- Tests that compute, for small cases: they tell that a bigraph is valid, that it is a pattern, and that a host is made of
 -- a context, a pattern and a parameter.
-use Rattle.std.proofs.Common.{◌≡◌, ℕ, zero, suc, ◌+◌, ◌≤◌, ◌<◌, Bool, true, false, not, cond, ◌&&◌, eqb, ltb, None, List, [], ◌∷◌, ◌++◌, map, length, All, refl, sym, ap, arith, nat_cmp, eqb-true, ltb-true, inl, inr}
+use Rattle.std.proofs.Common.{◌≡◌, ℕ, zero, suc, ◌+◌, ◌≤◌, ◌<◌, Bool, true, false, not, cond, ◌&&◌, eqb, ltb, None, List, [], ◌∷◌, ◌++◌, map, length, All, refl, sym, ap, arith, nat_cmp, eqb-true, eq-eqb, ltb-true, inl, inr, ◌∙◌}
 use Rattle.std.specs.Option.{is_some}
 use Rattle.std.specs.Ordering.{eq_by_cmp}
 use Rattle.std.specs.List.{list_all, AllByRecursion, IsDistinct}
@@ -28,6 +28,9 @@ use Rattle.bg_place.specs.Places.{same_place}
 use Rattle.bg_algebra.specs.Laws.{Apart}
 use Rattle.bg_algebra.specs.Frame.{is_plain}
 use Rattle.bg_rules.specs.Solid.{has_child, is_node, IsPattern}
+use Rattle.bg_rules.specs.LocalConditions.{IsImage, MeetsLocally}
+use Rattle.bg_rules.proofs.Patterns.{image_row_mem}
+use Rattle.bg_rules.proofs.Occurrences.{occurs_locally}
 use Rattle.bg_rules.specs.Decomposition.{port_names, names_of, IsParameter, frame, AreNew, Decomposes, Occurs}
 
 -- ---- lists
@@ -233,3 +236,34 @@ module _ (signature : List Control) where
         decomposes = decomposes_by host pattern nodes context edges parameter (valid_by signature context context_fine)
             (parameter_by parameter parameter_fine bare discrete names) fits whole;
       }
+
+-- ---- where a pattern does not occur
+
+-- of values with a test passed by one and failed by the other, they are not equal
+pub unlike : {X : Type 0} (test : X → Bool) (a b : X) → test a ≡ true → test b ≡ false → a ≡ b → ⊥
+unlike test a b pass fail e = absurd (false≢true (sym fail ∙ sym (ap test e) ∙ pass))
+
+pub not_among : (n : ℕ) (ns : List ℕ) → list_all (λ m. not (eqb m n)) ns ≡ true → Mem n ns → ⊥
+not_among n [] all m = elim m [ ]
+not_among n (k ∷ ns) all (here e) =
+    let parts = and_parts (not (eqb k n)) (list_all (λ m. not (eqb m n)) ns) all in
+    false≢true (sym (not_true (eqb k n) parts.0) ∙ eq-eqb k n e)
+not_among n (k ∷ ns) all (there m) =
+    let parts = and_parts (not (eqb k n)) (list_all (λ m. not (eqb m n)) ns) all in not_among n ns parts.1 m
+
+pub the_only : {X : Type 0} (y x : X) → Mem x (y ∷ []) → y ≡ x
+the_only y x (here e) = e
+the_only y x (there m) = elim m [ ]
+
+module _ (signature : List Control) {host pattern : Big} {nodes : List ℕ} where
+  -- an occurrence meets the local conditions
+  pub locally_by : Occurs host pattern nodes → fault_of signature pattern ≡ None → is_like_a_pattern pattern ≡ true
+      → fault_of signature host ≡ None → is_without_inside host ≡ true → MeetsLocally host pattern nodes
+  locally_by occurs pattern_fine like host_fine bare =
+      occurs_locally host pattern (pattern_by signature pattern pattern_fine like) (ground_by signature host host_fine bare) nodes occurs
+
+  -- a row of the host is no image where its number is none of the nodes
+  pub no_image : {row image : NodeRow} → IsImage host pattern nodes row image → fault_of signature pattern ≡ None
+      → AreNew nodes (length pattern.nodes) → list_all (λ m. not (eqb m image.id)) nodes ≡ true → ⊥
+  no_image {image = image} is pattern_fine new none =
+      not_among image.id nodes none (image_row_mem pattern (valid_by signature pattern pattern_fine) nodes new host is)

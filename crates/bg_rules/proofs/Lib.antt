@@ -14,3 +14,5 @@ pub mod Construct
 pub mod Occurrences
 mod CaseTests
 mod CaseRows
+mod CasesThatOccur
+mod CasesThatDoNot
