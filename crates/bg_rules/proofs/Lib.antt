@@ -16,3 +16,5 @@ mod CaseTests
 mod CaseRows
 mod CasesThatOccur
 mod CasesThatDoNot
+mod CasesOfValidity
+mod CasesOfReactions
