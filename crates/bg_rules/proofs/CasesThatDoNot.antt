@@ -17,11 +17,10 @@ use Rattle.bg_rules.specs.LocalConditions.{at_place, above}
 use Rattle.bg_rules.proofs.CaseTests.{unlike, not_among, the_only, locally_by, no_image}
 use Rattle.bg_rules.proofs.CaseRows.{three_controls, node_a, node_b, node_k, in_places, with_links, x, y, z, a_open, a_alone, b_in_a, a_beside_b, a_with_b, two_k_on_x, two_k_closed}
 
-
 -- ---- 1 the images: nodes of the host, with the controls of the pattern's nodes
 
 -- A.1 in B.1: another control
-another_control : Occurs (in_places (node_b 0 (Region 0) ∷ []) ([]) 1) a_alone (0 ∷ []) → ⊥
+another_control : Occurs (in_places (node_b 0 (Region 0) ∷ []) [] 1) a_alone (0 ∷ []) → ⊥
 unfolding along counted fault_of sites_fault inner_fault outer_fault edges_fault nodes_fault
 another_control occurs =
     let local = locally_by three_controls occurs refl refl refl refl in
@@ -29,7 +28,7 @@ another_control occurs =
     unlike (eqb 1) 1 0 refl refl (ap (λ (row : NodeRow). row.control) (the_only (node_b 0 (Region 0)) w.0 w.1.of_host) ∙ w.2)
 
 -- A.1 in A.1 at node 7, which is not there
-node_not_there : Occurs (in_places (node_a 0 (Region 0) ∷ []) ([]) 1) a_alone (7 ∷ []) → ⊥
+node_not_there : Occurs (in_places (node_a 0 (Region 0) ∷ []) [] 1) a_alone (7 ∷ []) → ⊥
 unfolding along counted fault_of sites_fault inner_fault outer_fault edges_fault nodes_fault
 node_not_there occurs =
     let local = locally_by three_controls occurs refl refl refl refl in
@@ -37,14 +36,14 @@ node_not_there occurs =
     unlike (eqb 0) 0 7 refl refl (ap (λ (row : NodeRow). row.id) (the_only (node_a 0 (Region 0)) w.0 w.1.of_host) ∙ w.1.same)
 
 -- A.1 | B.1 in A.1 | B.1 at node 0 alone: not as many nodes as the pattern has
-too_few_nodes : Occurs (in_places (node_a 0 (Region 0) ∷ node_b 1 (Region 0) ∷ []) ([]) 1) a_with_b (0 ∷ []) → ⊥
+too_few_nodes : Occurs (in_places (node_a 0 (Region 0) ∷ node_b 1 (Region 0) ∷ []) [] 1) a_with_b (0 ∷ []) → ⊥
 unfolding along counted fault_of sites_fault inner_fault outer_fault edges_fault nodes_fault
 too_few_nodes occurs =
     let local = locally_by three_controls occurs refl refl refl refl in
     unlike (eqb 2) 2 1 refl refl local.nodes_new.as_many
 
 -- A.1 | A.1 in A.1 at node 0 twice
-one_node_twice : Occurs (in_places (node_a 0 (Region 0) ∷ []) ([]) 1) (in_places (node_a 0 (Region 0) ∷ node_a 1 (Region 0) ∷ []) ([]) 1) (0 ∷ 0 ∷ []) → ⊥
+one_node_twice : Occurs (in_places (node_a 0 (Region 0) ∷ []) [] 1) (in_places (node_a 0 (Region 0) ∷ node_a 1 (Region 0) ∷ []) [] 1) (0 ∷ 0 ∷ []) → ⊥
 unfolding along counted fault_of sites_fault inner_fault outer_fault edges_fault nodes_fault IsDistinct
 one_node_twice occurs =
     let local = locally_by three_controls occurs refl refl refl refl in
@@ -53,7 +52,7 @@ one_node_twice occurs =
 -- ---- 2 a node in a node
 
 -- A.B.1 in A.1 | B.1: the B does not lie in the A
-not_nested : Occurs (in_places (node_a 0 (Region 0) ∷ node_b 1 (Region 0) ∷ []) ([]) 1) b_in_a (0 ∷ 1 ∷ []) → ⊥
+not_nested : Occurs (in_places (node_a 0 (Region 0) ∷ node_b 1 (Region 0) ∷ []) [] 1) b_in_a (0 ∷ 1 ∷ []) → ⊥
 unfolding along counted fault_of sites_fault inner_fault outer_fault edges_fault nodes_fault
 not_nested occurs =
     let local = locally_by three_controls occurs refl refl refl refl in
@@ -63,7 +62,7 @@ not_nested occurs =
 -- ---- 3 what else lies in an image
 
 -- A.1 in A.B.1: the A has a child, and the pattern no site for it. With the site it occurs (`child_in_the_parameter`)
-child_without_a_site : Occurs (in_places (node_a 0 (Region 0) ∷ node_b 1 (Node 0) ∷ []) ([]) 1) a_alone (0 ∷ []) → ⊥
+child_without_a_site : Occurs (in_places (node_a 0 (Region 0) ∷ node_b 1 (Node 0) ∷ []) [] 1) a_alone (0 ∷ []) → ⊥
 unfolding along counted fault_of sites_fault inner_fault outer_fault edges_fault nodes_fault
 child_without_a_site occurs =
     let local = locally_by three_controls occurs refl refl refl refl in
@@ -73,7 +72,7 @@ child_without_a_site occurs =
 -- ---- 4 the places of the pattern's regions
 
 -- A.1 | B.1 in A.1 || B.1: the nodes of one region lie in two places. As A.1 || B.1 they occur (`regions_in_two_places`)
-region_in_two_places : Occurs (in_places (node_a 0 (Region 0) ∷ node_b 1 (Region 1) ∷ []) ([]) 2) a_with_b (0 ∷ 1 ∷ []) → ⊥
+region_in_two_places : Occurs (in_places (node_a 0 (Region 0) ∷ node_b 1 (Region 1) ∷ []) [] 2) a_with_b (0 ∷ 1 ∷ []) → ⊥
 unfolding along counted fault_of sites_fault inner_fault outer_fault edges_fault nodes_fault
 region_in_two_places occurs =
     let local = locally_by three_controls occurs refl refl refl refl in
@@ -82,14 +81,14 @@ region_in_two_places occurs =
     (record { of_pattern = here refl; of_host = here refl; same = refl }) (record { of_pattern = there (here refl); of_host = there (here refl); same = refl }) refl refl)
 
 -- A.1 || B.1 in A.B.1: a region lies in an image of the pattern. The A may have its child B, which is an image
-region_in_an_image : Occurs (in_places (node_a 0 (Region 0) ∷ node_b 1 (Node 0) ∷ []) ([]) 1) a_beside_b (0 ∷ 1 ∷ []) → ⊥
+region_in_an_image : Occurs (in_places (node_a 0 (Region 0) ∷ node_b 1 (Node 0) ∷ []) [] 1) a_beside_b (0 ∷ 1 ∷ []) → ⊥
 unfolding along counted fault_of sites_fault inner_fault outer_fault edges_fault nodes_fault
 region_in_an_image occurs =
     let local = locally_by three_controls occurs refl refl refl refl in
     local.clear (node_b 1 (Region 1)) (node_b 1 (Node 0)) 1 0 (record { of_pattern = there (here refl); of_host = there (here refl); same = refl }) refl (here refl) (at_place refl)
 
 -- A.id || B.1 in A.A.B.1, at the outer A: an image lies further up
-region_deep_in_an_image : Occurs (in_places (node_a 0 (Region 0) ∷ node_a 1 (Node 0) ∷ node_b 2 (Node 1) ∷ []) ([]) 1) (in_places (node_a 0 (Region 0) ∷ node_b 1 (Region 1) ∷ []) (Node 0 ∷ []) 2) (0 ∷ 2 ∷ []) → ⊥
+region_deep_in_an_image : Occurs (in_places (node_a 0 (Region 0) ∷ node_a 1 (Node 0) ∷ node_b 2 (Node 1) ∷ []) [] 1) (in_places (node_a 0 (Region 0) ∷ node_b 1 (Region 1) ∷ []) (Node 0 ∷ []) 2) (0 ∷ 2 ∷ []) → ⊥
 unfolding along counted fault_of sites_fault inner_fault outer_fault edges_fault nodes_fault
 region_deep_in_an_image occurs =
     let local = locally_by three_controls occurs refl refl refl refl in
@@ -99,7 +98,7 @@ region_deep_in_an_image occurs =
 -- ---- 5 ports with one link
 
 -- K{x} | K{x} in K{y} | K{z}: the host ties the ports to two links. As K{x} | K{y} they would occur
-one_name_on_two_links : Occurs (with_links (node_k 0 (Region 0) (Outer y) ∷ node_k 1 (Region 0) (Outer z) ∷ []) ([]) (y ∷ z ∷ []) 1) two_k_on_x (0 ∷ 1 ∷ []) → ⊥
+one_name_on_two_links : Occurs (with_links (node_k 0 (Region 0) (Outer y) ∷ node_k 1 (Region 0) (Outer z) ∷ []) [] (y ∷ z ∷ []) 1) two_k_on_x (0 ∷ 1 ∷ []) → ⊥
 unfolding along counted fault_of sites_fault inner_fault outer_fault edges_fault nodes_fault
 one_name_on_two_links occurs =
     let local = locally_by three_controls occurs refl refl refl refl in
@@ -111,7 +110,7 @@ one_name_on_two_links occurs =
 -- ---- 6 closed links
 
 -- /x (K{x} | K{x}) in K{z} | K{z}: the host has an outer name there, which a context could tie further
-closed_link_on_an_outer_name : Occurs (with_links (node_k 0 (Region 0) (Outer z) ∷ node_k 1 (Region 0) (Outer z) ∷ []) ([]) (z ∷ []) 1) two_k_closed (0 ∷ 1 ∷ []) → ⊥
+closed_link_on_an_outer_name : Occurs (with_links (node_k 0 (Region 0) (Outer z) ∷ node_k 1 (Region 0) (Outer z) ∷ []) [] (z ∷ []) 1) two_k_closed (0 ∷ 1 ∷ []) → ⊥
 unfolding along counted fault_of sites_fault inner_fault outer_fault edges_fault nodes_fault
 closed_link_on_an_outer_name occurs =
     let local = locally_by three_controls occurs refl refl refl refl in
@@ -120,7 +119,7 @@ closed_link_on_an_outer_name occurs =
     (w.1.onto (node_k 0 (Region 0) (Edge 0)) (node_k 0 (Region 0) (Outer z)) 0 (Outer z) (record { of_pattern = here refl; of_host = here refl; same = refl }) (at_here refl) (at_here refl))
 
 -- /x (K{x} | K{x}) in /z (K{z} | K{z} | K{z}): the edge has a further point. With the pattern open they occur (`one_name_on_one_edge`)
-closed_link_with_a_further_point : Occurs (with_links (node_k 0 (Region 0) (Edge 4) ∷ node_k 1 (Region 0) (Edge 4) ∷ node_k 2 (Region 0) (Edge 4) ∷ []) (4 ∷ []) ([]) 1) two_k_closed (0 ∷ 1 ∷ []) → ⊥
+closed_link_with_a_further_point : Occurs (with_links (node_k 0 (Region 0) (Edge 4) ∷ node_k 1 (Region 0) (Edge 4) ∷ node_k 2 (Region 0) (Edge 4) ∷ []) (4 ∷ []) [] 1) two_k_closed (0 ∷ 1 ∷ []) → ⊥
 unfolding along counted fault_of sites_fault inner_fault outer_fault edges_fault nodes_fault
 closed_link_with_a_further_point occurs =
     let local = locally_by three_controls occurs refl refl refl refl in
@@ -130,7 +129,7 @@ closed_link_with_a_further_point occurs =
     no_image three_controls v.1 refl local.nodes_new refl
 
 -- /x K{x}.id in /z K{z}.K{z}.1, at node 0: the further point lies in the parameter
-closed_link_with_a_point_below : Occurs (with_links (node_k 0 (Region 0) (Edge 4) ∷ node_k 1 (Node 0) (Edge 4) ∷ []) (4 ∷ []) ([]) 1) (record (with_links (node_k 0 (Region 0) (Edge 0) ∷ []) (0 ∷ []) [] 1) { sites = Node 0 ∷ [] }) (0 ∷ []) → ⊥
+closed_link_with_a_point_below : Occurs (with_links (node_k 0 (Region 0) (Edge 4) ∷ node_k 1 (Node 0) (Edge 4) ∷ []) (4 ∷ []) [] 1) (record (with_links (node_k 0 (Region 0) (Edge 0) ∷ []) (0 ∷ []) [] 1) { sites = Node 0 ∷ [] }) (0 ∷ []) → ⊥
 unfolding along counted fault_of sites_fault inner_fault outer_fault edges_fault nodes_fault
 closed_link_with_a_point_below occurs =
     let local = locally_by three_controls occurs refl refl refl refl in
