@@ -17,4 +17,5 @@ mod CaseRows
 mod CasesThatOccur
 mod CasesThatDoNot
 mod CasesOfValidity
+mod CasesOfPatterns
 mod CasesOfReactions
