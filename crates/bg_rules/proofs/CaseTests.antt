@@ -142,7 +142,7 @@ pattern_by signature big none e =
 abbrev pub are_new : List ℕ → ℕ → Bool
 are_new numbers count = eqb count (length numbers) && differ (eq_by_cmp nat_cmp) numbers
 
-new-from_test : (numbers : List ℕ) (count : ℕ) → are_new numbers count ≡ true → AreNew numbers count
+pub new-from_test : (numbers : List ℕ) (count : ℕ) → are_new numbers count ≡ true → AreNew numbers count
 new-from_test numbers count e =
     let parts = and_parts (eqb count (length numbers)) (differ (eq_by_cmp nat_cmp) numbers) e in
     record { as_many = eqb-true count (length numbers) parts.0; differ = IsDistinct-from_differ (eq_by_cmp nat_cmp) numbers parts.1 }

@@ -14,6 +14,7 @@ pub mod Construct
 pub mod Occurrences
 mod CaseTests
 mod CaseRows
+mod CaseConditions
 mod CasesThatOccur
 mod CasesThatDoNot
 mod CasesOfValidity
