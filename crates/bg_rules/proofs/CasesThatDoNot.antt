@@ -1,5 +1,5 @@
--- Cases where a pattern does not occur: one of the local conditions fails, and the others hold.
-use Rattle.std.proofs.Common.{◌≡◌, ℕ, [], ◌∷◌, true, false, refl, sym, ap, ◌∙◌, inl, inr, eqb}
+-- Cases where a pattern does not occur since one of the local conditions fails: the others hold.
+use Rattle.std.proofs.Common.{◌≡◌, ℕ, List, [], ◌∷◌, true, false, refl, sym, ap, ◌∙◌, inl, inr, eqb}
 use Rattle.std.specs.List.{IsDistinct}
 use Rattle.std.proofs.lemmas.Bool.{false≢true}
 use Rattle.bg_lists.specs.Lists.{Mem, here, there, At, at_here, at_there}
@@ -7,6 +7,7 @@ use Rattle.bg_base.specs.declared.names.Place.TheVariants.{Node, Region}
 use Rattle.bg_base.specs.declared.names.Link.{Link}
 use Rattle.bg_base.specs.declared.names.Link.TheVariants.{Edge, Outer}
 use Rattle.bg_base.specs.declared.big.NodeRow.{NodeRow}
+use Rattle.bg_base.specs.declared.big.Big.{Big}
 use Rattle.bg_base.specs.Elementary.{counted}
 use Rattle.bg_base.specs.Faults.{fault_of, sites_fault, inner_fault, outer_fault, edges_fault, nodes_fault}
 use Rattle.bg_base.specs.Instance.{along}
@@ -14,126 +15,171 @@ use Rattle.bg_base.specs.Products.{same_link}
 use Rattle.bg_place.specs.Places.{same_place}
 use Rattle.bg_rules.specs.Decomposition.{Occurs}
 use Rattle.bg_rules.specs.LocalConditions.{at_place, above}
+use Rattle.bg_rules.proofs.CaseConditions.{Conditions, conditions, all_hold}
 use Rattle.bg_rules.proofs.CaseTests.{unlike, not_among, the_only, locally_by, no_image}
 use Rattle.bg_rules.proofs.CaseRows.{three_controls, node_a, node_b, node_k, in_places, with_links, x, y, z, a_open, a_alone, b_in_a, a_beside_b, a_with_b, two_k_on_x, two_k_closed}
+
+-- the pattern does not occur at these nodes of the host, and all these conditions hold
+record DoesNotOccur (host pattern : Big) (nodes : List ℕ) (hold : Conditions) : Type 0 where
+  never : Occurs host pattern nodes → ⊥
+  others : conditions host pattern nodes ≡ hold
 
 -- ---- 1 the images: nodes of the host, with the controls of the pattern's nodes
 
 -- A.1 in B.1: another control
-another_control : Occurs (in_places (node_b 0 (Region 0) ∷ []) [] 1) a_alone (0 ∷ []) → ⊥
+another_control : DoesNotOccur (in_places (node_b 0 (Region 0) ∷ []) [] 1) a_alone (0 ∷ []) (record all_hold { images = false })
 unfolding along counted fault_of sites_fault inner_fault outer_fault edges_fault nodes_fault
-another_control occurs =
-    let local = locally_by three_controls occurs refl refl refl refl in
-    let w = local.images (node_a 0 (Region 0)) (here refl) in
-    unlike (eqb 1) 1 0 refl refl (ap (λ (row : NodeRow). row.control) (the_only (node_b 0 (Region 0)) w.0 w.1.of_host) ∙ w.2)
+another_control =
+    record {
+      never = λ occurs. let local = locally_by three_controls occurs refl refl refl refl in
+        let w = local.images (node_a 0 (Region 0)) (here refl) in
+        unlike (eqb 1) 1 0 refl refl (ap (λ (row : NodeRow). row.control) (the_only (node_b 0 (Region 0)) w.0 w.1.of_host) ∙ w.2);
+      others = refl;
+    }
 
 -- A.1 in A.1 at node 7, which is not there
-node_not_there : Occurs (in_places (node_a 0 (Region 0) ∷ []) [] 1) a_alone (7 ∷ []) → ⊥
+node_not_there : DoesNotOccur (in_places (node_a 0 (Region 0) ∷ []) [] 1) a_alone (7 ∷ []) (record all_hold { images = false })
 unfolding along counted fault_of sites_fault inner_fault outer_fault edges_fault nodes_fault
-node_not_there occurs =
-    let local = locally_by three_controls occurs refl refl refl refl in
-    let w = local.images (node_a 0 (Region 0)) (here refl) in
-    unlike (eqb 0) 0 7 refl refl (ap (λ (row : NodeRow). row.id) (the_only (node_a 0 (Region 0)) w.0 w.1.of_host) ∙ w.1.same)
+node_not_there =
+    record {
+      never = λ occurs. let local = locally_by three_controls occurs refl refl refl refl in
+        let w = local.images (node_a 0 (Region 0)) (here refl) in
+        unlike (eqb 0) 0 7 refl refl (ap (λ (row : NodeRow). row.id) (the_only (node_a 0 (Region 0)) w.0 w.1.of_host) ∙ w.1.same);
+      others = refl;
+    }
 
 -- A.1 | B.1 in A.1 | B.1 at node 0 alone: not as many nodes as the pattern has
-too_few_nodes : Occurs (in_places (node_a 0 (Region 0) ∷ node_b 1 (Region 0) ∷ []) [] 1) a_with_b (0 ∷ []) → ⊥
+too_few_nodes : DoesNotOccur (in_places (node_a 0 (Region 0) ∷ node_b 1 (Region 0) ∷ []) [] 1) a_with_b (0 ∷ []) (record all_hold { nodes_new = false })
 unfolding along counted fault_of sites_fault inner_fault outer_fault edges_fault nodes_fault
-too_few_nodes occurs =
-    let local = locally_by three_controls occurs refl refl refl refl in
-    unlike (eqb 2) 2 1 refl refl local.nodes_new.as_many
+too_few_nodes =
+    record {
+      never = λ occurs. let local = locally_by three_controls occurs refl refl refl refl in
+        unlike (eqb 2) 2 1 refl refl local.nodes_new.as_many;
+      others = refl;
+    }
 
 -- A.1 | A.1 in A.1 at node 0 twice
-one_node_twice : Occurs (in_places (node_a 0 (Region 0) ∷ []) [] 1) (in_places (node_a 0 (Region 0) ∷ node_a 1 (Region 0) ∷ []) [] 1) (0 ∷ 0 ∷ []) → ⊥
+one_node_twice : DoesNotOccur (in_places (node_a 0 (Region 0) ∷ []) [] 1) (in_places (node_a 0 (Region 0) ∷ node_a 1 (Region 0) ∷ []) [] 1) (0 ∷ 0 ∷ []) (record all_hold { nodes_new = false })
 unfolding along counted fault_of sites_fault inner_fault outer_fault edges_fault nodes_fault IsDistinct
-one_node_twice occurs =
-    let local = locally_by three_controls occurs refl refl refl refl in
-    false≢true (sym local.nodes_new.differ.0.0)
+one_node_twice =
+    record {
+      never = λ occurs. let local = locally_by three_controls occurs refl refl refl refl in
+        false≢true (sym local.nodes_new.differ.0.0);
+      others = refl;
+    }
 
 -- ---- 2 a node in a node
 
 -- A.B.1 in A.1 | B.1: the B does not lie in the A
-not_nested : Occurs (in_places (node_a 0 (Region 0) ∷ node_b 1 (Region 0) ∷ []) [] 1) b_in_a (0 ∷ 1 ∷ []) → ⊥
+not_nested : DoesNotOccur (in_places (node_a 0 (Region 0) ∷ node_b 1 (Region 0) ∷ []) [] 1) b_in_a (0 ∷ 1 ∷ []) (record all_hold { nested = false })
 unfolding along counted fault_of sites_fault inner_fault outer_fault edges_fault nodes_fault
-not_nested occurs =
-    let local = locally_by three_controls occurs refl refl refl refl in
-    unlike (same_place (Region 0)) (Region 0) (Node 0) refl refl
-    (local.nested (node_b 1 (Node 0)) (node_b 1 (Region 0)) 0 (record { of_pattern = there (here refl); of_host = there (here refl); same = refl }) refl)
+not_nested =
+    record {
+      never = λ occurs. let local = locally_by three_controls occurs refl refl refl refl in
+        unlike (same_place (Region 0)) (Region 0) (Node 0) refl refl
+        (local.nested (node_b 1 (Node 0)) (node_b 1 (Region 0)) 0 (record { of_pattern = there (here refl); of_host = there (here refl); same = refl }) refl);
+      others = refl;
+    }
 
 -- ---- 3 what else lies in an image
 
 -- A.1 in A.B.1: the A has a child, and the pattern no site for it. With the site it occurs (`child_in_the_parameter`)
-child_without_a_site : Occurs (in_places (node_a 0 (Region 0) ∷ node_b 1 (Node 0) ∷ []) [] 1) a_alone (0 ∷ []) → ⊥
+child_without_a_site : DoesNotOccur (in_places (node_a 0 (Region 0) ∷ node_b 1 (Node 0) ∷ []) [] 1) a_alone (0 ∷ []) (record all_hold { children = false })
 unfolding along counted fault_of sites_fault inner_fault outer_fault edges_fault nodes_fault
-child_without_a_site occurs =
-    let local = locally_by three_controls occurs refl refl refl refl in
-    elim (local.children (node_b 1 (Node 0)) 0 (there (here refl)) (here refl) refl)
-    [ inl m ↦ not_among 1 (0 ∷ []) refl m | inr m ↦ elim m [ ] ]
+child_without_a_site =
+    record {
+      never = λ occurs. let local = locally_by three_controls occurs refl refl refl refl in
+        elim (local.children (node_b 1 (Node 0)) 0 (there (here refl)) (here refl) refl)
+        [ inl m ↦ not_among 1 (0 ∷ []) refl m | inr m ↦ elim m [ ] ];
+      others = refl;
+    }
 
 -- ---- 4 the places of the pattern's regions
 
 -- A.1 | B.1 in A.1 || B.1: the nodes of one region lie in two places. As A.1 || B.1 they occur (`regions_in_two_places`)
-region_in_two_places : Occurs (in_places (node_a 0 (Region 0) ∷ node_b 1 (Region 1) ∷ []) [] 2) a_with_b (0 ∷ 1 ∷ []) → ⊥
+region_in_two_places : DoesNotOccur (in_places (node_a 0 (Region 0) ∷ node_b 1 (Region 1) ∷ []) [] 2) a_with_b (0 ∷ 1 ∷ []) (record all_hold { one_parent = false })
 unfolding along counted fault_of sites_fault inner_fault outer_fault edges_fault nodes_fault
-region_in_two_places occurs =
-    let local = locally_by three_controls occurs refl refl refl refl in
-    unlike (same_place (Region 0)) (Region 0) (Region 1) refl refl
-    (local.one_parent (node_a 0 (Region 0)) (node_a 0 (Region 0)) (node_b 1 (Region 0)) (node_b 1 (Region 1)) 0
-    (record { of_pattern = here refl; of_host = here refl; same = refl }) (record { of_pattern = there (here refl); of_host = there (here refl); same = refl }) refl refl)
+region_in_two_places =
+    record {
+      never = λ occurs. let local = locally_by three_controls occurs refl refl refl refl in
+        unlike (same_place (Region 0)) (Region 0) (Region 1) refl refl
+        (local.one_parent (node_a 0 (Region 0)) (node_a 0 (Region 0)) (node_b 1 (Region 0)) (node_b 1 (Region 1)) 0
+        (record { of_pattern = here refl; of_host = here refl; same = refl }) (record { of_pattern = there (here refl); of_host = there (here refl); same = refl }) refl refl);
+      others = refl;
+    }
 
 -- A.1 || B.1 in A.B.1: a region lies in an image of the pattern. The A may have its child B, which is an image
-region_in_an_image : Occurs (in_places (node_a 0 (Region 0) ∷ node_b 1 (Node 0) ∷ []) [] 1) a_beside_b (0 ∷ 1 ∷ []) → ⊥
+region_in_an_image : DoesNotOccur (in_places (node_a 0 (Region 0) ∷ node_b 1 (Node 0) ∷ []) [] 1) a_beside_b (0 ∷ 1 ∷ []) (record all_hold { clear = false })
 unfolding along counted fault_of sites_fault inner_fault outer_fault edges_fault nodes_fault
-region_in_an_image occurs =
-    let local = locally_by three_controls occurs refl refl refl refl in
-    local.clear (node_b 1 (Region 1)) (node_b 1 (Node 0)) 1 0 (record { of_pattern = there (here refl); of_host = there (here refl); same = refl }) refl (here refl) (at_place refl)
+region_in_an_image =
+    record {
+      never = λ occurs. let local = locally_by three_controls occurs refl refl refl refl in
+        local.clear (node_b 1 (Region 1)) (node_b 1 (Node 0)) 1 0 (record { of_pattern = there (here refl); of_host = there (here refl); same = refl }) refl (here refl) (at_place refl);
+      others = refl;
+    }
 
 -- A.id || B.1 in A.A.B.1, at the outer A: an image lies further up
-region_deep_in_an_image : Occurs (in_places (node_a 0 (Region 0) ∷ node_a 1 (Node 0) ∷ node_b 2 (Node 1) ∷ []) [] 1) (in_places (node_a 0 (Region 0) ∷ node_b 1 (Region 1) ∷ []) (Node 0 ∷ []) 2) (0 ∷ 2 ∷ []) → ⊥
+region_deep_in_an_image : DoesNotOccur (in_places (node_a 0 (Region 0) ∷ node_a 1 (Node 0) ∷ node_b 2 (Node 1) ∷ []) [] 1) (in_places (node_a 0 (Region 0) ∷ node_b 1 (Region 1) ∷ []) (Node 0 ∷ []) 2) (0 ∷ 2 ∷ []) (record all_hold { clear = false })
 unfolding along counted fault_of sites_fault inner_fault outer_fault edges_fault nodes_fault
-region_deep_in_an_image occurs =
-    let local = locally_by three_controls occurs refl refl refl refl in
-    local.clear (node_b 1 (Region 1)) (node_b 2 (Node 1)) 1 0 (record { of_pattern = there (here refl); of_host = there (there (here refl)); same = refl }) refl (here refl)
-    (above (there (here refl)) refl (at_place refl))
+region_deep_in_an_image =
+    record {
+      never = λ occurs. let local = locally_by three_controls occurs refl refl refl refl in
+        local.clear (node_b 1 (Region 1)) (node_b 2 (Node 1)) 1 0 (record { of_pattern = there (here refl); of_host = there (there (here refl)); same = refl }) refl (here refl)
+        (above (there (here refl)) refl (at_place refl));
+      others = refl;
+    }
 
 -- ---- 5 ports with one link
 
 -- K{x} | K{x} in K{y} | K{z}: the host ties the ports to two links. As K{x} | K{y} they would occur
-one_name_on_two_links : Occurs (with_links (node_k 0 (Region 0) (Outer y) ∷ node_k 1 (Region 0) (Outer z) ∷ []) [] (y ∷ z ∷ []) 1) two_k_on_x (0 ∷ 1 ∷ []) → ⊥
+one_name_on_two_links : DoesNotOccur (with_links (node_k 0 (Region 0) (Outer y) ∷ node_k 1 (Region 0) (Outer z) ∷ []) [] (y ∷ z ∷ []) 1) two_k_on_x (0 ∷ 1 ∷ []) (record all_hold { shared = false })
 unfolding along counted fault_of sites_fault inner_fault outer_fault edges_fault nodes_fault
-one_name_on_two_links occurs =
-    let local = locally_by three_controls occurs refl refl refl refl in
-    unlike (same_link (Outer y)) (Outer y) (Outer z) refl refl
-    (local.shared (node_k 0 (Region 0) (Outer x)) (node_k 0 (Region 0) (Outer y)) (node_k 1 (Region 0) (Outer x)) (node_k 1 (Region 0) (Outer z)) 0 0 (Outer x) (Outer y) (Outer z)
-    (record { of_pattern = here refl; of_host = here refl; same = refl }) (record { of_pattern = there (here refl); of_host = there (here refl); same = refl })
-    (at_here refl) (at_here refl) (at_here refl) (at_here refl))
+one_name_on_two_links =
+    record {
+      never = λ occurs. let local = locally_by three_controls occurs refl refl refl refl in
+        unlike (same_link (Outer y)) (Outer y) (Outer z) refl refl
+        (local.shared (node_k 0 (Region 0) (Outer x)) (node_k 0 (Region 0) (Outer y)) (node_k 1 (Region 0) (Outer x)) (node_k 1 (Region 0) (Outer z)) 0 0 (Outer x) (Outer y) (Outer z)
+        (record { of_pattern = here refl; of_host = here refl; same = refl }) (record { of_pattern = there (here refl); of_host = there (here refl); same = refl })
+        (at_here refl) (at_here refl) (at_here refl) (at_here refl));
+      others = refl;
+    }
 
 -- ---- 6 closed links
 
 -- /x (K{x} | K{x}) in K{z} | K{z}: the host has an outer name there, which a context could tie further
-closed_link_on_an_outer_name : Occurs (with_links (node_k 0 (Region 0) (Outer z) ∷ node_k 1 (Region 0) (Outer z) ∷ []) [] (z ∷ []) 1) two_k_closed (0 ∷ 1 ∷ []) → ⊥
+closed_link_on_an_outer_name : DoesNotOccur (with_links (node_k 0 (Region 0) (Outer z) ∷ node_k 1 (Region 0) (Outer z) ∷ []) [] (z ∷ []) 1) two_k_closed (0 ∷ 1 ∷ []) (record all_hold { closed = false })
 unfolding along counted fault_of sites_fault inner_fault outer_fault edges_fault nodes_fault
-closed_link_on_an_outer_name occurs =
-    let local = locally_by three_controls occurs refl refl refl refl in
-    let w = local.closed 0 (here refl) in
-    unlike (same_link (Outer z)) (Outer z) (Edge w.0) refl refl
-    (w.1.onto (node_k 0 (Region 0) (Edge 0)) (node_k 0 (Region 0) (Outer z)) 0 (Outer z) (record { of_pattern = here refl; of_host = here refl; same = refl }) (at_here refl) (at_here refl))
+closed_link_on_an_outer_name =
+    record {
+      never = λ occurs. let local = locally_by three_controls occurs refl refl refl refl in
+        let w = local.closed 0 (here refl) in
+        unlike (same_link (Outer z)) (Outer z) (Edge w.0) refl refl
+        (w.1.onto (node_k 0 (Region 0) (Edge 0)) (node_k 0 (Region 0) (Outer z)) 0 (Outer z) (record { of_pattern = here refl; of_host = here refl; same = refl }) (at_here refl) (at_here refl));
+      others = refl;
+    }
 
 -- /x (K{x} | K{x}) in /z (K{z} | K{z} | K{z}): the edge has a further point. With the pattern open they occur (`one_name_on_one_edge`)
-closed_link_with_a_further_point : Occurs (with_links (node_k 0 (Region 0) (Edge 4) ∷ node_k 1 (Region 0) (Edge 4) ∷ node_k 2 (Region 0) (Edge 4) ∷ []) (4 ∷ []) [] 1) two_k_closed (0 ∷ 1 ∷ []) → ⊥
+closed_link_with_a_further_point : DoesNotOccur (with_links (node_k 0 (Region 0) (Edge 4) ∷ node_k 1 (Region 0) (Edge 4) ∷ node_k 2 (Region 0) (Edge 4) ∷ []) (4 ∷ []) [] 1) two_k_closed (0 ∷ 1 ∷ []) (record all_hold { closed = false })
 unfolding along counted fault_of sites_fault inner_fault outer_fault edges_fault nodes_fault
-closed_link_with_a_further_point occurs =
-    let local = locally_by three_controls occurs refl refl refl refl in
-    let w = local.closed 0 (here refl) in
-    let same = w.1.onto (node_k 0 (Region 0) (Edge 0)) (node_k 0 (Region 0) (Edge 4)) 0 (Edge 4) (record { of_pattern = here refl; of_host = here refl; same = refl }) (at_here refl) (at_here refl) in
-    let v = w.1.only (node_k 2 (Region 0) (Edge 4)) 0 (there (there (here refl))) (at_here same) in
-    no_image three_controls v.1 refl local.nodes_new refl
+closed_link_with_a_further_point =
+    record {
+      never = λ occurs. let local = locally_by three_controls occurs refl refl refl refl in
+        let w = local.closed 0 (here refl) in
+        let same = w.1.onto (node_k 0 (Region 0) (Edge 0)) (node_k 0 (Region 0) (Edge 4)) 0 (Edge 4) (record { of_pattern = here refl; of_host = here refl; same = refl }) (at_here refl) (at_here refl) in
+        let v = w.1.only (node_k 2 (Region 0) (Edge 4)) 0 (there (there (here refl))) (at_here same) in
+        no_image three_controls v.1 refl local.nodes_new refl;
+      others = refl;
+    }
 
 -- /x K{x}.id in /z K{z}.K{z}.1, at node 0: the further point lies in the parameter
-closed_link_with_a_point_below : Occurs (with_links (node_k 0 (Region 0) (Edge 4) ∷ node_k 1 (Node 0) (Edge 4) ∷ []) (4 ∷ []) [] 1) (record (with_links (node_k 0 (Region 0) (Edge 0) ∷ []) (0 ∷ []) [] 1) { sites = Node 0 ∷ [] }) (0 ∷ []) → ⊥
+closed_link_with_a_point_below : DoesNotOccur (with_links (node_k 0 (Region 0) (Edge 4) ∷ node_k 1 (Node 0) (Edge 4) ∷ []) (4 ∷ []) [] 1) (record (with_links (node_k 0 (Region 0) (Edge 0) ∷ []) (0 ∷ []) [] 1) { sites = Node 0 ∷ [] }) (0 ∷ []) (record all_hold { closed = false })
 unfolding along counted fault_of sites_fault inner_fault outer_fault edges_fault nodes_fault
-closed_link_with_a_point_below occurs =
-    let local = locally_by three_controls occurs refl refl refl refl in
-    let w = local.closed 0 (here refl) in
-    let same = w.1.onto (node_k 0 (Region 0) (Edge 0)) (node_k 0 (Region 0) (Edge 4)) 0 (Edge 4) (record { of_pattern = here refl; of_host = here refl; same = refl }) (at_here refl) (at_here refl) in
-    let v = w.1.only (node_k 1 (Node 0) (Edge 4)) 0 (there (here refl)) (at_here same) in
-    no_image three_controls v.1 refl local.nodes_new refl
+closed_link_with_a_point_below =
+    record {
+      never = λ occurs. let local = locally_by three_controls occurs refl refl refl refl in
+        let w = local.closed 0 (here refl) in
+        let same = w.1.onto (node_k 0 (Region 0) (Edge 0)) (node_k 0 (Region 0) (Edge 4)) 0 (Edge 4) (record { of_pattern = here refl; of_host = here refl; same = refl }) (at_here refl) (at_here refl) in
+        let v = w.1.only (node_k 1 (Node 0) (Edge 4)) 0 (there (here refl)) (at_here same) in
+        no_image three_controls v.1 refl local.nodes_new refl;
+      others = refl;
+    }
