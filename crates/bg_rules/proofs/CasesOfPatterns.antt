@@ -25,7 +25,7 @@ use Rattle.bg_rules.proofs.CaseRows.{three_controls, node_a, node_b, in_places, 
 
 -- the clauses: each region has a child node, each outer name a point, no two sites lie in one place, each lies in a node,
 -- there is a node, no inner name, each outer name is plain, each edge has a point
-abbrev clauses : Big → List Bool
+abbrev pub clauses : Big → List Bool
 clauses big =
     regions_are_filled big ∷ list_all (λ (name : Name). has_point big (Outer name)) big.outer ∷ differ same_place big.sites
     ∷ list_all (λ (place : Place). is_node place) big.sites ∷ ltb 0 (length big.nodes) ∷ is_nil big.inner

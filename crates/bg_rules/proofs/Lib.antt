@@ -19,4 +19,5 @@ mod CasesThatOccur
 mod CasesThatDoNot
 mod CasesOfValidity
 mod CasesOfPatterns
+mod CasesOfNames
 mod CasesOfReactions
