@@ -20,4 +20,5 @@ mod CasesThatDoNot
 mod CasesOfValidity
 mod CasesOfPatterns
 mod CasesOfNames
+mod CasesOfLists
 mod CasesOfReactions
