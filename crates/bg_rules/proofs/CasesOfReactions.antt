@@ -1,5 +1,6 @@
 -- Instantiation and reaction, computed on small cases.
-use Rattle.std.proofs.Common.{◌≡◌, [], ◌∷◌, refl}
+use Rattle.std.proofs.Common.{◌≡◌, ◌<◌, [], ◌∷◌, refl, arith}
+use Rattle.std.proofs.lemmas.List.Elements.{All-from_recursion}
 use Rattle.bg_lists.specs.Lists.{put, sort}
 use Rattle.bg_base.specs.declared.names.Name.TheVariants.{Port}
 use Rattle.bg_base.specs.declared.names.Place.TheVariants.{Node, Region}
@@ -11,8 +12,8 @@ use Rattle.bg_base.specs.Faults.{fault_of, sites_fault, inner_fault, outer_fault
 use Rattle.bg_base.specs.Instance.{along, rename}
 use Rattle.bg_base.specs.Products.{tensor, lean}
 use Rattle.bg_rules.specs.Instantiation.{part, late_nodes, number_in_copy, copies_from, instantiate, next_after}
-use Rattle.bg_rules.specs.Reaction.{Numbered, Reacts}
-use Rattle.bg_rules.proofs.CaseTests.{valid_by, parameter_by, decomposes_by}
+use Rattle.bg_rules.specs.Reaction.{Numbered, AreSides, Reacts}
+use Rattle.bg_rules.proofs.CaseTests.{valid_by, pattern_by, parameter_by, decomposes_by}
 use Rattle.bg_rules.proofs.CaseRows.{three_controls, node_a, node_b, node_k, in_places, with_links, context_of, parameter_of, tied, nothing, x, y, a_open, k_on_x}
 
 -- ---- instantiation
@@ -44,10 +45,26 @@ next_after_none = refl
 
 -- ---- reaction
 
+-- A.id | A.id
+abbrev two_open : Big
+two_open = in_places (node_a 0 (Region 0) ∷ node_a 1 (Region 0) ∷ []) (Node 0 ∷ Node 1 ∷ []) 1
+
+copying_sides : AreSides a_open two_open (0 ∷ 0 ∷ [])
+unfolding counted fault_of sites_fault inner_fault outer_fault edges_fault nodes_fault
+copying_sides =
+    record {
+      is_pattern = pattern_by three_controls a_open refl refl;
+      reactum_valid = valid_by three_controls two_open refl;
+      reactum_inner = refl;
+      regions = refl;
+      outer = refl;
+      as_many = refl;
+      entries_there = All-from_recursion (λ entry. entry < 1) (0 ∷ 0 ∷ []) (omega arith, (omega arith, tt));
+    }
+
 -- A.id, with map 0, 0, becomes A.id | A.id: A.B.1 at node 0 becomes A.B.1 | A.B.1. The nodes of the reactum get the next
 -- numbers, 2 and 3, then the late copy of the B, 4
-copied : Reacts (record { big = in_places (node_a 0 (Region 0) ∷ node_b 1 (Node 0) ∷ []) [] 1; next_node = 2; next_edge = 0 }) a_open
-    (in_places (node_a 0 (Region 0) ∷ node_a 1 (Region 0) ∷ []) (Node 0 ∷ Node 1 ∷ []) 1) (0 ∷ 0 ∷ []) (0 ∷ [])
+copied : Reacts (record { big = in_places (node_a 0 (Region 0) ∷ node_b 1 (Node 0) ∷ []) [] 1; next_node = 2; next_edge = 0 }) a_open two_open (0 ∷ 0 ∷ []) (0 ∷ [])
     (record {
       big = in_places (node_b 1 (Node 2) ∷ node_a 2 (Region 0) ∷ node_a 3 (Region 0) ∷ node_b 4 (Node 3) ∷ []) [] 1;
       next_node = 5;

@@ -1,5 +1,5 @@
 -- Cases where a pattern does not occur since one of the local conditions fails: the others hold.
-use Rattle.std.proofs.Common.{◌≡◌, ℕ, List, [], ◌∷◌, true, false, refl, sym, ap, ◌∙◌, inl, inr, eqb}
+use Rattle.std.proofs.Common.{◌≡◌, ℕ, length, List, [], ◌∷◌, true, false, refl, sym, ap, ◌∙◌, inl, inr, eqb}
 use Rattle.std.specs.List.{IsDistinct}
 use Rattle.std.proofs.lemmas.Bool.{false≢true}
 use Rattle.bg_lists.specs.Lists.{Mem, here, there, At, at_here, at_there}
@@ -8,6 +8,7 @@ use Rattle.bg_base.specs.declared.names.Link.{Link}
 use Rattle.bg_base.specs.declared.names.Link.TheVariants.{Edge, Outer}
 use Rattle.bg_base.specs.declared.big.NodeRow.{NodeRow}
 use Rattle.bg_base.specs.declared.big.Big.{Big}
+use Rattle.bg_base.specs.declared.signature.Control.{Control}
 use Rattle.bg_base.specs.Elementary.{counted}
 use Rattle.bg_base.specs.Faults.{fault_of, sites_fault, inner_fault, outer_fault, edges_fault, nodes_fault}
 use Rattle.bg_base.specs.Instance.{along}
@@ -15,9 +16,10 @@ use Rattle.bg_base.specs.Products.{same_link}
 use Rattle.bg_place.specs.Places.{same_place}
 use Rattle.bg_rules.specs.Decomposition.{Occurs}
 use Rattle.bg_rules.specs.LocalConditions.{at_place, above}
+use Rattle.bg_rules.proofs.Occurrences.{occurs_locally}
 use Rattle.bg_rules.proofs.CaseConditions.{Conditions, conditions, all_hold}
-use Rattle.bg_rules.proofs.CaseTests.{unlike, not_among, the_only, locally_by, no_image}
-use Rattle.bg_rules.proofs.CaseRows.{three_controls, node_a, node_b, node_k, in_places, with_links, x, y, z, a_open, a_alone, b_in_a, a_beside_b, a_with_b, two_k_on_x, two_k_closed}
+use Rattle.bg_rules.proofs.CaseTests.{pattern_by, ground_by, unlike, not_among, the_only, locally_by, no_image}
+use Rattle.bg_rules.proofs.CaseRows.{control_of, three_controls, node_a, node_b, node_k, in_places, with_links, x, y, z, a_open, a_alone, b_in_a, a_beside_b, a_with_b, two_k_on_x, two_k_closed}
 
 -- the pattern does not occur at these nodes of the host, and all these conditions hold
 record DoesNotOccur (host pattern : Big) (nodes : List ℕ) (hold : Conditions) : Type 0 where
@@ -34,6 +36,25 @@ another_control =
       never = λ occurs. let local = locally_by three_controls occurs refl refl refl refl in
         let w = local.images (node_a 0 (Region 0)) (here refl) in
         unlike (eqb 1) 1 0 refl refl (ap (λ (row : NodeRow). row.control) (the_only (node_b 0 (Region 0)) w.0 w.1.of_host) ∙ w.2);
+      others = refl;
+    }
+
+-- the pattern of another signature, in which the third control has no port
+abbrev other_controls : List Control
+other_controls = control_of 65 0 ∷ control_of 66 0 ∷ control_of 75 0 ∷ []
+
+abbrev k_without_port : Big
+k_without_port = in_places (record { id = 0; control = 2; parent = Region 0; links = [] } ∷ []) [] 1
+
+-- K without a port in K{y}: another number of ports
+another_number_of_ports : DoesNotOccur (with_links (node_k 0 (Region 0) (Outer y) ∷ []) [] (y ∷ []) 1) k_without_port (0 ∷ [])
+    (record all_hold { images = false })
+unfolding along counted fault_of sites_fault inner_fault outer_fault edges_fault nodes_fault
+another_number_of_ports =
+    record {
+      never = λ occurs. let local = occurs_locally _ _ (pattern_by other_controls k_without_port refl refl) (ground_by three_controls _ refl refl) (0 ∷ []) occurs in
+        let w = local.images (record { id = 0; control = 2; parent = Region 0; links = [] }) (here refl) in
+        unlike (eqb 1) 1 0 refl refl (ap (λ (row : NodeRow). length row.links) (the_only (node_k 0 (Region 0) (Outer y)) w.0 w.1.of_host) ∙ w.3);
       others = refl;
     }
 
