@@ -1,4 +1,4 @@
--- The words of the small cases: three controls, their nodes, and the patterns that the cases share.
+-- The words of the small cases: four controls, their nodes, and the patterns that the cases share.
 -- A comment writes a bigraph so: `A.B.1` is a node of B in a node of A in a region, `id` a site, `|` puts into one region,
 -- `||` side by side, `K{x}` is a node whose port is tied to x, `/x` makes x an edge.
 use Rattle.std.proofs.Common.{ℕ, List, [], ◌∷◌}
@@ -20,9 +20,9 @@ use Rattle.bg_base.specs.declared.signature.Kind.TheVariants.{Normal}
 abbrev pub control_of : ℕ → ℕ → Control
 control_of letter arity = record { label = record { name = letter ∷ []; args = [] }; arity = arity; kind = Normal }
 
--- A and B, without ports, and K with one port
-abbrev pub three_controls : List Control
-three_controls = control_of 65 0 ∷ control_of 66 0 ∷ control_of 75 1 ∷ []
+-- A and B, without ports, K with one port, and L with two
+abbrev pub four_controls : List Control
+four_controls = control_of 65 0 ∷ control_of 66 0 ∷ control_of 75 1 ∷ control_of 76 2 ∷ []
 
 -- the node of that number in the place, of control A
 abbrev pub node_a : ℕ → Place → NodeRow
@@ -35,6 +35,11 @@ node_b node parent = record { id = node; control = 1; parent = parent; links = [
 -- of control K, its port tied to the link
 abbrev pub node_k : ℕ → Place → Link → NodeRow
 node_k node parent link = record { id = node; control = 2; parent = parent; links = link ∷ [] }
+
+-- of control L, its ports tied to these two links
+abbrev pub node_l : ℕ → Place → Link → Link → NodeRow
+node_l node parent first second =
+    record { id = node; control = 3; parent = parent; links = first ∷ second ∷ [] }
 
 -- ---- bigraphs
 
@@ -111,3 +116,20 @@ k_on_x_and_y = with_links (node_k 0 (Region 0) (Outer x) ∷ node_k 1 (Region 0)
 -- /x (K{x} | K{x})
 abbrev pub two_k_closed : Big
 two_k_closed = with_links (node_k 0 (Region 0) (Edge 0) ∷ node_k 1 (Region 0) (Edge 0) ∷ []) (0 ∷ []) [] 1
+
+-- L{x, y}
+abbrev pub l_on_x_and_y : Big
+l_on_x_and_y = with_links (node_l 0 (Region 0) (Outer x) (Outer y) ∷ []) [] (x ∷ y ∷ []) 1
+
+-- /x L{x, x}
+abbrev pub l_closed : Big
+l_closed = with_links (node_l 0 (Region 0) (Edge 0) (Edge 0) ∷ []) (0 ∷ []) [] 1
+
+-- /x L{x, y}
+abbrev pub l_half_closed : Big
+l_half_closed = with_links (node_l 0 (Region 0) (Edge 0) (Outer y) ∷ []) (0 ∷ []) (y ∷ []) 1
+
+-- /x /y (K{x} | K{y})
+abbrev pub two_closed_links : Big
+two_closed_links =
+    with_links (node_k 0 (Region 0) (Edge 0) ∷ node_k 1 (Region 0) (Edge 1) ∷ []) (0 ∷ 1 ∷ []) [] 1

@@ -20,7 +20,7 @@ use Rattle.bg_rules.specs.Occurrences.{AreOccurrences}
 use Rattle.bg_rules.proofs.Occurrences.{locally_occurs}
 use Rattle.bg_rules.proofs.CaseTests.{pattern_by, ground_by, locally_by, unlike, the_only}
 use Rattle.bg_rules.proofs.CaseConditions.{conditions, all_hold, all_tell}
-use Rattle.bg_rules.proofs.CaseRows.{three_controls, node_a, node_b, in_places, a_open, a_alone}
+use Rattle.bg_rules.proofs.CaseRows.{four_controls, node_a, node_b, in_places, a_open, a_alone}
 
 abbrev Below : List ℕ → List ℕ → Type 0
 Below x y = slice_cmp nat_cmp x y ≡ Less
@@ -59,15 +59,15 @@ found (n ∷ m ∷ rest) local = let long = local.nodes_new.as_many in absurd (o
 at_each_a : AreOccurrences nested_host a_open ((0 ∷ []) ∷ (1 ∷ []) ∷ [])
 unfolding along counted fault_of sites_fault inner_fault outer_fault edges_fault nodes_fault
 at_each_a =
-    let is = pattern_by three_controls a_open refl refl in
-    let ground = ground_by three_controls nested_host refl refl in
+    let is = pattern_by four_controls a_open refl refl in
+    let ground = ground_by four_controls nested_host refl refl in
     record {
       ascend = two_ascend (0 ∷ []) (1 ∷ []) refl;
       occur = member_of_all (Occurs nested_host a_open) ((0 ∷ []) ∷ (1 ∷ []) ∷ []) (
           locally_occurs nested_host a_open is ground (0 ∷ []) (all_tell _ _ _ refl),
           (locally_occurs nested_host a_open is ground (1 ∷ []) (all_tell _ _ _ refl), tt),
       );
-      all = λ nodes occurs. found nodes (locally_by three_controls occurs refl refl refl refl);
+      all = λ nodes occurs. found nodes (locally_by four_controls occurs refl refl refl refl);
     }
 
 -- ---- a pattern that is symmetric
@@ -108,15 +108,15 @@ found_twins (m ∷ n ∷ k ∷ rest) local = let long = local.nodes_new.as_many 
 both_orders : AreOccurrences twins twins ((0 ∷ 1 ∷ []) ∷ (1 ∷ 0 ∷ []) ∷ [])
 unfolding along counted fault_of sites_fault inner_fault outer_fault edges_fault nodes_fault
 both_orders =
-    let is = pattern_by three_controls twins refl refl in
-    let ground = ground_by three_controls twins refl refl in
+    let is = pattern_by four_controls twins refl refl in
+    let ground = ground_by four_controls twins refl refl in
     record {
       ascend = two_ascend (0 ∷ 1 ∷ []) (1 ∷ 0 ∷ []) refl;
       occur = member_of_all (Occurs twins twins) ((0 ∷ 1 ∷ []) ∷ (1 ∷ 0 ∷ []) ∷ []) (
           locally_occurs twins twins is ground (0 ∷ 1 ∷ []) (all_tell _ _ _ refl),
           (locally_occurs twins twins is ground (1 ∷ 0 ∷ []) (all_tell _ _ _ refl), tt),
       );
-      all = λ nodes occurs. found_twins nodes (locally_by three_controls occurs refl refl refl refl);
+      all = λ nodes occurs. found_twins nodes (locally_by four_controls occurs refl refl refl refl);
     }
 
 -- ---- no occurrence
@@ -132,7 +132,7 @@ nowhere =
     record {
       ascend = asc_nil;
       occur = λ nodes m. elim m [ ];
-      all = λ nodes occurs. let local = locally_by three_controls occurs refl refl refl refl in
+      all = λ nodes occurs. let local = locally_by four_controls occurs refl refl refl refl in
           let w = local.images (node_a 0 (Region 0)) (here refl) in
           absurd (unlike (eqb 1) 1 0 refl refl (ap (λ (row : NodeRow). row.control) (the_only (node_b 0 (Region 0)) w.0 w.1.of_host) ∙ w.2));
     }

@@ -30,7 +30,7 @@ use Rattle.bg_rules.proofs.PortNames.{Mem-names_of}
 use Rattle.bg_rules.proofs.CaseTests.{valid_by, ground_by, unlike, the_only}
 use Rattle.bg_rules.proofs.CaseConditions.{conditions, all_hold, all_tell}
 use Rattle.bg_rules.proofs.CasesOfPatterns.{clauses}
-use Rattle.bg_rules.proofs.CaseRows.{three_controls, node_a, node_k, in_places, with_links, context_of, tied, x, y}
+use Rattle.bg_rules.proofs.CaseRows.{four_controls, node_a, node_k, in_places, with_links, context_of, tied, x, y}
 
 -- the bigraph is valid and meets just these clauses, its nodes meet the local conditions, and yet it does not occur there
 record Fails (host pattern : Big) (nodes : List ℕ) (met : List Bool) : Type 0 where
@@ -60,8 +60,8 @@ inner_name : Fails (with_links (node_a 0 (Region 0) ∷ []) [] (y ∷ []) 1) a_a
 unfolding along counted fault_of sites_fault inner_fault outer_fault edges_fault nodes_fault
 inner_name =
     record {
-      valid = valid_by three_controls _ refl;
-      ground = ground_by three_controls _ refl refl;
+      valid = valid_by four_controls _ refl;
+      ground = ground_by four_controls _ refl refl;
       clauses_met = refl;
       local = all_tell _ _ _ refl;
       never = λ o. one_more o.edges o.parameter.outer o.decomposes.filled.names;
@@ -131,8 +131,8 @@ port_name : Fails k_in_k k_on_port_name (0 ∷ []) (true ∷ true ∷ true ∷ t
 unfolding along counted fault_of sites_fault inner_fault outer_fault edges_fault nodes_fault
 port_name =
     record {
-      valid = valid_by three_controls _ refl;
-      ground = ground_by three_controls _ refl refl;
+      valid = valid_by four_controls _ refl;
+      ground = ground_by four_controls _ refl refl;
       clauses_met = refl;
       local = all_tell _ _ _ refl;
       never = never_beside;

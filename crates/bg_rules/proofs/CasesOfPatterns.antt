@@ -21,7 +21,7 @@ use Rattle.bg_algebra.specs.Frame.{is_plain}
 use Rattle.bg_rules.specs.Solid.{is_node}
 use Rattle.bg_rules.specs.Decomposition.{Decomposes}
 use Rattle.bg_rules.proofs.CaseTests.{differ, is_nil, regions_are_filled, edges_are_good, valid_by, ground_by, parameter_by, decomposes_by, unlike}
-use Rattle.bg_rules.proofs.CaseRows.{three_controls, node_a, node_b, in_places, with_links, context_of, tied, nothing, x, y, z}
+use Rattle.bg_rules.proofs.CaseRows.{four_controls, node_a, node_b, in_places, with_links, context_of, tied, nothing, x, y, z}
 
 -- the clauses: each region has a child node, each outer name a point, no two sites lie in one place, each lies in a node,
 -- there is a node, no inner name, each outer name is plain, each edge has a point
@@ -55,8 +55,8 @@ empty_region : Shows (in_places (node_a 0 (Region 0) ∷ []) [] 2) (in_places (n
 unfolding compose tensor identity rename along counted sort put fault_of sites_fault inner_fault outer_fault edges_fault nodes_fault
 empty_region =
     record {
-      valid = valid_by three_controls _ refl;
-      ground = ground_by three_controls _ refl refl;
+      valid = valid_by four_controls _ refl;
+      ground = ground_by four_controls _ refl refl;
       clauses_met = refl;
       two = record {
         context = in_places [] (Region 0 ∷ Region 0 ∷ []) 2;
@@ -65,8 +65,8 @@ empty_region =
         other_context = in_places [] (Region 0 ∷ Region 1 ∷ []) 2;
         other_edges = [];
         other_parameter = nothing;
-        one = decomposes_by three_controls _ _ _ _ _ _ (valid_by three_controls _ refl) (parameter_by three_controls _ refl refl tt refl) refl refl;
-        other = decomposes_by three_controls _ _ _ _ _ _ (valid_by three_controls _ refl) (parameter_by three_controls _ refl refl tt refl) refl refl;
+        one = decomposes_by four_controls _ _ _ _ _ _ (valid_by four_controls _ refl) (parameter_by four_controls _ refl refl tt refl) refl refl;
+        other = decomposes_by four_controls _ _ _ _ _ _ (valid_by four_controls _ refl) (parameter_by four_controls _ refl refl tt refl) refl refl;
         not_the_same = λ same. unlike (λ (big : Big). differ same_place big.sites) (in_places [] (Region 0 ∷ Region 1 ∷ []) 2) (in_places [] (Region 0 ∷ Region 0 ∷ []) 2) refl refl (sym same.0);
       };
     }
@@ -76,8 +76,8 @@ idle_name : Shows (with_links (node_a 0 (Region 0) ∷ []) [] (y ∷ z ∷ []) 1
 unfolding compose tensor identity rename along counted sort put fault_of sites_fault inner_fault outer_fault edges_fault nodes_fault
 idle_name =
     record {
-      valid = valid_by three_controls _ refl;
-      ground = ground_by three_controls _ refl refl;
+      valid = valid_by four_controls _ refl;
+      ground = ground_by four_controls _ refl refl;
       clauses_met = refl;
       two = record {
         context = context_of [] [] (Region 0 ∷ []) (tied x (Outer y) ∷ []) 1 (y ∷ z ∷ []);
@@ -86,8 +86,8 @@ idle_name =
         other_context = context_of [] [] (Region 0 ∷ []) (tied x (Outer z) ∷ []) 1 (y ∷ z ∷ []);
         other_edges = [];
         other_parameter = nothing;
-        one = decomposes_by three_controls _ _ _ _ _ _ (valid_by three_controls _ refl) (parameter_by three_controls _ refl refl tt refl) refl refl;
-        other = decomposes_by three_controls _ _ _ _ _ _ (valid_by three_controls _ refl) (parameter_by three_controls _ refl refl tt refl) refl refl;
+        one = decomposes_by four_controls _ _ _ _ _ _ (valid_by four_controls _ refl) (parameter_by four_controls _ refl refl tt refl) refl refl;
+        other = decomposes_by four_controls _ _ _ _ _ _ (valid_by four_controls _ refl) (parameter_by four_controls _ refl refl tt refl) refl refl;
         not_the_same = λ same. unlike (λ (big : Big). list_any (λ (row : InnerRow). same_link row.link (Outer y)) big.inner) (context_of [] [] (Region 0 ∷ []) (tied x (Outer y) ∷ []) 1 (y ∷ z ∷ [])) (context_of [] [] (Region 0 ∷ []) (tied x (Outer z) ∷ []) 1 (y ∷ z ∷ [])) refl refl same.0;
       };
     }
@@ -97,8 +97,8 @@ two_sites_in_one_node : Shows (in_places (node_a 0 (Region 0) ∷ node_b 1 (Node
 unfolding compose tensor identity rename along counted sort put fault_of sites_fault inner_fault outer_fault edges_fault nodes_fault
 two_sites_in_one_node =
     record {
-      valid = valid_by three_controls _ refl;
-      ground = ground_by three_controls _ refl refl;
+      valid = valid_by four_controls _ refl;
+      ground = ground_by four_controls _ refl refl;
       clauses_met = refl;
       two = record {
         context = in_places [] (Region 0 ∷ []) 1;
@@ -107,8 +107,8 @@ two_sites_in_one_node =
         other_context = in_places [] (Region 0 ∷ []) 1;
         other_edges = [];
         other_parameter = in_places (node_b 1 (Region 1) ∷ []) [] 2;
-        one = decomposes_by three_controls _ _ _ _ _ _ (valid_by three_controls _ refl) (parameter_by three_controls _ refl refl (refl, tt) refl) refl refl;
-        other = decomposes_by three_controls _ _ _ _ _ _ (valid_by three_controls _ refl) (parameter_by three_controls _ refl refl (refl, tt) refl) refl refl;
+        one = decomposes_by four_controls _ _ _ _ _ _ (valid_by four_controls _ refl) (parameter_by four_controls _ refl refl (refl, tt) refl) refl refl;
+        other = decomposes_by four_controls _ _ _ _ _ _ (valid_by four_controls _ refl) (parameter_by four_controls _ refl refl (refl, tt) refl) refl refl;
         not_the_same = λ same. unlike (λ (big : Big). list_any (λ (row : NodeRow). same_place row.parent (Region 0)) big.nodes) (in_places (node_b 1 (Region 0) ∷ []) [] 2) (in_places (node_b 1 (Region 1) ∷ []) [] 2) refl refl same.2;
       };
     }
@@ -118,8 +118,8 @@ site_in_a_region : Shows (in_places (node_a 0 (Region 0) ∷ node_b 1 (Region 0)
 unfolding compose tensor identity rename along counted sort put fault_of sites_fault inner_fault outer_fault edges_fault nodes_fault
 site_in_a_region =
     record {
-      valid = valid_by three_controls _ refl;
-      ground = ground_by three_controls _ refl refl;
+      valid = valid_by four_controls _ refl;
+      ground = ground_by four_controls _ refl refl;
       clauses_met = refl;
       two = record {
         context = in_places (node_b 1 (Region 0) ∷ []) (Region 0 ∷ []) 1;
@@ -128,8 +128,8 @@ site_in_a_region =
         other_context = in_places [] (Region 0 ∷ []) 1;
         other_edges = [];
         other_parameter = in_places (node_b 1 (Region 0) ∷ []) [] 1;
-        one = decomposes_by three_controls _ _ _ _ _ _ (valid_by three_controls _ refl) (parameter_by three_controls _ refl refl tt refl) refl refl;
-        other = decomposes_by three_controls _ _ _ _ _ _ (valid_by three_controls _ refl) (parameter_by three_controls _ refl refl (refl, tt) refl) refl refl;
+        one = decomposes_by four_controls _ _ _ _ _ _ (valid_by four_controls _ refl) (parameter_by four_controls _ refl refl tt refl) refl refl;
+        other = decomposes_by four_controls _ _ _ _ _ _ (valid_by four_controls _ refl) (parameter_by four_controls _ refl refl (refl, tt) refl) refl refl;
         not_the_same = λ same. unlike (λ (big : Big). is_nil big.nodes) (in_places [] (Region 0 ∷ []) 1) (in_places (node_b 1 (Region 0) ∷ []) (Region 0 ∷ []) 1) refl refl (sym same.0);
       };
     }
@@ -139,8 +139,8 @@ idle_edge : Shows (with_links (node_a 0 (Region 0) ∷ []) (3 ∷ 4 ∷ []) [] 1
 unfolding compose tensor identity rename along counted sort put fault_of sites_fault inner_fault outer_fault edges_fault nodes_fault
 idle_edge =
     record {
-      valid = valid_by three_controls _ refl;
-      ground = ground_by three_controls _ refl refl;
+      valid = valid_by four_controls _ refl;
+      ground = ground_by four_controls _ refl refl;
       clauses_met = refl;
       two = record {
         context = context_of [] (4 ∷ []) (Region 0 ∷ []) [] 1 [];
@@ -149,8 +149,8 @@ idle_edge =
         other_context = context_of [] (3 ∷ []) (Region 0 ∷ []) [] 1 [];
         other_edges = 4 ∷ [];
         other_parameter = nothing;
-        one = decomposes_by three_controls _ _ _ _ _ _ (valid_by three_controls _ refl) (parameter_by three_controls _ refl refl tt refl) refl refl;
-        other = decomposes_by three_controls _ _ _ _ _ _ (valid_by three_controls _ refl) (parameter_by three_controls _ refl refl tt refl) refl refl;
+        one = decomposes_by four_controls _ _ _ _ _ _ (valid_by four_controls _ refl) (parameter_by four_controls _ refl refl tt refl) refl refl;
+        other = decomposes_by four_controls _ _ _ _ _ _ (valid_by four_controls _ refl) (parameter_by four_controls _ refl refl tt refl) refl refl;
         not_the_same = λ same. unlike (list_any (λ edge. eqb edge 3)) (3 ∷ []) (4 ∷ []) refl refl same.1;
       };
     }

@@ -14,7 +14,7 @@ use Rattle.bg_base.specs.Products.{tensor, lean}
 use Rattle.bg_rules.specs.Instantiation.{part, late_nodes, number_in_copy, copies_from, instantiate, next_after}
 use Rattle.bg_rules.specs.Reaction.{Numbered, AreSides, Reacts}
 use Rattle.bg_rules.proofs.CaseTests.{valid_by, pattern_by, parameter_by, decomposes_by}
-use Rattle.bg_rules.proofs.CaseRows.{three_controls, node_a, node_b, node_k, in_places, with_links, context_of, parameter_of, tied, nothing, x, y, a_open, k_on_x}
+use Rattle.bg_rules.proofs.CaseRows.{four_controls, node_a, node_b, node_k, in_places, with_links, context_of, parameter_of, tied, nothing, x, y, a_open, k_on_x}
 
 -- ---- instantiation
 
@@ -53,8 +53,8 @@ copying_sides : AreSides a_open two_open (0 ∷ 0 ∷ [])
 unfolding counted fault_of sites_fault inner_fault outer_fault edges_fault nodes_fault
 copying_sides =
     record {
-      is_pattern = pattern_by three_controls a_open refl refl;
-      reactum_valid = valid_by three_controls two_open refl;
+      is_pattern = pattern_by four_controls a_open refl refl;
+      reactum_valid = valid_by four_controls two_open refl;
       reactum_inner = refl;
       regions = refl;
       outer = refl;
@@ -76,8 +76,8 @@ copied =
       context = in_places [] (Region 0 ∷ []) 1;
       edges = [];
       parameter = in_places (node_b 1 (Region 0) ∷ []) [] 1;
-      decomposes = decomposes_by three_controls _ _ _ _ _ _ (valid_by three_controls _ refl)
-          (parameter_by three_controls _ refl refl (refl, tt) refl) refl refl;
+      decomposes = decomposes_by four_controls _ _ _ _ _ _ (valid_by four_controls _ refl)
+          (parameter_by four_controls _ refl refl (refl, tt) refl) refl refl;
       big = refl;
       next_node = refl;
       next_edge = refl;
@@ -97,8 +97,8 @@ tied_anew =
       context = context_of [] [] (Region 0 ∷ []) (tied x (Outer y) ∷ []) 1 (y ∷ []);
       edges = [];
       parameter = nothing;
-      decomposes = decomposes_by three_controls _ _ _ _ _ _ (valid_by three_controls _ refl)
-          (parameter_by three_controls _ refl refl tt refl) refl refl;
+      decomposes = decomposes_by four_controls _ _ _ _ _ _ (valid_by four_controls _ refl)
+          (parameter_by four_controls _ refl refl tt refl) refl refl;
       big = refl;
       next_node = refl;
       next_edge = refl;
@@ -118,8 +118,8 @@ edge_dropped =
       context = context_of (node_b 1 (Region 0) ∷ []) (3 ∷ []) (Region 0 ∷ []) (tied x (Edge 3) ∷ []) 1 [];
       edges = [];
       parameter = nothing;
-      decomposes = decomposes_by three_controls _ _ _ _ _ _ (valid_by three_controls _ refl)
-          (parameter_by three_controls _ refl refl tt refl) refl refl;
+      decomposes = decomposes_by four_controls _ _ _ _ _ _ (valid_by four_controls _ refl)
+          (parameter_by four_controls _ refl refl tt refl) refl refl;
       big = refl;
       next_node = refl;
       next_edge = refl;
@@ -136,8 +136,8 @@ part_discarded =
       context = context_of [] (3 ∷ []) (Region 0 ∷ []) (tied (Port 1 0) (Edge 3) ∷ []) 1 [];
       edges = [];
       parameter = parameter_of (node_k 1 (Region 0) (Outer (Port 1 0)) ∷ []) 1 (Port 1 0 ∷ []);
-      decomposes = decomposes_by three_controls _ _ _ _ _ _ (valid_by three_controls _ refl)
-          (parameter_by three_controls _ refl refl (refl, tt) refl) refl refl;
+      decomposes = decomposes_by four_controls _ _ _ _ _ _ (valid_by four_controls _ refl)
+          (parameter_by four_controls _ refl refl (refl, tt) refl) refl refl;
       big = refl;
       next_node = refl;
       next_edge = refl;
