@@ -1,5 +1,5 @@
 -- Tests of the local conditions, for small cases: a test that passes tells its condition.
-use Rattle.std.proofs.Common.{◌≡◌, ℕ, zero, suc, ◌<◌, Bool, true, false, not, ◌&&◌, ◌||◌, eqb, None, List, [], ◌∷◌, length, map, refl, sym, ap, subst, ◌∙◌, ◌⊎◌, inl, inr, eqb-true, eq-eqb}
+use Rattle.std.proofs.Common.{◌≡◌, ℕ, zero, suc, ◌<◌, Bool, true, false, not, ◌&&◌, ◌||◌, eqb, List, [], ◌∷◌, length, refl, sym, ap, subst, ◌∙◌, ◌⊎◌, inl, inr, eqb-true, eq-eqb}
 use Rattle.std.specs.List.{list_all, list_any}
 use Rattle.std.proofs.lemmas.Bool.{and_parts, or_cases, false≢true}
 use Rattle.bg_lists.specs.Lists.{Mem, At, at_here, at_there}
@@ -169,9 +169,12 @@ module _ (host pattern : Big) (nodes : List ℕ) where
   images_tell e row m =
       let w = member_from_list_any (has_image row) host.nodes (list_all-member (λ row. list_any (has_image row) host.nodes) pattern.nodes e m) in
       let one = and_parts (is_image row w.0) (eqb w.0.control row.control && eqb (length w.0.links) (length row.links)) w.2 in
-      let two = and_parts (eqb w.0.control row.control) (eqb (length w.0.links) (length row.links)) one.1 in
-      (w.0, record { of_pattern = m; of_host = w.1; same = eqb-true w.0.id (image_of pattern nodes row.id) one.0 },
-      eqb-true w.0.control row.control two.0, eqb-true (length w.0.links) (length row.links) two.1)
+      let two = and_parts (eqb w.0.control row.control) (eqb (length w.0.links) (length row.links)) one.1 in (
+        w.0,
+        record { of_pattern = m; of_host = w.1; same = eqb-true w.0.id (image_of pattern nodes row.id) one.0 },
+        eqb-true w.0.control row.control two.0,
+        eqb-true (length w.0.links) (length row.links) two.1,
+      )
 
   pub nested_tells : conditions.nested ≡ true → (row image : NodeRow) (node : ℕ) → IsImage host pattern nodes row image → row.parent ≡ Node node
       → image.parent ≡ Node (image_of pattern nodes node)
@@ -231,21 +234,25 @@ module _ (host pattern : Big) (nodes : List ℕ) where
       let one = and_parts (is_image w.0 other) (eqb (length w.0.links) (length other.links) && pairs) w.2 in
       let two = and_parts (eqb (length w.0.links) (length other.links)) pairs one.1 in
       let v = At-total w.0.links port (subst (λ n. port < n) (sym (eqb-true (length w.0.links) (length other.links) two.0)) (At-below a)) in
-      let test = pair_passes (λ own link. implies (same_link own (Edge image)) (same_link link (Edge edge))) other.links w.0.links two.1 a v.1 in
-      (w.0, record { of_pattern = w.1; of_host = m; same = eqb-true other.id (image_of pattern nodes w.0.id) one.0 },
-      At-same (same_link_from_test v.0 (Edge edge) (implied (same_link (Edge image) (Edge image)) (same_link v.0 (Edge edge)) test (same_link-by (Edge image) (Edge image) refl))) v.1)
+      let test = pair_passes (λ own link. implies (same_link own (Edge image)) (same_link link (Edge edge))) other.links w.0.links two.1 a v.1 in (
+        w.0,
+        record { of_pattern = w.1; of_host = m; same = eqb-true other.id (image_of pattern nodes w.0.id) one.0 },
+        At-same (same_link_from_test v.0 (Edge edge) (implied (same_link (Edge image) (Edge image)) (same_link v.0 (Edge edge)) test (same_link-by (Edge image) (Edge image) refl))) v.1,
+      )
 
   pub closed_tells : conditions.closed ≡ true → (edge : ℕ) → Mem edge pattern.edges → (image : ℕ) × IsEdgeImage host pattern nodes edge image
   closed_tells e edge m =
       let w = member_from_list_any (is_edge_image edge) host.edges (list_all-member (λ edge. list_any (is_edge_image edge) host.edges) pattern.edges e m) in
-      let parts = and_parts (each_image (is_onto edge w.0)) (list_all (is_only edge w.0) host.nodes) w.2 in
-      (w.0, record {
-        onto = λ row other port link is a b. same_link_from_test link (Edge w.0)
-            (implied (same_link (Edge edge) (Edge edge)) (same_link link (Edge w.0))
-            (pair_passes (λ link own. implies (same_link link (Edge edge)) (same_link own (Edge w.0))) row.links other.links (image_passes (is_onto edge w.0) parts.0 is) a b)
-            (same_link-by (Edge edge) (Edge edge) refl));
-        only = only_from edge w.0 parts.1;
-      })
+      let parts = and_parts (each_image (is_onto edge w.0)) (list_all (is_only edge w.0) host.nodes) w.2 in (
+        w.0,
+        record {
+          onto = λ row other port link is a b. same_link_from_test link (Edge w.0)
+              (implied (same_link (Edge edge) (Edge edge)) (same_link link (Edge w.0))
+              (pair_passes (λ link own. implies (same_link link (Edge edge)) (same_link own (Edge w.0))) row.links other.links (image_passes (is_onto edge w.0) parts.0 is) a b)
+              (same_link-by (Edge edge) (Edge edge) refl));
+          only = only_from edge w.0 parts.1;
+        },
+      )
 
   -- where all hold, the nodes meet the local conditions
   pub all_tell : conditions ≡ all_hold → MeetsLocally host pattern nodes

@@ -1,6 +1,6 @@
 -- Tests that compute, for small cases: they tell that a bigraph is valid, that it is a pattern, and that a host is made of
 -- a context, a pattern and a parameter.
-use Rattle.std.proofs.Common.{◌≡◌, ℕ, zero, suc, ◌+◌, ◌≤◌, ◌<◌, Bool, true, false, not, cond, ◌&&◌, eqb, ltb, None, List, [], ◌∷◌, ◌++◌, map, length, All, refl, sym, ap, arith, nat_cmp, eqb-true, eq-eqb, ltb-true, inl, inr, ◌∙◌}
+use Rattle.std.proofs.Common.{◌≡◌, ℕ, zero, suc, ◌+◌, ◌≤◌, ◌<◌, Bool, true, false, not, ◌&&◌, eqb, ltb, None, List, [], ◌∷◌, map, length, All, refl, sym, ap, arith, nat_cmp, eqb-true, eq-eqb, ltb-true, inl, inr, ◌∙◌}
 use Rattle.std.specs.Option.{is_some}
 use Rattle.std.specs.Ordering.{eq_by_cmp}
 use Rattle.std.specs.List.{list_all, AllByRecursion, IsDistinct}

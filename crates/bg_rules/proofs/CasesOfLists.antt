@@ -1,5 +1,5 @@
 -- All occurrences of a pattern, listed.
-use Rattle.std.proofs.Common.{◌≡◌, ℕ, Less, eqb, List, [], ◌∷◌, length, refl, sym, ap, ap₂, subst, ◌∙◌, ◌⊎◌, inl, inr, arith}
+use Rattle.std.proofs.Common.{◌≡◌, ℕ, Less, eqb, List, [], ◌∷◌, refl, sym, ap, ap₂, subst, ◌∙◌, ◌⊎◌, inl, inr, arith}
 use Rattle.std.specs.Ordering.{nat_cmp, eq_by_cmp}
 use Rattle.std.specs.Cmp.Lexicographic.{slice_cmp}
 use Rattle.std.specs.List.{IsDistinct}
@@ -19,7 +19,7 @@ use Rattle.bg_rules.specs.LocalConditions.{MeetsLocally}
 use Rattle.bg_rules.specs.Occurrences.{AreOccurrences}
 use Rattle.bg_rules.proofs.Occurrences.{locally_occurs}
 use Rattle.bg_rules.proofs.CaseTests.{pattern_by, ground_by, locally_by, unlike, the_only}
-use Rattle.bg_rules.proofs.CaseConditions.{conditions, all_hold, all_tell}
+use Rattle.bg_rules.proofs.CaseConditions.{all_tell}
 use Rattle.bg_rules.proofs.CaseRows.{four_controls, node_a, node_b, in_places, a_open, a_alone}
 
 abbrev Below : List ℕ → List ℕ → Type 0
@@ -64,8 +64,8 @@ at_each_a =
     record {
       ascend = two_ascend (0 ∷ []) (1 ∷ []) refl;
       occur = member_of_all (Occurs nested_host a_open) ((0 ∷ []) ∷ (1 ∷ []) ∷ []) (
-          locally_occurs nested_host a_open is ground (0 ∷ []) (all_tell _ _ _ refl),
-          (locally_occurs nested_host a_open is ground (1 ∷ []) (all_tell _ _ _ refl), tt),
+        locally_occurs nested_host a_open is ground (0 ∷ []) (all_tell _ _ _ refl),
+        (locally_occurs nested_host a_open is ground (1 ∷ []) (all_tell _ _ _ refl), tt),
       );
       all = λ nodes occurs. found nodes (locally_by four_controls occurs refl refl refl refl);
     }
@@ -113,8 +113,8 @@ both_orders =
     record {
       ascend = two_ascend (0 ∷ 1 ∷ []) (1 ∷ 0 ∷ []) refl;
       occur = member_of_all (Occurs twins twins) ((0 ∷ 1 ∷ []) ∷ (1 ∷ 0 ∷ []) ∷ []) (
-          locally_occurs twins twins is ground (0 ∷ 1 ∷ []) (all_tell _ _ _ refl),
-          (locally_occurs twins twins is ground (1 ∷ 0 ∷ []) (all_tell _ _ _ refl), tt),
+        locally_occurs twins twins is ground (0 ∷ 1 ∷ []) (all_tell _ _ _ refl),
+        (locally_occurs twins twins is ground (1 ∷ 0 ∷ []) (all_tell _ _ _ refl), tt),
       );
       all = λ nodes occurs. found_twins nodes (locally_by four_controls occurs refl refl refl refl);
     }

@@ -1,6 +1,6 @@
 -- Why a pattern has no inner name, and only plain outer names: without that the local conditions hold where nothing occurs,
 -- since the identity on the names of the parameter's ports cannot stand beside it.
-use Rattle.std.proofs.Common.{◌≡◌, ℕ, ◌+◌, ◌<◌, Bool, true, false, List, [], ◌∷◌, ◌++◌, map, length, refl, sym, ap, subst, ◌∙◌, eqb, inl, inr, arith}
+use Rattle.std.proofs.Common.{◌≡◌, ℕ, ◌<◌, Bool, true, false, List, [], ◌∷◌, map, length, refl, sym, ap, subst, ◌∙◌, eqb, inl, inr, arith}
 use Rattle.std.specs.Option.{is_some}
 use Rattle.std.proofs.lemmas.Bool.{false≢true}
 use Rattle.std.proofs.lemmas.List.{length-map}
@@ -19,7 +19,7 @@ use Rattle.bg_base.specs.Bigraph.{IsValid, IsGround, inner_cmp, outer_of}
 use Rattle.bg_base.specs.Composition.{compose, inner_names, row_through, link_through}
 use Rattle.bg_base.specs.Elementary.{counted, identity, row_to_itself}
 use Rattle.bg_base.specs.Faults.{fault_of, sites_fault, inner_fault, outer_fault, edges_fault, nodes_fault}
-use Rattle.bg_base.specs.Instance.{along, node_numbers, rename}
+use Rattle.bg_base.specs.Instance.{along, rename}
 use Rattle.bg_base.specs.Products.{tensor}
 use Rattle.bg_base.proofs.Composed.{nodes_apart, Mem-compose_upper, Mem-compose_cases}
 use Rattle.bg_rules.specs.Decomposition.{frame, names_of, IsParameter, Occurs}
@@ -28,9 +28,9 @@ use Rattle.bg_rules.specs.LocalConditions.{MeetsLocally}
 use Rattle.bg_rules.proofs.Patterns.{parent_there, place_node, number_row}
 use Rattle.bg_rules.proofs.PortNames.{Mem-names_of}
 use Rattle.bg_rules.proofs.CaseTests.{valid_by, ground_by, unlike, the_only}
-use Rattle.bg_rules.proofs.CaseConditions.{conditions, all_hold, all_tell}
+use Rattle.bg_rules.proofs.CaseConditions.{all_tell}
 use Rattle.bg_rules.proofs.CasesOfPatterns.{clauses}
-use Rattle.bg_rules.proofs.CaseRows.{four_controls, node_a, node_k, in_places, with_links, context_of, tied, x, y}
+use Rattle.bg_rules.proofs.CaseRows.{four_controls, node_a, node_k, with_links, context_of, tied, x, y}
 
 -- the bigraph is valid and meets just these clauses, its nodes meet the local conditions, and yet it does not occur there
 record Fails (host pattern : Big) (nodes : List ℕ) (met : List Bool) : Type 0 where

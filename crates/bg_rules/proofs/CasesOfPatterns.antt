@@ -1,6 +1,6 @@
 -- Why a pattern is solid, and has no idle edge: for a clause left out, a bigraph that meets all the others, and a host that
 -- has two decompositions at the same nodes.
-use Rattle.std.proofs.Common.{◌≡◌, ℕ, ◌<◌, Bool, true, false, ltb, eqb, List, [], ◌∷◌, length, refl, sym}
+use Rattle.std.proofs.Common.{◌≡◌, ℕ, Bool, true, false, ltb, eqb, List, [], ◌∷◌, length, refl, sym}
 use Rattle.std.specs.List.{list_all, list_any}
 use Rattle.bg_lists.specs.Lists.{put, sort}
 use Rattle.bg_base.specs.declared.names.Name.{Name}

@@ -1,7 +1,7 @@
 -- Why the parts of a decomposition are valid: without that the whole is made of parts that are none, or of many.
-use Rattle.std.proofs.Common.{◌≡◌, Bool, true, [], ◌∷◌, refl, sym}
+use Rattle.std.proofs.Common.{◌≡◌, true, [], ◌∷◌, refl}
 use Rattle.std.proofs.lemmas.Bool.{false≢true}
-use Rattle.bg_lists.specs.Lists.{put, sort, here, there}
+use Rattle.bg_lists.specs.Lists.{put, sort, here}
 use Rattle.bg_lists.proofs.Words.{All-member}
 use Rattle.bg_base.specs.declared.names.Place.TheVariants.{Node, Region}
 use Rattle.bg_base.specs.declared.big.NodeRow.{NodeRow}

@@ -1,8 +1,8 @@
 -- Cases where a pattern does not occur since one of the local conditions fails: the others hold.
-use Rattle.std.proofs.Common.{◌≡◌, ℕ, length, List, [], ◌∷◌, true, false, refl, sym, ap, subst, ◌∙◌, inl, inr, eqb}
+use Rattle.std.proofs.Common.{◌≡◌, ℕ, length, List, [], ◌∷◌, false, refl, sym, ap, subst, ◌∙◌, inl, inr, eqb}
 use Rattle.std.specs.List.{IsDistinct}
 use Rattle.std.proofs.lemmas.Bool.{false≢true}
-use Rattle.bg_lists.specs.Lists.{Mem, here, there, At, at_here, at_there}
+use Rattle.bg_lists.specs.Lists.{here, there, At, at_here, at_there}
 use Rattle.bg_lists.proofs.Members.{Mem-cons_cases}
 use Rattle.bg_base.specs.declared.names.Place.TheVariants.{Node, Region}
 use Rattle.bg_base.specs.declared.names.Link.{Link}
@@ -20,7 +20,7 @@ use Rattle.bg_rules.specs.LocalConditions.{at_place, above, image_of}
 use Rattle.bg_rules.proofs.Occurrences.{occurs_locally}
 use Rattle.bg_rules.proofs.CaseConditions.{Conditions, conditions, all_hold}
 use Rattle.bg_rules.proofs.CaseTests.{pattern_by, ground_by, unlike, not_among, the_only, locally_by, no_image}
-use Rattle.bg_rules.proofs.CaseRows.{control_of, four_controls, node_a, node_b, node_k, node_l, in_places, with_links, x, y, z, a_open, a_alone, b_in_a, a_beside_b, a_with_b, two_k_on_x, two_k_closed, l_half_closed, two_closed_links}
+use Rattle.bg_rules.proofs.CaseRows.{control_of, four_controls, node_a, node_b, node_k, node_l, in_places, with_links, x, y, z, a_alone, b_in_a, a_beside_b, a_with_b, two_k_on_x, two_k_closed, l_half_closed, two_closed_links}
 
 -- the pattern does not occur at these nodes of the host, and all these conditions hold
 record DoesNotOccur (host pattern : Big) (nodes : List ℕ) (hold : Conditions) : Type 0 where
@@ -35,8 +35,8 @@ unfolding along counted fault_of sites_fault inner_fault outer_fault edges_fault
 another_control =
     record {
       never = λ occurs. let local = locally_by four_controls occurs refl refl refl refl in
-        let w = local.images (node_a 0 (Region 0)) (here refl) in
-        unlike (eqb 1) 1 0 refl refl (ap (λ (row : NodeRow). row.control) (the_only (node_b 0 (Region 0)) w.0 w.1.of_host) ∙ w.2);
+          let w = local.images (node_a 0 (Region 0)) (here refl) in
+          unlike (eqb 1) 1 0 refl refl (ap (λ (row : NodeRow). row.control) (the_only (node_b 0 (Region 0)) w.0 w.1.of_host) ∙ w.2);
       others = refl;
     }
 
@@ -54,8 +54,8 @@ unfolding along counted fault_of sites_fault inner_fault outer_fault edges_fault
 another_number_of_ports =
     record {
       never = λ occurs. let local = occurs_locally _ _ (pattern_by other_controls k_without_port refl refl) (ground_by four_controls _ refl refl) (0 ∷ []) occurs in
-        let w = local.images (record { id = 0; control = 2; parent = Region 0; links = [] }) (here refl) in
-        unlike (eqb 1) 1 0 refl refl (ap (λ (row : NodeRow). length row.links) (the_only (node_k 0 (Region 0) (Outer y)) w.0 w.1.of_host) ∙ w.3);
+          let w = local.images (record { id = 0; control = 2; parent = Region 0; links = [] }) (here refl) in
+          unlike (eqb 1) 1 0 refl refl (ap (λ (row : NodeRow). length row.links) (the_only (node_k 0 (Region 0) (Outer y)) w.0 w.1.of_host) ∙ w.3);
       others = refl;
     }
 
@@ -65,8 +65,8 @@ unfolding along counted fault_of sites_fault inner_fault outer_fault edges_fault
 node_not_there =
     record {
       never = λ occurs. let local = locally_by four_controls occurs refl refl refl refl in
-        let w = local.images (node_a 0 (Region 0)) (here refl) in
-        unlike (eqb 0) 0 7 refl refl (ap (λ (row : NodeRow). row.id) (the_only (node_a 0 (Region 0)) w.0 w.1.of_host) ∙ w.1.same);
+          let w = local.images (node_a 0 (Region 0)) (here refl) in
+          unlike (eqb 0) 0 7 refl refl (ap (λ (row : NodeRow). row.id) (the_only (node_a 0 (Region 0)) w.0 w.1.of_host) ∙ w.1.same);
       others = refl;
     }
 
@@ -76,7 +76,7 @@ unfolding along counted fault_of sites_fault inner_fault outer_fault edges_fault
 too_few_nodes =
     record {
       never = λ occurs. let local = locally_by four_controls occurs refl refl refl refl in
-        unlike (eqb 2) 2 1 refl refl local.nodes_new.as_many;
+          unlike (eqb 2) 2 1 refl refl local.nodes_new.as_many;
       others = refl;
     }
 
@@ -86,7 +86,7 @@ unfolding along counted fault_of sites_fault inner_fault outer_fault edges_fault
 one_node_twice =
     record {
       never = λ occurs. let local = locally_by four_controls occurs refl refl refl refl in
-        false≢true (sym local.nodes_new.differ.0.0);
+          false≢true (sym local.nodes_new.differ.0.0);
       others = refl;
     }
 
@@ -98,8 +98,8 @@ unfolding along counted fault_of sites_fault inner_fault outer_fault edges_fault
 not_nested =
     record {
       never = λ occurs. let local = locally_by four_controls occurs refl refl refl refl in
-        unlike (same_place (Region 0)) (Region 0) (Node 0) refl refl
-        (local.nested (node_b 1 (Node 0)) (node_b 1 (Region 0)) 0 (record { of_pattern = there (here refl); of_host = there (here refl); same = refl }) refl);
+          unlike (same_place (Region 0)) (Region 0) (Node 0) refl refl
+          (local.nested (node_b 1 (Node 0)) (node_b 1 (Region 0)) 0 (record { of_pattern = there (here refl); of_host = there (here refl); same = refl }) refl);
       others = refl;
     }
 
@@ -111,8 +111,8 @@ unfolding along counted fault_of sites_fault inner_fault outer_fault edges_fault
 child_without_a_site =
     record {
       never = λ occurs. let local = locally_by four_controls occurs refl refl refl refl in
-        elim (local.children (node_b 1 (Node 0)) 0 (there (here refl)) (here refl) refl)
-        [ inl m ↦ not_among 1 (0 ∷ []) refl m | inr m ↦ elim m [ ] ];
+          elim (local.children (node_b 1 (Node 0)) 0 (there (here refl)) (here refl) refl)
+          [ inl m ↦ not_among 1 (0 ∷ []) refl m | inr m ↦ elim m [ ] ];
       others = refl;
     }
 
@@ -124,9 +124,9 @@ unfolding along counted fault_of sites_fault inner_fault outer_fault edges_fault
 region_in_two_places =
     record {
       never = λ occurs. let local = locally_by four_controls occurs refl refl refl refl in
-        unlike (same_place (Region 0)) (Region 0) (Region 1) refl refl
-        (local.one_parent (node_a 0 (Region 0)) (node_a 0 (Region 0)) (node_b 1 (Region 0)) (node_b 1 (Region 1)) 0
-        (record { of_pattern = here refl; of_host = here refl; same = refl }) (record { of_pattern = there (here refl); of_host = there (here refl); same = refl }) refl refl);
+          unlike (same_place (Region 0)) (Region 0) (Region 1) refl refl
+          (local.one_parent (node_a 0 (Region 0)) (node_a 0 (Region 0)) (node_b 1 (Region 0)) (node_b 1 (Region 1)) 0
+          (record { of_pattern = here refl; of_host = here refl; same = refl }) (record { of_pattern = there (here refl); of_host = there (here refl); same = refl }) refl refl);
       others = refl;
     }
 
@@ -136,7 +136,7 @@ unfolding along counted fault_of sites_fault inner_fault outer_fault edges_fault
 region_in_an_image =
     record {
       never = λ occurs. let local = locally_by four_controls occurs refl refl refl refl in
-        local.clear (node_b 1 (Region 1)) (node_b 1 (Node 0)) 1 0 (record { of_pattern = there (here refl); of_host = there (here refl); same = refl }) refl (here refl) (at_place refl);
+          local.clear (node_b 1 (Region 1)) (node_b 1 (Node 0)) 1 0 (record { of_pattern = there (here refl); of_host = there (here refl); same = refl }) refl (here refl) (at_place refl);
       others = refl;
     }
 
@@ -146,8 +146,8 @@ unfolding along counted fault_of sites_fault inner_fault outer_fault edges_fault
 region_deep_in_an_image =
     record {
       never = λ occurs. let local = locally_by four_controls occurs refl refl refl refl in
-        local.clear (node_b 1 (Region 1)) (node_b 2 (Node 1)) 1 0 (record { of_pattern = there (here refl); of_host = there (there (here refl)); same = refl }) refl (here refl)
-        (above (there (here refl)) refl (at_place refl));
+          local.clear (node_b 1 (Region 1)) (node_b 2 (Node 1)) 1 0 (record { of_pattern = there (here refl); of_host = there (there (here refl)); same = refl }) refl (here refl)
+          (above (there (here refl)) refl (at_place refl));
       others = refl;
     }
 
@@ -159,10 +159,10 @@ unfolding along counted fault_of sites_fault inner_fault outer_fault edges_fault
 one_name_on_two_links =
     record {
       never = λ occurs. let local = locally_by four_controls occurs refl refl refl refl in
-        unlike (same_link (Outer y)) (Outer y) (Outer z) refl refl
-        (local.shared (node_k 0 (Region 0) (Outer x)) (node_k 0 (Region 0) (Outer y)) (node_k 1 (Region 0) (Outer x)) (node_k 1 (Region 0) (Outer z)) 0 0 (Outer x) (Outer y) (Outer z)
-        (record { of_pattern = here refl; of_host = here refl; same = refl }) (record { of_pattern = there (here refl); of_host = there (here refl); same = refl })
-        (at_here refl) (at_here refl) (at_here refl) (at_here refl));
+          unlike (same_link (Outer y)) (Outer y) (Outer z) refl refl
+          (local.shared (node_k 0 (Region 0) (Outer x)) (node_k 0 (Region 0) (Outer y)) (node_k 1 (Region 0) (Outer x)) (node_k 1 (Region 0) (Outer z)) 0 0 (Outer x) (Outer y) (Outer z)
+          (record { of_pattern = here refl; of_host = here refl; same = refl }) (record { of_pattern = there (here refl); of_host = there (here refl); same = refl })
+          (at_here refl) (at_here refl) (at_here refl) (at_here refl));
       others = refl;
     }
 
@@ -174,9 +174,9 @@ unfolding along counted fault_of sites_fault inner_fault outer_fault edges_fault
 closed_link_on_an_outer_name =
     record {
       never = λ occurs. let local = locally_by four_controls occurs refl refl refl refl in
-        let w = local.closed 0 (here refl) in
-        unlike (same_link (Outer z)) (Outer z) (Edge w.0) refl refl
-        (w.1.onto (node_k 0 (Region 0) (Edge 0)) (node_k 0 (Region 0) (Outer z)) 0 (Outer z) (record { of_pattern = here refl; of_host = here refl; same = refl }) (at_here refl) (at_here refl));
+          let w = local.closed 0 (here refl) in
+          unlike (same_link (Outer z)) (Outer z) (Edge w.0) refl refl
+          (w.1.onto (node_k 0 (Region 0) (Edge 0)) (node_k 0 (Region 0) (Outer z)) 0 (Outer z) (record { of_pattern = here refl; of_host = here refl; same = refl }) (at_here refl) (at_here refl));
       others = refl;
     }
 
@@ -186,10 +186,10 @@ unfolding along counted fault_of sites_fault inner_fault outer_fault edges_fault
 closed_link_with_a_further_point =
     record {
       never = λ occurs. let local = locally_by four_controls occurs refl refl refl refl in
-        let w = local.closed 0 (here refl) in
-        let same = w.1.onto (node_k 0 (Region 0) (Edge 0)) (node_k 0 (Region 0) (Edge 4)) 0 (Edge 4) (record { of_pattern = here refl; of_host = here refl; same = refl }) (at_here refl) (at_here refl) in
-        let v = w.1.only (node_k 2 (Region 0) (Edge 4)) 0 (there (there (here refl))) (at_here same) in
-        no_image four_controls v.1 refl local.nodes_new refl;
+          let w = local.closed 0 (here refl) in
+          let same = w.1.onto (node_k 0 (Region 0) (Edge 0)) (node_k 0 (Region 0) (Edge 4)) 0 (Edge 4) (record { of_pattern = here refl; of_host = here refl; same = refl }) (at_here refl) (at_here refl) in
+          let v = w.1.only (node_k 2 (Region 0) (Edge 4)) 0 (there (there (here refl))) (at_here same) in
+          no_image four_controls v.1 refl local.nodes_new refl;
       others = refl;
     }
 
@@ -199,10 +199,10 @@ unfolding along counted fault_of sites_fault inner_fault outer_fault edges_fault
 closed_link_with_a_point_below =
     record {
       never = λ occurs. let local = locally_by four_controls occurs refl refl refl refl in
-        let w = local.closed 0 (here refl) in
-        let same = w.1.onto (node_k 0 (Region 0) (Edge 0)) (node_k 0 (Region 0) (Edge 4)) 0 (Edge 4) (record { of_pattern = here refl; of_host = here refl; same = refl }) (at_here refl) (at_here refl) in
-        let v = w.1.only (node_k 1 (Node 0) (Edge 4)) 0 (there (here refl)) (at_here same) in
-        no_image four_controls v.1 refl local.nodes_new refl;
+          let w = local.closed 0 (here refl) in
+          let same = w.1.onto (node_k 0 (Region 0) (Edge 0)) (node_k 0 (Region 0) (Edge 4)) 0 (Edge 4) (record { of_pattern = here refl; of_host = here refl; same = refl }) (at_here refl) (at_here refl) in
+          let v = w.1.only (node_k 1 (Node 0) (Edge 4)) 0 (there (here refl)) (at_here same) in
+          no_image four_controls v.1 refl local.nodes_new refl;
       others = refl;
     }
 
@@ -215,13 +215,13 @@ unfolding along counted fault_of sites_fault inner_fault outer_fault edges_fault
 closed_link_with_a_further_port =
     record {
       never = λ occurs. let local = locally_by four_controls occurs refl refl refl refl in
-        let w = local.closed 0 (here refl) in
-        let same = w.1.onto (node_l 0 (Region 0) (Edge 0) (Outer y)) (node_l 0 (Region 0) (Edge 5) (Edge 5)) 0 (Edge 5)
-        (record { of_pattern = here refl; of_host = here refl; same = refl }) (at_here refl) (at_here refl) in
-        let v = w.1.only (node_l 0 (Region 0) (Edge 5) (Edge 5)) 1 (here refl) (at_there (at_here same)) in
-        let row = the_only (node_l 0 (Region 0) (Edge 0) (Outer y)) v.0 v.1.of_pattern in
-        unlike (same_link (Outer y)) (Outer y) (Edge 0) refl refl
-        (second_link (Edge 0) (Outer y) (Edge 0) (subst (λ (r : NodeRow). At (Edge 0) 1 r.links) (sym row) v.2));
+          let w = local.closed 0 (here refl) in
+          let same = w.1.onto (node_l 0 (Region 0) (Edge 0) (Outer y)) (node_l 0 (Region 0) (Edge 5) (Edge 5)) 0 (Edge 5)
+          (record { of_pattern = here refl; of_host = here refl; same = refl }) (at_here refl) (at_here refl) in
+          let v = w.1.only (node_l 0 (Region 0) (Edge 5) (Edge 5)) 1 (here refl) (at_there (at_here same)) in
+          let row = the_only (node_l 0 (Region 0) (Edge 0) (Outer y)) v.0 v.1.of_pattern in
+          unlike (same_link (Outer y)) (Outer y) (Edge 0) refl refl
+          (second_link (Edge 0) (Outer y) (Edge 0) (subst (λ (r : NodeRow). At (Edge 0) 1 r.links) (sym row) v.2));
       others = refl;
     }
 
@@ -235,16 +235,16 @@ unfolding along counted fault_of sites_fault inner_fault outer_fault edges_fault
 two_closed_links_on_one_edge =
     record {
       never = λ occurs. let local = locally_by four_controls occurs refl refl refl refl in
-        let w = local.closed 0 (here refl) in
-        let same = w.1.onto (node_k 0 (Region 0) (Edge 0)) (node_k 0 (Region 0) (Edge 4)) 0 (Edge 4)
-        (record { of_pattern = here refl; of_host = here refl; same = refl }) (at_here refl) (at_here refl) in
-        let v = w.1.only (node_k 1 (Region 0) (Edge 4)) 0 (there (here refl)) (at_here same) in
-        elim (Mem-cons_cases v.1.of_pattern) [
-          | inl row ↦ unlike (eqb 1) 1 0 refl refl
-              (v.1.same ∙ ap (λ (r : NodeRow). image_of two_closed_links (0 ∷ 1 ∷ []) r.id) (sym row))
-          | inr more ↦ unlike (same_link (Edge 1)) (Edge 1) (Edge 0) refl refl
-              (first_link (Edge 1) (Edge 0) (subst (λ (r : NodeRow). At (Edge 0) 0 r.links)
-              (sym (the_only (node_k 1 (Region 0) (Edge 1)) v.0 more)) v.2))
-        ];
+          let w = local.closed 0 (here refl) in
+          let same = w.1.onto (node_k 0 (Region 0) (Edge 0)) (node_k 0 (Region 0) (Edge 4)) 0 (Edge 4)
+          (record { of_pattern = here refl; of_host = here refl; same = refl }) (at_here refl) (at_here refl) in
+          let v = w.1.only (node_k 1 (Region 0) (Edge 4)) 0 (there (here refl)) (at_here same) in
+          elim (Mem-cons_cases v.1.of_pattern) [
+            | inl row ↦ unlike (eqb 1) 1 0 refl refl
+                (v.1.same ∙ ap (λ (r : NodeRow). image_of two_closed_links (0 ∷ 1 ∷ []) r.id) (sym row))
+            | inr more ↦ unlike (same_link (Edge 1)) (Edge 1) (Edge 0) refl refl
+                (first_link (Edge 1) (Edge 0) (subst (λ (r : NodeRow). At (Edge 0) 0 r.links)
+                (sym (the_only (node_k 1 (Region 0) (Edge 1)) v.0 more)) v.2))
+          ];
       others = refl;
     }
