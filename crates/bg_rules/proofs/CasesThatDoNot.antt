@@ -1,4 +1,4 @@
--- Cases where a pattern does not occur since one of the local conditions fails: the others hold.
+-- Cases where a pattern does not occur since one of the local conditions fails, and only that one.
 use Rattle.std.proofs.Common.{◌≡◌, ℕ, length, List, [], ◌∷◌, false, refl, sym, ap, subst, ◌∙◌, inl, inr, eqb}
 use Rattle.std.specs.List.{IsDistinct}
 use Rattle.std.proofs.lemmas.Bool.{false≢true}
@@ -22,7 +22,7 @@ use Rattle.bg_rules.proofs.CaseConditions.{Conditions, conditions, all_hold}
 use Rattle.bg_rules.proofs.CaseTests.{pattern_by, ground_by, unlike, not_among, the_only, locally_by, no_image}
 use Rattle.bg_rules.proofs.CaseRows.{control_of, four_controls, node_a, node_b, node_k, node_l, in_places, with_links, x, y, z, a_alone, b_in_a, a_beside_b, a_with_b, two_k_on_x, two_k_closed, l_half_closed, two_closed_links}
 
--- the pattern does not occur at these nodes of the host, and all these conditions hold
+-- the pattern does not occur at these nodes of the host; of the local conditions, those that hold are told by their tests
 record DoesNotOccur (host pattern : Big) (nodes : List ℕ) (hold : Conditions) : Type 0 where
   never : Occurs host pattern nodes → ⊥
   others : conditions host pattern nodes ≡ hold
@@ -71,7 +71,8 @@ node_not_there =
     }
 
 -- A.1 | B.1 in A.1 | B.1 at node 0 alone: not as many nodes as the pattern has
-too_few_nodes : DoesNotOccur (in_places (node_a 0 (Region 0) ∷ node_b 1 (Region 0) ∷ []) [] 1) a_with_b (0 ∷ []) (record all_hold { nodes_new = false })
+too_few_nodes : DoesNotOccur (in_places (node_a 0 (Region 0) ∷ node_b 1 (Region 0) ∷ []) [] 1)
+    a_with_b (0 ∷ []) (record all_hold { nodes_new = false })
 unfolding along counted fault_of sites_fault inner_fault outer_fault edges_fault nodes_fault
 too_few_nodes =
     record {
@@ -81,7 +82,8 @@ too_few_nodes =
     }
 
 -- A.1 | A.1 in A.1 at node 0 twice
-one_node_twice : DoesNotOccur (in_places (node_a 0 (Region 0) ∷ []) [] 1) (in_places (node_a 0 (Region 0) ∷ node_a 1 (Region 0) ∷ []) [] 1) (0 ∷ 0 ∷ []) (record all_hold { nodes_new = false })
+one_node_twice : DoesNotOccur (in_places (node_a 0 (Region 0) ∷ []) [] 1)
+    (in_places (node_a 0 (Region 0) ∷ node_a 1 (Region 0) ∷ []) [] 1) (0 ∷ 0 ∷ []) (record all_hold { nodes_new = false })
 unfolding along counted fault_of sites_fault inner_fault outer_fault edges_fault nodes_fault IsDistinct
 one_node_twice =
     record {
@@ -93,7 +95,8 @@ one_node_twice =
 -- ---- 2 a node in a node
 
 -- A.B.1 in A.1 | B.1: the B does not lie in the A
-not_nested : DoesNotOccur (in_places (node_a 0 (Region 0) ∷ node_b 1 (Region 0) ∷ []) [] 1) b_in_a (0 ∷ 1 ∷ []) (record all_hold { nested = false })
+not_nested : DoesNotOccur (in_places (node_a 0 (Region 0) ∷ node_b 1 (Region 0) ∷ []) [] 1)
+    b_in_a (0 ∷ 1 ∷ []) (record all_hold { nested = false })
 unfolding along counted fault_of sites_fault inner_fault outer_fault edges_fault nodes_fault
 not_nested =
     record {
@@ -106,7 +109,8 @@ not_nested =
 -- ---- 3 what else lies in an image
 
 -- A.1 in A.B.1: the A has a child, and the pattern no site for it. With the site it occurs (`child_in_the_parameter`)
-child_without_a_site : DoesNotOccur (in_places (node_a 0 (Region 0) ∷ node_b 1 (Node 0) ∷ []) [] 1) a_alone (0 ∷ []) (record all_hold { children = false })
+child_without_a_site : DoesNotOccur (in_places (node_a 0 (Region 0) ∷ node_b 1 (Node 0) ∷ []) [] 1)
+    a_alone (0 ∷ []) (record all_hold { children = false })
 unfolding along counted fault_of sites_fault inner_fault outer_fault edges_fault nodes_fault
 child_without_a_site =
     record {
@@ -119,7 +123,8 @@ child_without_a_site =
 -- ---- 4 the places of the pattern's regions
 
 -- A.1 | B.1 in A.1 || B.1: the nodes of one region lie in two places. As A.1 || B.1 they occur (`regions_in_two_places`)
-region_in_two_places : DoesNotOccur (in_places (node_a 0 (Region 0) ∷ node_b 1 (Region 1) ∷ []) [] 2) a_with_b (0 ∷ 1 ∷ []) (record all_hold { one_parent = false })
+region_in_two_places : DoesNotOccur (in_places (node_a 0 (Region 0) ∷ node_b 1 (Region 1) ∷ []) [] 2)
+    a_with_b (0 ∷ 1 ∷ []) (record all_hold { one_parent = false })
 unfolding along counted fault_of sites_fault inner_fault outer_fault edges_fault nodes_fault
 region_in_two_places =
     record {
@@ -130,8 +135,9 @@ region_in_two_places =
       others = refl;
     }
 
--- A.1 || B.1 in A.B.1: a region lies in an image of the pattern. The A may have its child B, which is an image
-region_in_an_image : DoesNotOccur (in_places (node_a 0 (Region 0) ∷ node_b 1 (Node 0) ∷ []) [] 1) a_beside_b (0 ∷ 1 ∷ []) (record all_hold { clear = false })
+-- A.1 || B.1 in A.B.1: a region lies in an image of the pattern. That the A has a child is no hindrance, since the child is an image
+region_in_an_image : DoesNotOccur (in_places (node_a 0 (Region 0) ∷ node_b 1 (Node 0) ∷ []) [] 1)
+    a_beside_b (0 ∷ 1 ∷ []) (record all_hold { clear = false })
 unfolding along counted fault_of sites_fault inner_fault outer_fault edges_fault nodes_fault
 region_in_an_image =
     record {
@@ -141,7 +147,8 @@ region_in_an_image =
     }
 
 -- A.id || B.1 in A.A.B.1, at the outer A: an image lies further up
-region_deep_in_an_image : DoesNotOccur (in_places (node_a 0 (Region 0) ∷ node_a 1 (Node 0) ∷ node_b 2 (Node 1) ∷ []) [] 1) (in_places (node_a 0 (Region 0) ∷ node_b 1 (Region 1) ∷ []) (Node 0 ∷ []) 2) (0 ∷ 2 ∷ []) (record all_hold { clear = false })
+region_deep_in_an_image : DoesNotOccur (in_places (node_a 0 (Region 0) ∷ node_a 1 (Node 0) ∷ node_b 2 (Node 1) ∷ []) [] 1)
+    (in_places (node_a 0 (Region 0) ∷ node_b 1 (Region 1) ∷ []) (Node 0 ∷ []) 2) (0 ∷ 2 ∷ []) (record all_hold { clear = false })
 unfolding along counted fault_of sites_fault inner_fault outer_fault edges_fault nodes_fault
 region_deep_in_an_image =
     record {
@@ -153,8 +160,9 @@ region_deep_in_an_image =
 
 -- ---- 5 ports with one link
 
--- K{x} | K{x} in K{y} | K{z}: the host ties the ports to two links. As K{x} | K{y} they would occur
-one_name_on_two_links : DoesNotOccur (with_links (node_k 0 (Region 0) (Outer y) ∷ node_k 1 (Region 0) (Outer z) ∷ []) [] (y ∷ z ∷ []) 1) two_k_on_x (0 ∷ 1 ∷ []) (record all_hold { shared = false })
+-- K{x} | K{x} in K{y} | K{z}: the host ties the ports to two links. As K{x} | K{y} they occur (`two_names_on_two_links`)
+one_name_on_two_links : DoesNotOccur (with_links (node_k 0 (Region 0) (Outer y) ∷ node_k 1 (Region 0) (Outer z) ∷ []) [] (y ∷ z ∷ []) 1)
+    two_k_on_x (0 ∷ 1 ∷ []) (record all_hold { shared = false })
 unfolding along counted fault_of sites_fault inner_fault outer_fault edges_fault nodes_fault
 one_name_on_two_links =
     record {
@@ -169,7 +177,8 @@ one_name_on_two_links =
 -- ---- 6 closed links
 
 -- /x (K{x} | K{x}) in K{z} | K{z}: the host has an outer name there, which a context could tie further
-closed_link_on_an_outer_name : DoesNotOccur (with_links (node_k 0 (Region 0) (Outer z) ∷ node_k 1 (Region 0) (Outer z) ∷ []) [] (z ∷ []) 1) two_k_closed (0 ∷ 1 ∷ []) (record all_hold { closed = false })
+closed_link_on_an_outer_name : DoesNotOccur (with_links (node_k 0 (Region 0) (Outer z) ∷ node_k 1 (Region 0) (Outer z) ∷ []) [] (z ∷ []) 1)
+    two_k_closed (0 ∷ 1 ∷ []) (record all_hold { closed = false })
 unfolding along counted fault_of sites_fault inner_fault outer_fault edges_fault nodes_fault
 closed_link_on_an_outer_name =
     record {
@@ -181,7 +190,8 @@ closed_link_on_an_outer_name =
     }
 
 -- /x (K{x} | K{x}) in /z (K{z} | K{z} | K{z}): the edge has a further point. With the pattern open they occur (`one_name_on_one_edge`)
-closed_link_with_a_further_point : DoesNotOccur (with_links (node_k 0 (Region 0) (Edge 4) ∷ node_k 1 (Region 0) (Edge 4) ∷ node_k 2 (Region 0) (Edge 4) ∷ []) (4 ∷ []) [] 1) two_k_closed (0 ∷ 1 ∷ []) (record all_hold { closed = false })
+closed_link_with_a_further_point : DoesNotOccur (with_links (node_k 0 (Region 0) (Edge 4) ∷ node_k 1 (Region 0) (Edge 4) ∷ node_k 2 (Region 0) (Edge 4) ∷ []) (4 ∷ []) [] 1)
+    two_k_closed (0 ∷ 1 ∷ []) (record all_hold { closed = false })
 unfolding along counted fault_of sites_fault inner_fault outer_fault edges_fault nodes_fault
 closed_link_with_a_further_point =
     record {
@@ -194,7 +204,8 @@ closed_link_with_a_further_point =
     }
 
 -- /x K{x}.id in /z K{z}.K{z}.1, at node 0: the further point lies in the parameter
-closed_link_with_a_point_below : DoesNotOccur (with_links (node_k 0 (Region 0) (Edge 4) ∷ node_k 1 (Node 0) (Edge 4) ∷ []) (4 ∷ []) [] 1) (record (with_links (node_k 0 (Region 0) (Edge 0) ∷ []) (0 ∷ []) [] 1) { sites = Node 0 ∷ [] }) (0 ∷ []) (record all_hold { closed = false })
+closed_link_with_a_point_below : DoesNotOccur (with_links (node_k 0 (Region 0) (Edge 4) ∷ node_k 1 (Node 0) (Edge 4) ∷ []) (4 ∷ []) [] 1)
+    (record (with_links (node_k 0 (Region 0) (Edge 0) ∷ []) (0 ∷ []) [] 1) { sites = Node 0 ∷ [] }) (0 ∷ []) (record all_hold { closed = false })
 unfolding along counted fault_of sites_fault inner_fault outer_fault edges_fault nodes_fault
 closed_link_with_a_point_below =
     record {
@@ -210,7 +221,8 @@ second_link : (first second link : Link) → At link 1 (first ∷ second ∷ [])
 second_link first second link (at_there (at_here e)) = e
 
 -- /x L{x, y} in /z L{z, z}: the further point is another port of the same node
-closed_link_with_a_further_port : DoesNotOccur (with_links (node_l 0 (Region 0) (Edge 5) (Edge 5) ∷ []) (5 ∷ []) [] 1) l_half_closed (0 ∷ []) (record all_hold { closed = false })
+closed_link_with_a_further_port : DoesNotOccur (with_links (node_l 0 (Region 0) (Edge 5) (Edge 5) ∷ []) (5 ∷ []) [] 1)
+    l_half_closed (0 ∷ []) (record all_hold { closed = false })
 unfolding along counted fault_of sites_fault inner_fault outer_fault edges_fault nodes_fault
 closed_link_with_a_further_port =
     record {
@@ -229,7 +241,8 @@ first_link : (first link : Link) → At link 0 (first ∷ []) → first ≡ link
 first_link first link (at_here e) = e
 
 -- /x /y (K{x} | K{y}) in /z (K{z} | K{z}): two closed links on one edge
-two_closed_links_on_one_edge : DoesNotOccur (with_links (node_k 0 (Region 0) (Edge 4) ∷ node_k 1 (Region 0) (Edge 4) ∷ []) (4 ∷ []) [] 1) two_closed_links (0 ∷ 1 ∷ [])
+two_closed_links_on_one_edge : DoesNotOccur (with_links (node_k 0 (Region 0) (Edge 4) ∷ node_k 1 (Region 0) (Edge 4) ∷ []) (4 ∷ []) [] 1)
+    two_closed_links (0 ∷ 1 ∷ [])
     (record all_hold { closed = false })
 unfolding along counted fault_of sites_fault inner_fault outer_fault edges_fault nodes_fault
 two_closed_links_on_one_edge =
