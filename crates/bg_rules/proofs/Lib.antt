@@ -19,6 +19,6 @@ mod CasesThatOccur
 mod CasesThatDoNot
 mod CasesOfValidity
 mod CasesOfPatterns
-mod CasesOfNames
+mod CasesOfLocalConditions
 mod CasesOfLists
 mod CasesOfReactions

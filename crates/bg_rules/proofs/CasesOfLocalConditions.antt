@@ -1,16 +1,18 @@
--- Why a pattern has no inner name, and only plain outer names: without that the local conditions hold where nothing occurs,
--- since the identity on the names of the parameter's ports cannot stand beside it.
-use Rattle.std.proofs.Common.{◌≡◌, ℕ, ◌<◌, Bool, true, false, List, [], ◌∷◌, map, length, refl, sym, ap, subst, ◌∙◌, eqb, inl, inr, arith}
+-- Why a pattern has no inner name, only plain outer names and no idle edge: for each of these left out, a bigraph that meets
+-- the local conditions where it does not occur.
+use Rattle.std.proofs.Common.{◌≡◌, ℕ, ◌<◌, Bool, true, false, List, [], ◌∷◌, ◌++◌, map, length, nat_cmp, refl, sym, ap, subst, ◌∙◌, eqb, inl, inr, arith}
 use Rattle.std.specs.Option.{is_some}
 use Rattle.std.proofs.lemmas.Bool.{false≢true}
-use Rattle.std.proofs.lemmas.List.{length-map}
-use Rattle.bg_lists.specs.Lists.{Mem, here, there, put, sort}
+use Rattle.std.proofs.lemmas.List.{append-nil, length-map}
+use Rattle.bg_lists.specs.Lists.{Mem, here, there, At, put, sort}
 use Rattle.bg_lists.specs.Orders.{before}
+use Rattle.bg_lists.proofs.Places.{not_At-nil}
 use Rattle.bg_lists.proofs.Sorting.{length-sort}
 use Rattle.bg_lists.proofs.Words.{All-member}
 use Rattle.bg_base.specs.declared.names.Name.{Name}
 use Rattle.bg_base.specs.declared.names.Name.TheVariants.{Port}
 use Rattle.bg_base.specs.declared.names.Place.TheVariants.{Node, Region}
+use Rattle.bg_base.specs.declared.names.Link.{Link}
 use Rattle.bg_base.specs.declared.names.Link.TheVariants.{Outer}
 use Rattle.bg_base.specs.declared.big.NodeRow.{NodeRow}
 use Rattle.bg_base.specs.declared.big.InnerRow.{InnerRow}
@@ -21,16 +23,16 @@ use Rattle.bg_base.specs.Elementary.{counted, identity, row_to_itself}
 use Rattle.bg_base.specs.Faults.{fault_of, sites_fault, inner_fault, outer_fault, edges_fault, nodes_fault}
 use Rattle.bg_base.specs.Instance.{along, rename}
 use Rattle.bg_base.specs.Products.{tensor}
-use Rattle.bg_base.proofs.Composed.{nodes_apart, Mem-compose_upper, Mem-compose_cases}
+use Rattle.bg_base.proofs.Composed.{length-compose_edges, nodes_apart, Mem-compose_upper, Mem-compose_cases}
 use Rattle.bg_rules.specs.Decomposition.{frame, names_of, IsParameter, Occurs}
 use Rattle.bg_algebra.specs.Laws.{Apart}
-use Rattle.bg_rules.specs.LocalConditions.{MeetsLocally}
+use Rattle.bg_rules.specs.LocalConditions.{IsEdgeImage, MeetsLocally}
 use Rattle.bg_rules.proofs.Patterns.{parent_there, place_node, number_row}
 use Rattle.bg_rules.proofs.PortNames.{Mem-names_of}
 use Rattle.bg_rules.proofs.CaseTests.{valid_by, ground_by, unlike, the_only}
-use Rattle.bg_rules.proofs.CaseConditions.{all_tell}
+use Rattle.bg_rules.proofs.CaseConditions.{all_tell, new_tells, images_tell, nested_tells, children_tell, one_parent_tells, clear_tells, shared_tells}
 use Rattle.bg_rules.proofs.CasesOfPatterns.{clauses}
-use Rattle.bg_rules.proofs.CaseRows.{four_controls, node_a, node_k, with_links, context_of, tied, x, y}
+use Rattle.bg_rules.proofs.CaseRows.{four_controls, node_a, node_k, in_places, with_links, context_of, tied, x, y}
 
 -- the bigraph is valid and meets just these clauses, its nodes meet the local conditions, and yet it does not occur there
 record Fails (host pattern : Big) (nodes : List ℕ) (met : List Bool) : Type 0 where
@@ -40,7 +42,7 @@ record Fails (host pattern : Big) (nodes : List ℕ) (met : List Bool) : Type 0 
   local : MeetsLocally host pattern nodes
   never : Occurs host pattern nodes → ⊥
 
--- ---- an inner name
+-- ---- an inner name: the identity on the names of the parameter's ports has not all the names that are asked for
 
 -- A.1 beside x/y, the inner name x tied to y
 abbrev a_and_inner_name : Big
@@ -67,7 +69,7 @@ inner_name =
       never = λ o. one_more o.edges o.parameter.outer o.decomposes.filled.names;
     }
 
--- ---- the name of a port
+-- ---- the name of a port: the identity on the names of the parameter's ports cannot stand beside it
 
 -- K{p}.id, where p is the name of port 0 of node 1
 abbrev k_on_port_name : Big
@@ -136,4 +138,68 @@ port_name =
       clauses_met = refl;
       local = all_tell _ _ _ refl;
       never = never_beside;
+    }
+
+-- ---- an idle edge: any number that is no edge of the host passes for its image
+
+-- A.1 with an idle edge
+abbrev a_and_idle_edge : Big
+a_and_idle_edge = with_links (node_a 0 (Region 0) ∷ []) (0 ∷ []) [] 1
+
+-- A.1
+abbrev a_without_edge : Big
+a_without_edge = in_places (node_a 0 (Region 0) ∷ []) [] 1
+
+no_port_there : {link : Link} {port : ℕ} (row : NodeRow) → Mem row (node_a 0 (Region 0) ∷ []) → At link port row.links → ⊥
+no_port_there {link} {port} row m a =
+    not_At-nil (subst (λ (r : NodeRow). At link port r.links) (sym (the_only (node_a 0 (Region 0)) row m)) a)
+
+any_image : IsEdgeImage a_without_edge a_and_idle_edge (0 ∷ []) 0 7
+any_image =
+    record {
+      onto = λ row other port link is a b. absurd (no_port_there row is.of_pattern a);
+      only = λ other port m a. absurd (no_port_there other m a);
+    }
+
+local_with_idle_edge : MeetsLocally a_without_edge a_and_idle_edge (0 ∷ [])
+unfolding along
+local_with_idle_edge =
+    record {
+      nodes_new = new_tells a_without_edge a_and_idle_edge (0 ∷ []) refl;
+      images = images_tell a_without_edge a_and_idle_edge (0 ∷ []) refl;
+      nested = nested_tells a_without_edge a_and_idle_edge (0 ∷ []) refl;
+      children = children_tell a_without_edge a_and_idle_edge (0 ∷ []) refl;
+      one_parent = one_parent_tells a_without_edge a_and_idle_edge (0 ∷ []) refl;
+      clear = clear_tells a_without_edge a_and_idle_edge (0 ∷ []) refl;
+      shared = shared_tells a_without_edge a_and_idle_edge (0 ∷ []) refl;
+      closed = λ edge m. (7, subst (λ n. IsEdgeImage a_without_edge a_and_idle_edge (0 ∷ []) n 7) (the_only 0 edge m) any_image);
+    }
+
+length-frame_edges : (edges : List ℕ) (names : List Name) → length (frame a_and_idle_edge (0 ∷ []) edges names).edges ≡ length edges
+unfolding tensor rename identity
+length-frame_edges edges names =
+    let sorted = sort (before nat_cmp) edges in
+    length-sort (before nat_cmp) (sorted ++ []) ∙ ap length (append-nil sorted) ∙ length-sort (before nat_cmp) edges
+
+-- the host would have an edge
+never_without_edge : Occurs a_without_edge a_and_idle_edge (0 ∷ []) → ⊥
+never_without_edge o =
+    let framed = frame a_and_idle_edge (0 ∷ []) o.edges o.parameter.outer in
+    let inside = compose framed o.parameter in
+    let all = length-compose_edges o.context inside in
+    let below = length-compose_edges framed o.parameter in
+    let none = ap (λ (big : Big). length big.edges) o.decomposes.whole in
+    let one = o.decomposes.edges_new.as_many in
+    let framed_edges = length-frame_edges o.edges o.parameter.outer in
+    omega (arith, all, below, none, one, framed_edges)
+
+idle_edge_without_image : Fails a_without_edge a_and_idle_edge (0 ∷ []) (true ∷ true ∷ true ∷ true ∷ true ∷ true ∷ true ∷ false ∷ [])
+unfolding along counted fault_of sites_fault inner_fault outer_fault edges_fault nodes_fault
+idle_edge_without_image =
+    record {
+      valid = valid_by four_controls _ refl;
+      ground = ground_by four_controls _ refl refl;
+      clauses_met = refl;
+      local = local_with_idle_edge;
+      never = never_without_edge;
     }
