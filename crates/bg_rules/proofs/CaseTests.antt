@@ -152,7 +152,7 @@ are_apart f g =
     supports_apart f g && (list_all (λ (row : InnerRow). not (is_some (inner_of f.inner row.name))) g.inner
     && list_all (λ (name : Name). not (is_some (outer_of f.outer name))) g.outer)
 
-apart-from_test : (f g : Big) → are_apart f g ≡ true → Apart f g
+pub apart-from_test : (f g : Big) → are_apart f g ≡ true → Apart f g
 apart-from_test f g e =
     let inner = list_all (λ (row : InnerRow). not (is_some (inner_of f.inner row.name))) g.inner in
     let outer = list_all (λ (name : Name). not (is_some (outer_of f.outer name))) g.outer in

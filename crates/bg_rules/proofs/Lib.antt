@@ -21,4 +21,5 @@ mod CasesOfValidity
 mod CasesOfPatterns
 mod CasesOfLocalConditions
 mod CasesOfLists
+mod CasesOfNothing
 mod CasesOfReactions
