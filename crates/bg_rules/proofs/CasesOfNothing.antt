@@ -1,8 +1,8 @@
 -- The empty bigraph, which is solid but for its node: it decomposes each ground host in exactly one way. So that a pattern has
 -- a node is a choice, and no need.
-use Rattle.std.proofs.Common.{◌≡◌, ℕ, zero, suc, ◌<◌, Bool, true, false, List, [], ◌∷◌, length, refl, sym, ap, ap₂, subst, ◌∙◌, ltb-true, arith}
+use Rattle.std.proofs.Common.{◌≡◌, ℕ, zero, suc, true, false, List, [], ◌∷◌, length, refl, sym, ap, ap₂, subst, ◌∙◌, ltb-true, arith}
 use Rattle.std.proofs.lemmas.Bool.{false≢true}
-use Rattle.bg_lists.specs.Lists.{Mem, here, put, sort}
+use Rattle.bg_lists.specs.Lists.{Mem, here, sort}
 use Rattle.bg_lists.proofs.Words.{All-member}
 use Rattle.bg_base.specs.declared.names.Name.{Name}
 use Rattle.bg_base.specs.declared.names.Place.{Place}
@@ -18,7 +18,7 @@ use Rattle.bg_base.specs.Products.{tensor}
 use Rattle.bg_base.proofs.CompositionTests.{FacesAgree-from_test, SupportsApart-from_test}
 use Rattle.bg_base.proofs.Climbs.{row_from_reaches}
 use Rattle.bg_algebra.proofs.CompositionLaws.{same_parts, neutral_below}
-use Rattle.bg_rules.specs.Decomposition.{frame, names_of, AreNew, Decomposes}
+use Rattle.bg_rules.specs.Decomposition.{frame, names_of, Decomposes}
 use Rattle.bg_rules.proofs.CaseTests.{parameter_by, new-from_test, apart-from_test}
 use Rattle.bg_rules.proofs.CasesOfPatterns.{clauses}
 use Rattle.bg_rules.proofs.CaseRows.{four_controls, nothing}
@@ -77,7 +77,7 @@ one_way host context edges parameter d =
     let none : parameter ≡ nothing = same_parts parameter nothing nodes is.no_edges is.ground.no_sites is.ground.no_inner regions (is.names ∙ ap names_of nodes) in
     let no_edges = nil_of_length edges d.edges_new.as_many in
     let inside : compose (frame nothing [] edges parameter.outer) parameter ≡ compose (frame nothing [] [] []) nothing
-        = ap₂ (λ (es : List ℕ) (big : Big). compose (frame nothing [] es big.outer) big) no_edges none in
+    = ap₂ (λ (es : List ℕ) (big : Big). compose (frame nothing [] es big.outer) big) no_edges none in
     let sites = sym (ap (λ (big : Big). big.regions) (inside ∙ within)) ∙ d.placed.widths in
     let names = sym (ap (λ (big : Big). big.outer) (inside ∙ within)) ∙ d.placed.names in
     (sym (around context d.context_valid sites names) ∙ ap (compose context) (sym inside) ∙ d.whole, no_edges, none)
