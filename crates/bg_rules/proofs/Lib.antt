@@ -21,3 +21,14 @@ pub mod Reactions
 pub mod Signed
 pub mod Wholes
 pub mod ReactionExamples
+mod CaseTests
+mod CaseRows
+mod CaseConditions
+mod CasesThatOccur
+mod CasesThatDoNot
+mod CasesOfValidity
+mod CasesOfPatterns
+mod CasesOfLocalConditions
+mod CasesOfLists
+mod CasesOfNothing
+mod CasesOfReactions
