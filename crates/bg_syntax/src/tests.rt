@@ -41,7 +41,7 @@ fn outcome(alloc: Global, text: &str) -> (u8, u32) {
         return (4, 0);
     }
     match parse(alloc, &tokens) {
-        Ok(tree) => (0, tree.part1.len() as u32),
+        Ok(tree) => (0, tree.part1.len().min(10_000) as u32),
         Err(SyntaxFault::Unexpected { token }) => (UNEXPECTED, token),
         Err(SyntaxFault::TooDeep { token }) => (TOO_DEEP, token),
         Err(SyntaxFault::OutOfMemory) => (1, 0),
@@ -109,6 +109,9 @@ fn keeps_tokens_by_their_numbers(rt: HostRuntime) -> Result<(), Fail> {
     let tokens = tokens(rt.alloc(), b"ctrl A = 0; big s = A.A;")
         .ok()
         .ok_or("the text has tokens")?;
+    if tokens.len() > 100 {
+        return Err("there are twelve tokens")?;
+    }
     let tree = parse(rt.alloc(), &tokens)
         .ok()
         .ok_or("the text is a model")?;
