@@ -12,3 +12,4 @@ pub mod Parameters
 pub mod Contexts
 pub mod Construct
 pub mod Occurrences
+pub mod SolidLaws

@@ -4,3 +4,6 @@ pub mod LocalConditions
 pub mod Occurrences
 pub mod Instantiation
 pub mod Reaction
+pub mod Rules
+pub mod Hosts
+pub mod Faults

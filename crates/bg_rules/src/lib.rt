@@ -1,4 +1,19 @@
-//! Patterns, and where they occur in a host.
+//! Patterns, and where they occur in a host; rules, hosts and systems.
+//!
+//! - [`first_unsolid`]: the clause of a solid bigraph that fails. [`Pattern`]: what occurs in a host.
+//! - [`Rule`] and [`Condition`]: what a reaction replaces, and where it may.
+//! - [`RuleFault`], [`ReactFault`], [`ListFault`]: why a call gives no result.
 #![tactic(auto)]
 
+mod condition;
+mod fault;
 mod laws;
+mod pattern;
+mod rule;
+mod solid;
+
+pub use condition::{Condition, Side};
+pub use fault::{ListFault, ReactFault, RuleFault};
+pub use pattern::{NotSolid, Pattern};
+pub use rule::Rule;
+pub use solid::first_unsolid;
