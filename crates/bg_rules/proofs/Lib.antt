@@ -13,3 +13,4 @@ pub mod Contexts
 pub mod Construct
 pub mod Occurrences
 pub mod SolidLaws
+pub mod Counters

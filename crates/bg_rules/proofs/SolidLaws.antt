@@ -1,15 +1,15 @@
 -- The tests of the clauses of a solid bigraph, and what they say.
-use Rattle.std.proofs.Common.{◌≡◌, ℕ, zero, suc, ◌+◌, ◌<◌, ◌≤◌, Bool, true, false, ◌&&◌, not, ◌==◌, IsTrue, Option, Some, None, List, [], ◌∷◌, length, All, refl, sym, ap, subst, ◌∙◌, inl, inr, eqb-true, eq-eqb, arith}
+use Rattle.std.proofs.Common.{◌≡◌, ℕ, zero, suc, ◌+◌, ◌<◌, Bool, true, false, not, ◌==◌, IsTrue, None, List, [], ◌∷◌, length, refl, sym, ap, subst, ◌∙◌, inl, inr, eqb-true, eq-eqb, arith}
 use Rattle.std.specs.Prelude.{◌↔◌}
 use Rattle.std.specs.List.{list_any, list_all, IsDistinct}
-use Rattle.std.proofs.lemmas.Bool.{false≢true, cases_Bool, and_parts, and_from, false_from_ne_true, not-true, not_from_false, or_left, or_right}
-use Rattle.bg_lists.specs.Lists.{Mem, here, there}
+use Rattle.std.proofs.lemmas.Bool.{false≢true, cases_Bool, and_parts, and_from, false_from_ne_true, not-true, not_from_false}
+use Rattle.bg_lists.specs.Lists.{Mem}
 use Rattle.bg_lists.proofs.Ascents.{all_of_members}
 use Rattle.bg_lists.proofs.Sorting.{IsDistinct-members}
 use Rattle.bg_lists.proofs.Words.{All-member, All-from_members, list_all-member, list_all-from_members, list_any-from_member, member_from_list_any}
 use Rattle.bg_base.specs.declared.names.Name.{Name}
 use Rattle.bg_base.specs.declared.names.Place.{Place}
-use Rattle.bg_base.specs.declared.names.Place.TheVariants.{Node, Region}
+use Rattle.bg_base.specs.declared.names.Place.TheVariants.{Region}
 use Rattle.bg_base.specs.declared.names.Link.TheVariants.{Outer}
 use Rattle.bg_base.specs.declared.big.Big.{Big}
 use Rattle.bg_base.specs.Products.{has_point}

@@ -2,11 +2,13 @@
 //!
 //! - [`first_unsolid`]: the clause of a solid bigraph that fails. [`Pattern`]: what occurs in a host.
 //! - [`Rule`] and [`Condition`]: what a reaction replaces, and where it may.
+//! - [`Host`]: a bigraph that rules change.
 //! - [`RuleFault`], [`ReactFault`], [`ListFault`]: why a call gives no result.
 #![tactic(auto)]
 
 mod condition;
 mod fault;
+mod host;
 mod laws;
 mod pattern;
 mod rule;
@@ -14,6 +16,7 @@ mod solid;
 
 pub use condition::{Condition, Side};
 pub use fault::{ListFault, ReactFault, RuleFault};
+pub use host::Host;
 pub use pattern::{NotSolid, Pattern};
 pub use rule::Rule;
 pub use solid::first_unsolid;

@@ -148,7 +148,21 @@ fn sides_agree(redex: &Big, reactum: &Big) -> bool
 fn names_agree(names: &[Name], others: &[Name]) -> bool
     ensures { IsTrue result ↔ (names.now ≡ others.now) }
 {
-    names == others
+    if names.len() != others.len() {
+        return false;
+    }
+    for (at, name) in names.iter().enumerate() {
+        if !is_name(&others[at], name) {
+            return false;
+        }
+    }
+    true
+}
+
+fn is_name(other: &Name, name: &Name) -> bool
+    ensures { IsTrue result ↔ (name.now ≡ other.now) }
+{
+    *other == *name
 }
 
 /// Whether the map has an entry for each site of the reactum, and each entry is a site of the redex.
