@@ -7,3 +7,4 @@ pub mod Reaction
 pub mod Rules
 pub mod Hosts
 pub mod Faults
+pub mod Systems
