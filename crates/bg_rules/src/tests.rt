@@ -4,7 +4,7 @@ ghost use Rattle.bg_base.specs.Bigraph.{IsValid};
 ghost use Rattle.bg_rules.specs.Rules.{IsNumberedFromZero};
 
 use crate::{Host, Pattern, Rule, RuleFault, first_unsolid};
-use bg_algebra::{AlgebraFault, atom, barren, compose, empty, identity, idle, ion, merge, merger};
+use bg_algebra::{AlgebraFault, atom, barren, compose, empty, idle, ion, merge, merger};
 use bg_base::{Big, Ident, Label, Name};
 use bg_lists::{Mem, OutOfMemory, Rows};
 use std::alloc::Global;
@@ -35,6 +35,15 @@ fn merged(alloc: Global, f: &Big, g: &Big) -> Result<Big, AlgebraFault>
     merge(alloc, f, g)
 }
 
+/// The name x, to which nothing is tied.
+fn idle_name(alloc: Global) -> Mem<Big>
+    ensures { IfOk result IsValid }
+{
+    let names = [Name::Plain(word(alloc, "x")?)];
+    let big = idle(alloc, &names)?;
+    Ok(big)
+}
+
 #[test]
 fn a_node_with_a_site_is_solid(rt: HostRuntime) -> Result<(), Fail> {
     let room = ion(rt.alloc(), A, 0, &[])?;
@@ -57,7 +66,7 @@ fn nothing_has_no_node(rt: HostRuntime) -> Result<(), Fail> {
 #[test]
 fn a_site_lies_in_no_region(rt: HostRuntime) -> Result<(), Fail> {
     let alloc = rt.alloc();
-    let beside_a_site = merged(alloc, &atom(alloc, A, 0, &[])?, &identity(alloc, 1, &[])?)?;
+    let beside_a_site = merged(alloc, &atom(alloc, A, 0, &[])?, &merger(alloc, 1)?)?;
     assert_eq!(rt; first_unsolid(&beside_a_site), Some(4));
     Ok(())
 }
@@ -73,9 +82,7 @@ fn sites_lie_apart(rt: HostRuntime) -> Result<(), Fail> {
 #[test]
 fn a_name_wants_a_point(rt: HostRuntime) -> Result<(), Fail> {
     let alloc = rt.alloc();
-    let names = [Name::Plain(word(alloc, "x")?)];
-    let unused = idle(alloc, names.as_slice())?;
-    let beside_a_name = merged(alloc, &unused, &atom(alloc, A, 0, &[])?)?;
+    let beside_a_name = merged(alloc, &idle_name(alloc)?, &atom(alloc, A, 0, &[])?)?;
     assert_eq!(rt; first_unsolid(&beside_a_name), Some(2));
     Ok(())
 }
@@ -92,13 +99,15 @@ fn names_are_plain(rt: HostRuntime) -> Result<(), Fail> {
 #[test]
 fn the_least_clause_is_named(rt: HostRuntime) -> Result<(), Fail> {
     let alloc = rt.alloc();
-    let names = [Name::Opened(3)];
-    let wire = identity(alloc, 1, names.as_slice())?;
-    assert_eq!(rt; first_unsolid(&wire), Some(1));
+    let site = merger(alloc, 1)?;
+    assert_eq!(rt; first_unsolid(&site), Some(1));
+    let beside_a_name = merged(alloc, &site, &idle_name(alloc)?)?;
+    assert_eq!(rt; first_unsolid(&beside_a_name), Some(1));
     Ok(())
 }
 
 /// A node without ports, with a site in it.
+#[tactic(auto, unfolding(bg_base::specs::Elementary::ion, bg_base::specs::Elementary::counted))]
 fn room(alloc: Global) -> Mem<Big>
     ensures valid { IfOk result IsValid }
     ensures numbered { IfOk result IsNumberedFromZero }
@@ -109,6 +118,7 @@ fn room(alloc: Global) -> Mem<Big>
 }
 
 /// A node, its port tied to x.
+#[tactic(auto, unfolding(bg_base::specs::Elementary::atom, bg_base::specs::Elementary::counted))]
 fn tied(alloc: Global) -> Mem<Big>
     ensures valid { IfOk result IsValid }
     ensures numbered { IfOk result IsNumberedFromZero }
@@ -162,6 +172,7 @@ fn a_map_leads_to_sites(rt: HostRuntime) -> Result<(), Fail> {
 }
 
 /// The host that is one node, with that number.
+#[tactic(auto, unfolding(bg_base::specs::Elementary::atom))]
 fn host_of(alloc: Global, node: u32) -> Mem<Host> {
     if node >= 2_147_483_648 {
         return Err(OutOfMemory);
