@@ -49,6 +49,18 @@ impl Host {
         }
     }
 
+    /// The host with this bigraph and these counters. Takes no memory.
+    pub fn with_counters(big: Big, next_node: u32, next_edge: u32) -> Host
+        requires { IsHost (record { big = big; next_node = next_node; next_edge = next_edge }) }
+        ensures { result ≡ record { big = big; next_node = next_node; next_edge = next_edge } }
+    {
+        Host {
+            big,
+            next_node,
+            next_edge,
+        }
+    }
+
     /// The bigraph.
     pub fn big(&self) -> &Big
         ensures same { result.now ≡ self.now.big }

@@ -3,10 +3,10 @@ ghost use Rattle.std.specs.Prelude.{◌≡◌, [], IfOk};
 ghost use Rattle.bg_base.specs.Bigraph.{IsValid};
 ghost use Rattle.bg_rules.specs.Rules.{IsNumberedFromZero};
 
-use crate::{Host, Pattern, Rule, RuleFault, first_unsolid};
+use crate::{Host, Pattern, Rule, RuleFault, System, first_unsolid};
 use bg_algebra::{AlgebraFault, atom, barren, compose, empty, idle, ion, merge, merger};
-use bg_base::{Big, Ident, Label, Name};
-use bg_lists::{Mem, OutOfMemory, Rows};
+use bg_base::{Big, Ident, Label, Name, Signature};
+use bg_lists::{Duplicate, Mem, OutOfMemory, Rows};
 use std::alloc::Global;
 use std::process::Abort;
 use std::test::Fail;
@@ -145,11 +145,23 @@ fn rule_of(alloc: Global, reactum: Big, map: Vec<u32>) -> Mem<Result<Rule, RuleF
     }
 }
 
+/// What a rule of a room and a room has.
+fn expect_rooms(rt: &impl Abort, rule: &Rule) {
+    assert_eq!(rt; rule.redex().big().nodes.len(), 1);
+    assert_eq!(rt; rule.reactum().sites.len(), 1);
+    assert_eq!(rt; rule.map().len(), 1);
+    assert_eq!(rt; rule.conditions().len(), 0);
+    assert_eq!(rt; rule.class(), 0);
+    assert_eq!(rt; rule.label().args.len(), 0);
+}
+
 #[test]
 fn a_rule_keeps_its_parts(rt: HostRuntime) -> Result<(), Fail> {
     let alloc = rt.alloc();
-    let rule = rule_of(alloc, room(alloc)?, vec![in alloc; 0]?)?;
-    assert_eq!(rt; rule.as_ref().map(|rule| rule.map().len()).ok(), Some(1));
+    match rule_of(alloc, room(alloc)?, vec![in alloc; 0]?)? {
+        Ok(rule) => expect_rooms(&rt, &rule),
+        Err(fault) => assert_eq!(rt; fault.number(), 0),
+    }
     Ok(())
 }
 
@@ -157,7 +169,7 @@ fn a_rule_keeps_its_parts(rt: HostRuntime) -> Result<(), Fail> {
 fn sides_have_the_same_names(rt: HostRuntime) -> Result<(), Fail> {
     let alloc = rt.alloc();
     let rule = rule_of(alloc, tied(alloc)?, Vec::new(alloc))?;
-    assert_eq!(rt; rule.err(), Some(RuleFault::SidesDiffer));
+    assert_eq!(rt; rule.err().map(|fault| fault.number()), Some(47));
     Ok(())
 }
 
@@ -183,8 +195,31 @@ fn host_of(alloc: Global, node: u32) -> Mem<Host> {
 
 #[test]
 fn counters_are_past_the_numbers(rt: HostRuntime) -> Result<(), Fail> {
-    let host = host_of(rt.alloc(), 7)?;
+    let host = host_of(rt.alloc(), 7)?.copy(rt.alloc())?;
     assert_eq!(rt; host.next_node(), 8);
     assert_eq!(rt; host.next_edge(), 0);
+    assert_eq!(rt; host.big().nodes.len(), 1);
+    Ok(())
+}
+
+/// The system without controls, rules and predicates, with so many classes.
+fn bare_system(alloc: Global, classes: u32) -> System {
+    let init = Host::with_counters(barren(alloc), 5, 6);
+    System::new(
+        Signature::new(alloc),
+        init,
+        Rows::from_vec(Vec::new(alloc)),
+        classes,
+        Rows::from_vec(Vec::new(alloc)),
+    )
+}
+
+#[test]
+fn a_system_keeps_its_parts(rt: HostRuntime) -> Result<(), Fail> {
+    let system = bare_system(rt.alloc(), 3);
+    assert_eq!(rt; system.classes(), 3);
+    assert_eq!(rt; system.init().next_edge(), 6);
+    assert_eq!(rt; system.signature().len(), 0);
+    assert_eq!(rt; system.rules().len() + system.preds().len(), 0);
     Ok(())
 }

@@ -1,7 +1,6 @@
 use Rattle.std.proofs.Common.{ℕ, [], refl, arith, sym, subst}
 use Rattle.bg_lists.specs.Lists.{sort}
 use Rattle.bg_lists.specs.Orders.{set_of}
-use Rattle.bg_base.specs.declared.big.Big.{Big}
 use Rattle.bg_base.specs.Bigraph.{IsValid}
 use Rattle.bg_base.specs.Elementary.{atom}
 use Rattle.bg_rules.specs.Hosts.{IsHostBig}
