@@ -1,13 +1,15 @@
 -- A decomposition and what it says row by row are the same, for a pattern or a reactum and a ground host.
-use Rattle.std.proofs.Common.{◌≡◌, ℕ, true, List, [], ◌∷◌, ◌++◌, map, length, get_or, nat_cmp, All, IsTrue, refl, sym, ap, subst, ◌∙◌, inl, inr}
+use Rattle.std.proofs.Common.{◌≡◌, ℕ, zero, suc, ◌+◌, true, List, [], ◌∷◌, ◌++◌, map, length, get_or, nat_cmp, is_eq, is_some, false, All, IsTrue, Less, refl, sym, ap, subst, ◌∙◌, ◌⊎◌, inl, inr, arith, append-nil}
+use Rattle.std.specs.Ordering.{eq_by_cmp}
+use Rattle.std.specs.List.{IsDistinct}
 use Rattle.std.specs.List.Sorted.{IsStrictlySortedBy}
 use Rattle.std.proofs.Math.ListN.{get_or-map}
 use Rattle.std.proofs.lemmas.List.{length-map, map-id}
-use Rattle.bg_lists.specs.Lists.{Mem, sort}
+use Rattle.bg_lists.specs.Lists.{Mem, here, there, sort, Disjoint}
 use Rattle.bg_lists.specs.Orders.{before}
 use Rattle.bg_lists.proofs.Members.{Mem-append_cases, Mem-map, Mem-unmap, Mem-same, map_agree, map-map}
 use Rattle.bg_lists.proofs.Sorting.{Mem-sort, Mem-unsort, Ascending-sort}
-use Rattle.bg_lists.proofs.Ascents.{sorted_from_Ascending}
+use Rattle.bg_lists.proofs.Ascents.{Ascending-from_sorted, sorted_from_Ascending}
 use Rattle.bg_lists.proofs.Words.{All-member, All-from_members}
 use Rattle.std.proofs.lemmas.Cmp.{nat_cmp_total}
 use Rattle.bg_base.specs.declared.names.Name.{Name}
@@ -19,10 +21,12 @@ use Rattle.bg_base.specs.declared.names.Link.TheVariants.{Edge, Outer}
 use Rattle.bg_base.specs.declared.big.NodeRow.{NodeRow}
 use Rattle.bg_base.specs.declared.big.InnerRow.{InnerRow}
 use Rattle.bg_base.specs.declared.big.Big.{Big}
-use Rattle.bg_base.specs.Bigraph.{IsValid, IsGround, node_cmp}
+use Rattle.bg_base.specs.Order.{name_cmp}
+use Rattle.bg_base.specs.Bigraph.{IsValid, IsGround, node_cmp, inner_cmp}
 use Rattle.bg_base.specs.Composition.{compose, inner_names, place_through, link_through, row_through, inner_through, FacesAgree, SupportsApart}
 use Rattle.bg_base.specs.Elementary.{counted, row_to_itself, identity}
-use Rattle.bg_base.specs.Instance.{node_numbers, place_renamed, link_renamed, row_renamed, inner_renamed, rename}
+use Rattle.bg_base.specs.Instance.{along, node_numbers, place_renamed, link_renamed, row_renamed, inner_renamed, rename}
+use Rattle.bg_base.specs.Products.{tensor, InnerApart, OuterApart}
 use Rattle.bg_base.proofs.LookUps.{node_cmp_total}
 use Rattle.bg_base.proofs.Composed.{SupportsApart-from_members, nodes_apart, edges_apart, Mem-compose_upper, Mem-compose_lower, Mem-compose_cases, Mem-compose_edge_upper, Mem-compose_edge_lower, Mem-compose_edge_cases, compose_nodes_ascend, compose_edges_ascend, compose_sites, compose_inner, compose_regions, compose_outer}
 use Rattle.bg_algebra.specs.Frame.{is_plain, is_port, framed}
@@ -34,7 +38,7 @@ use Rattle.bg_algebra.proofs.ProductLaws.{InnerApart-from_members, OuterApart-fr
 use Rattle.bg_algebra.proofs.CompositionLaws.{same_parts, same_nodes, same_edges}
 use Rattle.bg_rules.specs.Decomposition.{port_names, names_of, IsParameter, frame, AreNew, Decomposes}
 use Rattle.bg_rules.specs.LocalConditions.{image_of}
-use Rattle.bg_rules.proofs.Glued.{place_filled, pattern_row, parameter_row, Glued}
+use Rattle.bg_rules.proofs.Glued.{place_filled, lifted, pattern_row, parameter_row, Glued}
 
 -- the names of ports are names of ports
 ports_of : (node count : ℕ) (name : Name) → Mem name (port_names node count) → is_port name ≡ true
