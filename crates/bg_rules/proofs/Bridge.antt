@@ -1,44 +1,35 @@
 -- A decomposition and what it says row by row are the same, for a pattern or a reactum and a ground host.
-use Rattle.std.proofs.Common.{◌≡◌, ℕ, zero, suc, ◌+◌, true, List, [], ◌∷◌, ◌++◌, map, length, get_or, nat_cmp, is_eq, is_some, false, All, IsTrue, Less, refl, sym, ap, subst, ◌∙◌, ◌⊎◌, inl, inr, arith, append-nil}
-use Rattle.std.specs.Ordering.{eq_by_cmp}
-use Rattle.std.specs.List.{IsDistinct}
+use Rattle.std.proofs.Common.{◌≡◌, ℕ, List, ◌++◌, map, length, get_or, nat_cmp, refl, sym, ap, subst, ◌∙◌, inl, inr}
 use Rattle.std.specs.List.Sorted.{IsStrictlySortedBy}
 use Rattle.std.proofs.Math.ListN.{get_or-map}
-use Rattle.std.proofs.lemmas.List.{length-map, map-id}
-use Rattle.bg_lists.specs.Lists.{Mem, here, there, sort, Disjoint}
+use Rattle.std.proofs.lemmas.List.{map-id}
+use Rattle.bg_lists.specs.Lists.{Mem, sort}
 use Rattle.bg_lists.specs.Orders.{before}
-use Rattle.bg_lists.proofs.Members.{Mem-append_cases, Mem-map, Mem-unmap, Mem-same, map_agree, map-map}
+use Rattle.bg_lists.proofs.Members.{Mem-map, Mem-unmap, Mem-same, map_agree, map-map}
 use Rattle.bg_lists.proofs.Sorting.{Mem-sort, Mem-unsort, Ascending-sort}
-use Rattle.bg_lists.proofs.Ascents.{Ascending-from_sorted, sorted_from_Ascending}
-use Rattle.bg_lists.proofs.Words.{All-member, All-from_members}
+use Rattle.bg_lists.proofs.Ascents.{sorted_from_Ascending}
 use Rattle.std.proofs.lemmas.Cmp.{nat_cmp_total}
 use Rattle.bg_base.specs.declared.names.Name.{Name}
-use Rattle.bg_base.specs.declared.names.Name.TheVariants.{Plain, Port, Opened}
 use Rattle.bg_base.specs.declared.names.Place.{Place}
 use Rattle.bg_base.specs.declared.names.Place.TheVariants.{Node, Region}
 use Rattle.bg_base.specs.declared.names.Link.{Link}
 use Rattle.bg_base.specs.declared.names.Link.TheVariants.{Edge, Outer}
 use Rattle.bg_base.specs.declared.big.NodeRow.{NodeRow}
-use Rattle.bg_base.specs.declared.big.InnerRow.{InnerRow}
 use Rattle.bg_base.specs.declared.big.Big.{Big}
-use Rattle.bg_base.specs.Order.{name_cmp}
-use Rattle.bg_base.specs.Bigraph.{IsValid, IsGround, node_cmp, inner_cmp}
-use Rattle.bg_base.specs.Composition.{compose, inner_names, place_through, link_through, row_through, inner_through, FacesAgree, SupportsApart}
-use Rattle.bg_base.specs.Elementary.{counted, row_to_itself, identity}
-use Rattle.bg_base.specs.Instance.{along, node_numbers, place_renamed, link_renamed, row_renamed, inner_renamed, rename}
-use Rattle.bg_base.specs.Products.{tensor, InnerApart, OuterApart}
+use Rattle.bg_base.specs.Bigraph.{IsGround, node_cmp}
+use Rattle.bg_base.specs.Composition.{compose, place_through, link_through, row_through, inner_through, FacesAgree, SupportsApart}
+use Rattle.bg_base.specs.Elementary.{row_to_itself, identity}
+use Rattle.bg_base.specs.Instance.{node_numbers, place_renamed, link_renamed, row_renamed}
 use Rattle.bg_base.proofs.LookUps.{node_cmp_total}
 use Rattle.bg_base.proofs.Composed.{SupportsApart-from_members, nodes_apart, edges_apart, Mem-compose_upper, Mem-compose_lower, Mem-compose_cases, Mem-compose_edge_upper, Mem-compose_edge_lower, Mem-compose_edge_cases, compose_nodes_ascend, compose_edges_ascend, compose_sites, compose_inner, compose_regions, compose_outer}
-use Rattle.bg_algebra.specs.Frame.{is_plain, is_port, framed}
-use Rattle.bg_algebra.specs.Laws.{Apart}
+use Rattle.bg_algebra.specs.Frame.{framed}
 use Rattle.bg_algebra.proofs.Renamed.{renamed_numbers, renamed_distinct}
 use Rattle.bg_algebra.proofs.Through.{link_same}
-use Rattle.bg_algebra.proofs.ProductLaws.{InnerApart-from_members, OuterApart-from_members}
 use Rattle.bg_algebra.proofs.CompositionLaws.{same_parts, same_nodes, same_edges}
-use Rattle.bg_rules.specs.Decomposition.{port_names, names_of, IsParameter, frame, AreNew, Decomposes}
+use Rattle.bg_rules.specs.Decomposition.{IsParameter, frame, AreNew, Decomposes}
 use Rattle.bg_rules.specs.LocalConditions.{image_of}
 use Rattle.bg_rules.proofs.Frames.{IsSide, frame_is, frame_regions, frame_outer, frame_sites, frame_inner, frame_width, frame_names, frame_number, frame_edge, frame_apart}
-use Rattle.bg_rules.proofs.Glued.{place_filled, lifted, pattern_row, parameter_row, Glued}
+use Rattle.bg_rules.proofs.Glued.{place_filled, pattern_row, parameter_row, Glued}
 
 identity_inner : (names : List Name) → map row_to_itself names ≡ (identity 0 names).inner
 unfolding identity

@@ -1,11 +1,10 @@
 -- Lists chosen entry by entry, and the position of a place in a list.
-use Rattle.std.proofs.Common.{◌≡◌, ℕ, zero, suc, Bool, true, false, List, [], ◌∷◌, length, if◌then◌else◌, cond, refl, sym, ap, subst, ◌∙◌, inl, inr, arith}
+use Rattle.std.proofs.Common.{◌≡◌, ℕ, suc, true, false, List, [], ◌∷◌, length, if◌then◌else◌, refl, sym, ap, subst, ◌∙◌, inl, inr, arith}
 use Rattle.std.proofs.lemmas.Bool.{cond_both}
 use Rattle.bg_lists.specs.Lists.{Mem, here, there, At, at_here, at_there}
 use Rattle.bg_lists.proofs.Members.{Mem-cons_cases}
 use Rattle.bg_lists.proofs.Places.{not_At-nil, At-from_Mem, Mem-from_At, At-below, At-total}
 use Rattle.bg_base.specs.declared.names.Place.{Place}
-use Rattle.bg_base.specs.declared.names.Place.TheVariants.{Node, Region}
 use Rattle.bg_place.specs.Places.{same_place}
 use Rattle.bg_rules.proofs.Patterns.{same_place_from_test, same_place-itself}
 

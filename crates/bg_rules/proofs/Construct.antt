@@ -1,11 +1,11 @@
 -- A pattern that meets the local conditions at some nodes of a host occurs there: the host is made of a context, the
 -- pattern and a parameter. The nodes of the two are those above and below the images; the edges, the sites and the inner
 -- rows are any that fit the host, and there are such.
-use Rattle.std.proofs.Common.{◌≡◌, ℕ, zero, suc, ◌+◌, ◌<◌, not, Bool, true, false, List, [], ◌∷◌, ◌++◌, map, length, get_or, Option, Some, option_map, unwrap_or, nat_cmp, refl, sym, ap, subst, ◌∙◌, ◌⊎◌, inl, inr, arith}
-use Rattle.std.proofs.lemmas.Bool.{cases_Bool, not_from_false, not-true, cond-true, cond-false}
+use Rattle.std.proofs.Common.{◌≡◌, ℕ, ◌+◌, ◌<◌, not, List, ◌++◌, map, length, option_map, unwrap_or, refl, sym, ap, subst, ◌∙◌, ◌⊎◌, inl, inr, arith}
+use Rattle.std.proofs.lemmas.Bool.{cases_Bool, not_from_false, not-true}
 use Rattle.std.proofs.lemmas.List.{length-map}
-use Rattle.bg_lists.specs.Lists.{Mem, At, Disjoint}
-use Rattle.bg_lists.proofs.Members.{Mem-same, Mem-map, Mem-unmap, Mem-filter, Mem-unfilter, Mem-append_left, Mem-append_right, Mem-append_cases}
+use Rattle.bg_lists.specs.Lists.{Mem, At}
+use Rattle.bg_lists.proofs.Members.{Mem-same, Mem-unmap, Mem-filter, Mem-unfilter, Mem-append_left, Mem-append_right, Mem-append_cases}
 use Rattle.bg_lists.proofs.Places.{At-one, At-same, At-from_Mem, Mem-from_At, At-below, At-total, At-unmap, get_or-At, same_by_places}
 use Rattle.bg_base.specs.declared.names.Name.{Name}
 use Rattle.bg_base.specs.declared.names.Name.TheVariants.{Port}
@@ -19,20 +19,20 @@ use Rattle.bg_base.specs.declared.big.Big.{Big}
 use Rattle.bg_base.specs.Bigraph.{IsValid, IsGround}
 use Rattle.bg_base.specs.Composition.{place_through, link_through, inner_names}
 use Rattle.bg_base.specs.Elementary.{counted}
-use Rattle.bg_base.specs.Instance.{along, node_numbers, place_renamed, link_renamed}
-use Rattle.bg_base.proofs.LookUps.{has_row, inner_of-member}
+use Rattle.bg_base.specs.Instance.{along, place_renamed, link_renamed}
+use Rattle.bg_base.proofs.LookUps.{inner_of-member}
 use Rattle.bg_algebra.proofs.Nested.{Mem-counted, length-counted}
 use Rattle.bg_algebra.proofs.CompositionLaws.{At-counted}
 use Rattle.bg_rules.specs.Solid.{IsPattern}
-use Rattle.bg_rules.specs.Decomposition.{port_names, names_of, AreNew}
-use Rattle.bg_rules.specs.LocalConditions.{image_of, IsImage, IsEdgeImage, MeetsLocally}
-use Rattle.bg_rules.proofs.Glued.{place_filled, lifted, pattern_row, parameter_row, Glued}
-use Rattle.bg_rules.proofs.Patterns.{same_node_row, parent_region, link_there, edge_there, name_there, full_region, used_name, plain_name, number_row, along_at_place, edge_onto, image_row_mem}
+use Rattle.bg_rules.specs.Decomposition.{port_names, names_of}
+use Rattle.bg_rules.specs.LocalConditions.{IsImage, IsEdgeImage, MeetsLocally}
+use Rattle.bg_rules.proofs.Glued.{lifted, pattern_row, parameter_row, Glued}
+use Rattle.bg_rules.proofs.Patterns.{same_node_row, parent_region, link_there, edge_there, name_there, full_region, used_name, plain_name, number_row, along_at_place, edge_onto}
 use Rattle.bg_rules.specs.Instantiation.{is_among}
-use Rattle.bg_rules.proofs.Upwards.{is_among-none, among_cases, not_among, member_from_is_among, IsMet, not_IsMet-region, IsMet-here, meets_some, IsMet-from_meets_some, meets_some-IsMet}
-use Rattle.bg_rules.proofs.PortNames.{length-port_names, At-port_names, port_from_name, plain_not_port}
+use Rattle.bg_rules.proofs.Upwards.{is_among-none, among_cases, not_among, IsMet, not_IsMet-region, IsMet-here, meets_some, IsMet-from_meets_some}
+use Rattle.bg_rules.proofs.PortNames.{At-port_names, port_from_name, plain_not_port}
 use Rattle.bg_rules.proofs.Choices.{Choice, choose, chosen_for, position, At-position}
-use Rattle.bg_rules.proofs.Images.{pattern_edges_differ, same_below, image_control, image_links, image_port, below_image}
+use Rattle.bg_rules.proofs.Images.{pattern_edges_differ, image_control, image_links, image_port, below_image}
 use Rattle.bg_rules.proofs.Parameters.{IsInside, sites_in, cut_place, cut_row, parameter_rows, parameter_of, cut_image, cut_other, cut_length, inside_parent, Mem-parameter, inside_from_Mem, Mem-parameter_name, site_above, parameter_made}
 use Rattle.bg_rules.proofs.Contexts.{edges_left, context_rows, is_outside, context_of, IsSiteOf, Carries, by_pattern, by_parameter, FitsHost, outside_from_Mem, fit_edges_new, edge_image_there, fit_inner_up, context_valid}
 

@@ -1,16 +1,16 @@
 -- The context that a host has above the images of a pattern: its nodes are those from which, going up, no image is met. It
 -- is valid for each choice of edges, sites and inner rows that fits the host.
-use Rattle.std.proofs.Common.{◌≡◌, ℕ, ◌+◌, ◌<◌, not, Bool, true, false, List, [], ◌++◌, map, length, filter, nat_cmp, Less, refl, sym, ap, subst, ◌∙◌, ◌⊎◌, inl, inr, arith}
+use Rattle.std.proofs.Common.{◌≡◌, ℕ, not, Bool, true, List, ◌++◌, length, filter, nat_cmp, Less, refl, sym, ap, subst, ◌∙◌}
 use Rattle.std.specs.Ordering.{eq_by_cmp}
-use Rattle.std.specs.List.{list_all, IsDistinct}
+use Rattle.std.specs.List.{IsDistinct}
 use Rattle.std.specs.List.Sorted.{IsStrictlySortedBy}
-use Rattle.std.proofs.lemmas.Bool.{cases_Bool, not_from_false, not-true, false≢true, false_from_ne_true}
+use Rattle.std.proofs.lemmas.Bool.{not_from_false, not-true, false≢true, false_from_ne_true}
 use Rattle.bg_lists.specs.Lists.{Mem, At}
 use Rattle.bg_lists.specs.Orders.{Ascending}
-use Rattle.bg_lists.proofs.Members.{Mem-same, Mem-map, Mem-unmap, Mem-filter, Mem-unfilter}
+use Rattle.bg_lists.proofs.Members.{Mem-filter, Mem-unfilter}
 use Rattle.bg_lists.proofs.Places.{At-one, At-same, At-from_Mem, Mem-from_At}
 use Rattle.bg_lists.proofs.Ascents.{Ascending-append, Ascending-filter, Ascending-unmap, Ascending-from_sorted, sorted_from_Ascending}
-use Rattle.bg_lists.proofs.Sorting.{IsDistinct-from_Ascending, IsDistinct-map_on}
+use Rattle.bg_lists.proofs.Sorting.{IsDistinct-map_on}
 use Rattle.bg_lists.proofs.Words.{list_all-from_members}
 use Rattle.bg_base.specs.declared.names.Name.{Name}
 use Rattle.bg_base.specs.declared.names.Name.TheVariants.{Port}
@@ -22,7 +22,7 @@ use Rattle.bg_base.specs.declared.big.NodeRow.{NodeRow}
 use Rattle.bg_base.specs.declared.big.InnerRow.{InnerRow}
 use Rattle.bg_base.specs.declared.big.Big.{Big}
 use Rattle.bg_base.specs.Order.{name_cmp}
-use Rattle.bg_base.specs.Bigraph.{IsValid, IsGround, node_cmp, inner_cmp, has_place, has_link}
+use Rattle.bg_base.specs.Bigraph.{IsValid, node_cmp, inner_cmp, has_place, has_link}
 use Rattle.bg_base.specs.Composition.{inner_names}
 use Rattle.bg_base.specs.Instance.{along}
 use Rattle.bg_base.proofs.LookUps.{has_row, has_edge, row_of-member, row_from_row_of, member_from_has_edge, tied_numbers, apart_numbers}
@@ -34,7 +34,7 @@ use Rattle.bg_rules.specs.Decomposition.{names_of, AreNew}
 use Rattle.bg_rules.specs.LocalConditions.{IsImage, IsEdgeImage, MeetsLocally}
 use Rattle.bg_rules.proofs.Patterns.{parent_there, link_there, edge_onto, used_edge, plain_name, image_row_mem}
 use Rattle.bg_rules.specs.Instantiation.{is_among}
-use Rattle.bg_rules.proofs.Upwards.{is_among-none, is_among-member, member_from_is_among, not_among, IsMet, IsMet-here, IsMet-above, meets_some, IsMet-from_meets_some, meets_some-IsMet}
+use Rattle.bg_rules.proofs.Upwards.{is_among-none, IsMet, IsMet-here, IsMet-above, meets_some, IsMet-from_meets_some, meets_some-IsMet}
 use Rattle.bg_rules.proofs.PortNames.{names_of_ascend, plain_before_ports}
 use Rattle.bg_rules.proofs.Images.{pattern_edges_differ, same_below, image_port}
 use Rattle.bg_rules.proofs.Parameters.{IsInside, place_of_climb, parameter_rows, parameter_of, parameter_made}

@@ -1,10 +1,10 @@
 -- Whether the local conditions hold is decidable, for a pattern and a ground host.
-use Rattle.std.proofs.Common.{◌≡◌, ℕ, zero, suc, ◌==◌, true, false, Bool, List, [], ◌∷◌, map, length, is_eq, refl, sym, ap, subst, ◌∙◌, ◌⊎◌, inl, inr, eqb-true, eq-eqb, arith}
+use Rattle.std.proofs.Common.{◌≡◌, ℕ, zero, suc, ◌==◌, true, false, Bool, List, [], ◌∷◌, length, is_eq, refl, sym, ap, subst, ◌∙◌, ◌⊎◌, inl, inr, eqb-true, eq-eqb, arith}
 use Rattle.std.specs.Ordering.{eq_by_cmp, nat_cmp}
 use Rattle.std.specs.List.{IsDistinct}
-use Rattle.std.proofs.lemmas.Bool.{cases_Bool, false≢true}
+use Rattle.std.proofs.lemmas.Bool.{false≢true}
 use Rattle.bg_lists.specs.Lists.{Mem, here, there, At, at_here, at_there}
-use Rattle.bg_lists.proofs.Members.{Mem-cons_cases, Mem-same}
+use Rattle.bg_lists.proofs.Members.{Mem-cons_cases}
 use Rattle.bg_lists.proofs.Places.{Mem-from_At, At-from_Mem, At-one, At-below, At-total, not_At-nil}
 use Rattle.bg_lists.proofs.Ascents.{all_of_members, member_of_all}
 use Rattle.bg_base.specs.declared.names.Name.{Name}
@@ -15,7 +15,7 @@ use Rattle.bg_base.specs.declared.names.Link.TheVariants.{Edge, Outer}
 use Rattle.bg_base.specs.declared.big.NodeRow.{NodeRow}
 use Rattle.bg_base.specs.declared.big.Big.{Big}
 use Rattle.bg_base.specs.Order.{name_cmp}
-use Rattle.bg_base.specs.Bigraph.{IsValid, IsGround, row_of}
+use Rattle.bg_base.specs.Bigraph.{IsGround}
 use Rattle.bg_base.specs.Instance.{node_numbers}
 use Rattle.bg_base.proofs.NameLaws.{same_name_from_test, test_same_name}
 use Rattle.bg_base.proofs.LookUps.{row_from_row_of}

@@ -1,6 +1,6 @@
 -- A decomposition row by row: what it says of the rows of the host, of the context, of the pattern and of the parameter.
 -- It is the middle between decompositions and the local conditions.
-use Rattle.std.proofs.Common.{◌≡◌, ℕ, ◌⊎◌, List, [], ◌++◌, map, length}
+use Rattle.std.proofs.Common.{◌≡◌, ℕ, ◌⊎◌, List, ◌++◌, map, length}
 use Rattle.std.specs.Prelude.{slice_index_or}
 use Rattle.bg_lists.specs.Lists.{Mem, Disjoint}
 use Rattle.bg_base.specs.declared.names.Place.{Place}

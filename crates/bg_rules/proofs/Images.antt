@@ -1,19 +1,16 @@
 -- Images of a pattern's nodes in a host that meets the local conditions.
-use Rattle.std.proofs.Common.{◌≡◌, ℕ, ◌<◌, List, length, nat_cmp, refl, sym, ap, subst, ◌∙◌, arith}
+use Rattle.std.proofs.Common.{◌≡◌, ℕ, List, length, nat_cmp, sym, ap, ◌∙◌, arith}
 use Rattle.std.specs.Ordering.{eq_by_cmp}
 use Rattle.std.specs.List.{IsDistinct}
 use Rattle.bg_lists.specs.Lists.{Mem, At}
 use Rattle.bg_lists.proofs.Ascents.{Ascending-from_sorted}
 use Rattle.bg_lists.proofs.Sorting.{IsDistinct-from_Ascending}
-use Rattle.bg_lists.proofs.Members.{Mem-same}
 use Rattle.bg_lists.proofs.Places.{At-below, At-total}
 use Rattle.bg_base.specs.declared.names.Link.{Link}
 use Rattle.bg_base.specs.declared.big.NodeRow.{NodeRow}
 use Rattle.bg_base.specs.declared.big.Big.{Big}
 use Rattle.bg_base.specs.Bigraph.{IsValid}
-use Rattle.bg_base.specs.Instance.{node_numbers}
-use Rattle.bg_rules.specs.Decomposition.{AreNew}
-use Rattle.bg_rules.specs.LocalConditions.{image_of, IsImage, MeetsLocally}
+use Rattle.bg_rules.specs.LocalConditions.{IsImage, MeetsLocally}
 use Rattle.bg_rules.proofs.Patterns.{number_mem, same_node_row, image_injective, image_row}
 
 pub pattern_edges_differ : (pattern : Big) → IsValid pattern → IsDistinct (eq_by_cmp nat_cmp) pattern.edges

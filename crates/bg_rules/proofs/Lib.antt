@@ -12,6 +12,8 @@ pub mod Parameters
 pub mod Contexts
 pub mod Construct
 pub mod Occurrences
+pub mod SolidLaws
+pub mod Counters
 pub mod ParameterParts
 pub mod LateCopies
 pub mod Copies

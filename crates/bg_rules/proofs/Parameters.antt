@@ -1,31 +1,27 @@
 -- The parameter that a host has below the images of a pattern: its nodes are those that are no image and from which, going
 -- up, an image is met. It is a parameter where the host meets the local conditions.
-use Rattle.std.proofs.Common.{◌≡◌, ℕ, ◌<◌, ◌&&◌, not, Bool, true, false, List, [], map, length, filter, if◌then◌else◌, cond, nat_cmp, Less, refl, sym, ap, subst, ◌∙◌, inl, inr, arith}
-use Rattle.std.specs.List.{list_all}
+use Rattle.std.proofs.Common.{◌≡◌, ℕ, ◌<◌, ◌&&◌, not, Bool, true, List, [], map, length, filter, if◌then◌else◌, refl, sym, ap, subst, ◌∙◌, inl, inr, arith}
 use Rattle.std.specs.List.Sorted.{IsStrictlySortedBy}
 use Rattle.std.proofs.lemmas.Bool.{cond-true, cond-false, and_parts, and_from, not_from_false, not-true}
 use Rattle.std.proofs.lemmas.List.{length-map}
-use Rattle.bg_lists.specs.Lists.{Mem, At}
-use Rattle.bg_lists.specs.Orders.{asc_nil}
+use Rattle.bg_lists.specs.Lists.{Mem}
 use Rattle.bg_lists.proofs.Members.{Mem-same, Mem-map, Mem-unmap, Mem-filter, Mem-unfilter}
 use Rattle.bg_lists.proofs.Places.{At-below}
 use Rattle.bg_lists.proofs.Ascents.{Ascending-filter, Ascending-map, Ascending-from_sorted, sorted_from_Ascending}
 use Rattle.bg_lists.proofs.Words.{All-from_members, list_all-from_members}
-use Rattle.bg_base.specs.declared.names.Name.{Name}
 use Rattle.bg_base.specs.declared.names.Name.TheVariants.{Port}
 use Rattle.bg_base.specs.declared.names.Place.{Place}
 use Rattle.bg_base.specs.declared.names.Place.TheVariants.{Node, Region}
 use Rattle.bg_base.specs.declared.names.Link.TheVariants.{Outer}
 use Rattle.bg_base.specs.declared.big.NodeRow.{NodeRow}
 use Rattle.bg_base.specs.declared.big.Big.{Big}
-use Rattle.bg_base.specs.Bigraph.{IsValid, IsGround, node_cmp, has_place, has_link}
+use Rattle.bg_base.specs.Bigraph.{IsValid, node_cmp, has_place, has_link}
 use Rattle.bg_base.specs.Instance.{place_renamed}
 use Rattle.bg_base.proofs.LookUps.{has_row, has_region, has_outer, row_of-member, row_from_row_of}
 use Rattle.bg_base.proofs.Climbs.{Climb, at_region, at_node, Climb-from_place}
 use Rattle.bg_algebra.proofs.Parts.{IsSound, valid_from_rows}
-use Rattle.bg_rules.specs.Solid.{IsPattern}
 use Rattle.bg_rules.specs.Decomposition.{port_names, names_of, IsParameter}
-use Rattle.bg_rules.specs.LocalConditions.{image_of, IsImage, MeetsLocally}
+use Rattle.bg_rules.specs.LocalConditions.{MeetsLocally}
 use Rattle.bg_rules.proofs.Patterns.{number_mem, image_row, parent_there}
 use Rattle.bg_rules.specs.Instantiation.{is_among}
 use Rattle.bg_rules.proofs.Upwards.{is_among-none, among_cases, not_among, is_among-member, IsMet, not_IsMet-region, IsMet-parent, meets_some, IsMet-from_meets_some, meets_some-IsMet}

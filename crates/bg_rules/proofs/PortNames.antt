@@ -1,9 +1,9 @@
 -- The names of ports: they ascend, and each tells its node and its port.
-use Rattle.std.proofs.Common.{◌≡◌, ℕ, zero, suc, ◌+◌, ◌<◌, true, false, List, [], ◌∷◌, ◌++◌, map, length, nat_cmp, Less, Equal, refl, sym, ap, subst, ◌∙◌, ◌⊎◌, inl, inr, arith, Ordering}
+use Rattle.std.proofs.Common.{◌≡◌, ℕ, zero, suc, ◌+◌, ◌<◌, true, false, List, [], ◌∷◌, length, nat_cmp, Less, refl, sym, ap, subst, ◌∙◌, inl, inr, arith, Ordering}
 use Rattle.std.specs.Ordering.{ordering_then}
 use Rattle.std.proofs.lemmas.Cmp.{tied_itself, nat_cmp_total}
 use Rattle.std.proofs.lemmas.List.{length-map}
-use Rattle.bg_lists.specs.Lists.{Mem, here, there, At, at_here, at_there}
+use Rattle.bg_lists.specs.Lists.{Mem, here, there, At}
 use Rattle.bg_lists.specs.Orders.{Ascending, asc_nil, asc_cons}
 use Rattle.bg_lists.proofs.Comparisons.{nat_cmp-lt}
 use Rattle.bg_lists.proofs.Members.{Mem-same, Mem-append_left, Mem-append_right, Mem-append_cases, Mem-unmap}

@@ -1,7 +1,6 @@
 -- Instantiation: copies of the parts of a parameter, as the map of a rule asks (Milner, chapter 8).
 use Rattle.std.specs.Prelude.{ℕ, zero, suc, ◌+◌, Bool, false, ◌==◌, if◌then◌else◌, option_map, unwrap_or, List, [], ◌∷◌, ◌++◌, length, map, filter, take}
 use Rattle.std.specs.List.{list_any, position_or_len}
-use Rattle.std.specs.Ordering.{nat_cmp}
 use Rattle.bg_lists.specs.Lists.{sort}
 use Rattle.bg_lists.specs.Orders.{before}
 use Rattle.bg_base.specs.declared.names.Place.{Place}

@@ -5,3 +5,7 @@ pub mod Occurrences
 pub mod Instantiation
 pub mod Reaction
 pub mod Recomposition
+pub mod Rules
+pub mod Hosts
+pub mod Faults
+pub mod Systems
