@@ -1,0 +1,36 @@
+pub mod Glued
+pub mod Patterns
+pub mod Bridge
+pub mod Decide
+pub mod Forward
+pub mod Unique
+pub mod Upwards
+pub mod PortNames
+pub mod Choices
+pub mod Images
+pub mod Parameters
+pub mod Contexts
+pub mod Construct
+pub mod Occurrences
+pub mod SolidLaws
+pub mod Counters
+pub mod ParameterParts
+pub mod LateCopies
+pub mod Copies
+pub mod Instances
+pub mod Frames
+pub mod Reactions
+pub mod Signed
+pub mod Wholes
+pub mod ReactionExamples
+mod CaseTests
+mod CaseRows
+mod CaseConditions
+mod CasesThatOccur
+mod CasesThatDoNot
+mod CasesOfValidity
+mod CasesOfPatterns
+mod CasesOfLocalConditions
+mod CasesOfLists
+mod CasesOfNothing
+mod CasesOfReactions

@@ -1,0 +1,40 @@
+-- Hosts: bigraphs that rules change, and the numbers that new nodes and edges get.
+use Rattle.std.specs.Prelude.{ℕ, ◌+◌, ◌<◌, ◌≤◌, max, IsTrue, List, [], ◌∷◌, length, All}
+use Rattle.bg_base.specs.declared.names.Name.{Name}
+use Rattle.bg_base.specs.declared.names.Link.TheVariants.{Edge}
+use Rattle.bg_base.specs.declared.big.NodeRow.{NodeRow}
+use Rattle.bg_base.specs.declared.big.Big.{Big}
+use Rattle.bg_base.specs.Bigraph.{IsGround}
+use Rattle.bg_base.specs.Instance.{node_numbers}
+use Rattle.bg_base.specs.Products.{has_point}
+use Rattle.bg_algebra.specs.Frame.{is_plain}
+use Rattle.bg_rules.specs.Reaction.{Numbered, IsNumbered}
+
+-- what a bigraph must be to be the bigraph of a host: ground, with plain names, without idle edges, and not too large
+pub record IsHostBig (big : Big) : Type 0 where
+  pub ground : IsGround big
+  pub names_plain : All (λ (name : Name). IsTrue (is_plain name)) big.outer
+  pub edges_used : All (λ edge. IsTrue (has_point big (Edge edge))) big.edges
+  pub few_nodes : length big.nodes ≤ 65536
+  pub few_edges : length big.edges ≤ 65536
+
+-- what each host keeps
+pub record IsHost (host : Numbered) : Type 0 where
+  pub fits : IsHostBig host.big
+  pub numbered : IsNumbered host
+  pub next_node_small : host.next_node ≤ 2147483648
+  pub next_edge_small : host.next_edge ≤ 2147483648
+
+-- the numbers of nodes and edges are below the largest counter
+pub record AreSmallNumbers (big : Big) : Type 0 where
+  pub small_nodes : All (λ (row : NodeRow). row.id < 2147483648) big.nodes
+  pub small_edges : All (λ edge. edge < 2147483648) big.edges
+
+-- one past the largest of the numbers, 0 where there is none
+abbrev pub past_largest : List ℕ → ℕ
+past_largest [] = 0
+past_largest (number ∷ numbers) = max (number + 1) (past_largest numbers)
+
+-- the bigraph with the counters of a host in which nothing was made yet
+abbrev pub fresh_host : Big → Numbered
+fresh_host big = record { big = big; next_node = past_largest (node_numbers big.nodes); next_edge = past_largest big.edges }

@@ -1,0 +1,11 @@
+pub mod Solid
+pub mod Decomposition
+pub mod LocalConditions
+pub mod Occurrences
+pub mod Instantiation
+pub mod Reaction
+pub mod Recomposition
+pub mod Rules
+pub mod Hosts
+pub mod Faults
+pub mod Systems

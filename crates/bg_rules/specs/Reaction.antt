@@ -1,0 +1,51 @@
+-- Reaction: the redex replaced by the reactum, its parameter by an instance (Milner, chapter 8).
+use Rattle.std.specs.Prelude.{◌≡◌, ℕ, ◌+◌, ◌<◌, List, [], length, All}
+use Rattle.bg_base.specs.declared.big.NodeRow.{NodeRow}
+use Rattle.bg_base.specs.declared.big.Big.{Big}
+use Rattle.bg_base.specs.Bigraph.{IsValid, IsGround}
+use Rattle.bg_base.specs.Composition.{compose}
+use Rattle.bg_base.specs.Elementary.{counted}
+use Rattle.bg_base.specs.Products.{lean}
+use Rattle.bg_rules.specs.Solid.{IsPattern}
+use Rattle.bg_rules.specs.Decomposition.{Decomposes, frame}
+use Rattle.bg_rules.specs.Instantiation.{instantiate, next_after}
+
+-- a bigraph, and the numbers that its next new node and its next new edge will have
+pub record Numbered : Type 0 where
+  pub big : Big
+  pub next_node : ℕ
+  pub next_edge : ℕ
+
+-- ground, and every number that is there is below the next one
+pub record IsNumbered (host : Numbered) : Type 0 where
+  pub ground : IsGround host.big
+  pub nodes_below : All (λ (row : NodeRow). row.id < host.next_node) host.big.nodes
+  pub edges_below : All (λ edge. edge < host.next_edge) host.big.edges
+
+-- the redex is a pattern; the reactum is valid, has no inner name, and has its regions and outer names;
+-- each site of the reactum asks for a site of the redex
+pub record AreSides (redex reactum : Big) (entries : List ℕ) : Type 0 where
+  pub is_pattern : IsPattern redex
+  pub reactum_valid : IsValid reactum
+  pub reactum_inner : reactum.inner ≡ []
+  pub regions : redex.regions ≡ reactum.regions
+  pub outer : redex.outer ≡ reactum.outer
+  pub as_many : length entries ≡ length reactum.sites
+  pub entries_there : All (λ entry. entry < length redex.sites) entries
+
+-- the reactum with new numbers for its nodes and edges, round the instance, in the context; then idle edges are dropped
+abbrev pub recomposed : Numbered → Big → List ℕ → Big → Big → Big
+recomposed host reactum entries context parameter =
+    lean (compose context (compose
+    (frame reactum (counted host.next_node (length reactum.nodes)) (counted host.next_edge (length reactum.edges)) parameter.outer)
+    (instantiate parameter entries (host.next_node + length reactum.nodes))))
+
+-- the host reacts at these nodes to that
+pub record Reacts (host : Numbered) (redex reactum : Big) (entries nodes : List ℕ) (after : Numbered) : Type 0 where
+  pub context : Big
+  pub edges : List ℕ
+  pub parameter : Big
+  pub decomposes : Decomposes host.big redex nodes context edges parameter
+  pub big : after.big ≡ recomposed host reactum entries context parameter
+  pub next_node : after.next_node ≡ next_after parameter entries (host.next_node + length reactum.nodes)
+  pub next_edge : after.next_edge ≡ host.next_edge + length reactum.edges

@@ -1,0 +1,31 @@
+//! Patterns, where they occur in a host, and how a host reacts there.
+//!
+//! - [`first_unsolid`]: the clause of a solid bigraph that fails. [`Pattern`]: what occurs in a host.
+//! - [`Rule`] and [`Condition`]: what a reaction replaces, and where it may.
+//! - [`Host`]: a bigraph that rules change. [`System`] and [`Predicate`]: what a model describes.
+//! - [`RuleFault`], [`ReactFault`], [`ListFault`]: why a call gives no result.
+//! - [`laws`]: occurrences are decompositions. [`reaction_laws`]: a reaction at an occurrence has one result.
+#![tactic(auto)]
+
+mod condition;
+mod fault;
+mod host;
+pub mod laws;
+mod pattern;
+mod predicate;
+pub mod reaction_laws;
+mod rule;
+mod solid;
+mod system;
+
+pub use condition::{Condition, Side};
+pub use fault::{ListFault, ReactFault, RuleFault};
+pub use host::Host;
+pub use pattern::{NotSolid, Pattern};
+pub use predicate::Predicate;
+pub use rule::Rule;
+pub use solid::first_unsolid;
+pub use system::System;
+
+#[cfg(test)]
+mod tests;

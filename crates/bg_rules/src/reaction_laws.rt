@@ -1,0 +1,59 @@
+//! The laws of instances and reactions (Milner, chapter 8). A call does nothing.
+ghost use Rattle.std.specs.Prelude.{◌≡◌, ℕ, ◌<◌, ◌≤◌, ◌⊎◌, List, [], length, All};
+ghost use Rattle.bg_lists.specs.Lists.{Mem};
+ghost use Rattle.bg_base.specs.declared.big.NodeRow.{NodeRow};
+ghost use Rattle.bg_base.specs.declared.big.Big.{Big};
+ghost use Rattle.bg_base.specs.declared.signature.Control.{Control};
+ghost use Rattle.bg_base.specs.Bigraph.{IsGround, IsValidUnder};
+ghost use Rattle.bg_base.specs.Elementary.{counted};
+ghost use Rattle.bg_base.specs.Instance.{node_numbers};
+ghost use Rattle.bg_rules.specs.Decomposition.{IsParameter, Decomposes, Occurs};
+ghost use Rattle.bg_rules.specs.Instantiation.{instantiate, next_after};
+ghost use Rattle.bg_rules.specs.Reaction.{Numbered, IsNumbered, AreSides, Reacts};
+ghost use Rattle.bg_rules.specs.Recomposition.{IsRecomposable};
+
+/// An instance of a parameter whose nodes are below the next number is a ground bigraph: no edge, the parameter's outer
+/// names, and one region for each entry. Each of its nodes has a number of the parameter or a new one, below the number
+/// that is next after it. Where the parameter is valid under a signature, the instance is.
+pub fn instances_are_ground()
+    ensures ground { (parameter : Big) (entries : List ℕ) (next : ℕ) → IsParameter parameter
+        → All (λ (row : NodeRow). row.id < next) parameter.nodes → IsGround (instantiate parameter entries next) }
+    ensures no_edges { (parameter : Big) (entries : List ℕ) (next : ℕ) → (instantiate parameter entries next).edges ≡ [] }
+    ensures outer { (parameter : Big) (entries : List ℕ) (next : ℕ) → (instantiate parameter entries next).outer ≡ parameter.outer }
+    ensures regions { (parameter : Big) (entries : List ℕ) (next : ℕ) → (instantiate parameter entries next).regions ≡ length entries }
+    ensures numbers { (parameter : Big) (entries : List ℕ) (next : ℕ) → IsParameter parameter
+        → All (λ (row : NodeRow). row.id < next) parameter.nodes
+        → All (λ (row : NodeRow). Mem row.id (node_numbers parameter.nodes) ⊎ next ≤ row.id) (instantiate parameter entries next).nodes }
+    ensures below { (parameter : Big) (entries : List ℕ) (next : ℕ) → IsParameter parameter
+        → All (λ (row : NodeRow). row.id < next) parameter.nodes
+        → All (λ (row : NodeRow). row.id < next_after parameter entries next) (instantiate parameter entries next).nodes }
+    ensures fits { (signature : List Control) (parameter : Big) (entries : List ℕ) (next : ℕ) → IsParameter parameter
+        → All (λ (row : NodeRow). row.id < next) parameter.nodes → IsValidUnder signature parameter
+        → IsValidUnder signature (instantiate parameter entries next) }
+{}
+
+/// The instance that asks for each part once, in the order of the regions, is the parameter.
+pub fn instance_of_all_is_the_parameter()
+    ensures { (parameter : Big) (next : ℕ) → IsParameter parameter → All (λ (row : NodeRow). row.id < next) parameter.nodes
+        → instantiate parameter (counted 0 parameter.regions) next ≡ parameter }
+{}
+
+/// A numbered host reacts at each occurrence of the redex, and to one result only: the operations that recompose it are
+/// defined, and the result is a numbered ground host again. Where the host and the reactum are valid under a signature,
+/// the result is.
+pub fn reactions_have_one_result()
+    ensures some_result { (host : Numbered) (redex reactum : Big) (entries nodes : List ℕ) → Occurs host.big redex nodes
+        → (after : Numbered) × Reacts host redex reactum entries nodes after }
+    ensures one_result { (host : Numbered) (redex reactum : Big) (entries nodes : List ℕ) → IsNumbered host
+        → AreSides redex reactum entries → (after other : Numbered) → Reacts host redex reactum entries nodes after
+        → Reacts host redex reactum entries nodes other → after ≡ other }
+    ensures defined { (host : Numbered) (redex reactum : Big) (entries nodes : List ℕ) → IsNumbered host
+        → AreSides redex reactum entries → (context : Big) (edges : List ℕ) (parameter : Big)
+        → Decomposes host.big redex nodes context edges parameter → IsRecomposable host reactum entries context parameter }
+    ensures numbered { (host : Numbered) (redex reactum : Big) (entries nodes : List ℕ) → IsNumbered host
+        → AreSides redex reactum entries → (after : Numbered) → Reacts host redex reactum entries nodes after
+        → IsNumbered after }
+    ensures fits { (signature : List Control) (host : Numbered) (redex reactum : Big) (entries nodes : List ℕ)
+        → IsNumbered host → AreSides redex reactum entries → IsValidUnder signature host.big → IsValidUnder signature reactum
+        → (after : Numbered) → Reacts host redex reactum entries nodes after → IsValidUnder signature after.big }
+{}
