@@ -120,7 +120,7 @@ def write_grammar():
     for s in SYMBOLS:
         ways = chain(['(' + chain([part_term(p) for p in w]) + ')' if w else '[]' for w in WAYS[s]])
         lines += [f'    -- {rule(s)}', f'    ({ways}) ∷']
-    lines += ['    []', '', f'-- what stands below {" and ".join(DEEPENS)} is one deeper', 'unfoldable pub model_deepens : List Bool',
+    lines += ['    []', '', f'-- what stands below {" and ".join(f"{name} (symbol {SYMBOL_NUMBER[name]})" for name in DEEPENS)} is one deeper: these are the true ones, from 0', 'unfoldable pub model_deepens : List Bool',
               'model_deepens = ' + chain(['true' if s in DEEPENS else 'false' for s in SYMBOLS]), '',
               '-- the grammar of the model language', 'unfoldable pub grammar : Grammar', 'grammar = record { ways = model_ways; deepens = model_deepens }']
     antt('specs/Grammar.antt', 'The grammar of the model language, as data.', '\n'.join(lines))

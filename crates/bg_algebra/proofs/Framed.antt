@@ -17,7 +17,7 @@ use Rattle.bg_base.specs.declared.big.Big.{Big}
 use Rattle.bg_base.specs.Order.{name_cmp}
 use Rattle.bg_base.specs.Bigraph.{IsValid, node_cmp, inner_cmp}
 use Rattle.bg_base.specs.Elementary.{counted, row_to_itself, identity}
-use Rattle.bg_base.specs.Instance.{rename, place_renamed, row_renamed, inner_renamed}
+use Rattle.bg_base.specs.Translation.{rename, place_renamed, row_renamed, inner_renamed}
 use Rattle.bg_base.specs.Products.{tensor}
 use Rattle.bg_base.proofs.LookUps.{node_cmp_total, inner_cmp_total}
 use Rattle.bg_algebra.specs.Frame.{is_plain, is_port, framed}

@@ -10,3 +10,6 @@ pub mod CompositionLaws
 pub mod ProductLaws
 pub mod InterchangeLaw
 pub mod Framed
+pub mod DerivedLaws
+pub mod ClosingLaws
+pub mod OddCases

@@ -21,7 +21,7 @@ use Rattle.bg_base.specs.declared.signature.Control.{Control}
 use Rattle.bg_base.specs.Order.{name_cmp}
 use Rattle.bg_base.specs.Bigraph.{IsValid, IsValidUnder, node_cmp, inner_cmp, has_place, has_link, inner_of, is_atomic, is_atomic_control, arity_of}
 use Rattle.bg_base.specs.Composition.{inner_names, FacesAgree, SupportsApart}
-use Rattle.bg_base.specs.Elementary.{counted, row_to_itself, row_alone, molecule, identity, merger, idle, barren, empty, ion, atom}
+use Rattle.bg_base.specs.Elementary.{counted, row_to_itself, row_alone, lone_node, identity, merger, idle, barren, empty, ion, atom}
 use Rattle.bg_base.specs.Products.{parallel, nest, InnerApart, place_beside}
 use Rattle.bg_base.proofs.NameLaws.{same_name}
 use Rattle.bg_base.proofs.LookUps.{inner_cmp_total, has_row, has_outer, has_region, row_of-member}
@@ -137,61 +137,61 @@ module _ (control node : ℕ) (names : List Name) (sites : List Place) (inside :
   only_row : (P : NodeRow → Type 0) → P (row_alone control node names) → (row : NodeRow) → Mem row (row_alone control node names ∷ []) → P row
   only_row P holds row m = elim (Mem-cons_cases m) [ inl e ↦ subst P e holds | inr n ↦ elim n [ ] ]
 
-  row_sound_alone : IsSound (molecule control node names sites) (row_alone control node names)
+  row_sound_alone : IsSound (lone_node control node names sites) (row_alone control node names)
   row_sound_alone =
       record {
-        parent_there = has_region {region = 0} (molecule control node names sites) (omega arith);
-        links_there = list_all-from_members (has_link (molecule control node names sites)) (map Outer names)
+        parent_there = has_region {region = 0} (lone_node control node names sites) (omega arith);
+        links_there = list_all-from_members (has_link (lone_node control node names sites)) (map Outer names)
             (λ link k. let w = Mem-unmap Outer names k in
-            subst (λ l. has_link (molecule control node names sites) l ≡ true) w.2
+            subst (λ l. has_link (lone_node control node names sites) l ≡ true) w.2
             (has_outer (set_of name_cmp names) (Mem-set_of name_cmp_total same_name names w.1)));
         climb = at_region refl (omega arith);
       }
 
-  pub molecule_valid : IsValid (molecule control node names sites)
+  pub lone_node_valid : IsValid (lone_node control node names sites)
   unfolding IsStrictlySortedBy
-  molecule_valid =
-      valid_from_rows (molecule control node names sites)
+  lone_node_valid =
+      valid_from_rows (lone_node control node names sites)
       (sorted_from_Ascending {cmp = node_cmp} (row_alone control node names ∷ []) (asc_cons (λ y m. elim m [ ]) asc_nil)) tt tt
       (sorted_from_Ascending (set_of name_cmp names) (Ascending-set_of name_cmp_total same_name names))
-      (only_row (IsSound (molecule control node names sites)) row_sound_alone)
-      (λ place m. subst (λ p. has_place (molecule control node names sites) p ≡ true) (sym (inside place m))
+      (only_row (IsSound (lone_node control node names sites)) row_sound_alone)
+      (λ place m. subst (λ p. has_place (lone_node control node names sites) p ≡ true) (sym (inside place m))
       (has_row {row = row_alone control node names} (row_alone control node names ∷ []) (here refl) refl))
       (λ row m. elim m [ ])
 
   -- under a signature that has the control, with as many ports as names; a site wants a control that is not atomic
-  pub molecule_valid_under : (signature : List Control) → control < length signature → length names ≡ arity_of signature control
-      → ((place : Place) → Mem place sites → is_atomic_control signature control ≡ false) → IsValidUnder signature (molecule control node names sites)
-  molecule_valid_under signature below ports normal =
-      valid_under_from_rows signature (molecule control node names sites) molecule_valid
-      (only_row (Fits signature (molecule control node names sites))
+  pub lone_node_valid_under : (signature : List Control) → control < length signature → length names ≡ arity_of signature control
+      → ((place : Place) → Mem place sites → is_atomic_control signature control ≡ false) → IsValidUnder signature (lone_node control node names sites)
+  lone_node_valid_under signature below ports normal =
+      valid_under_from_rows signature (lone_node control node names sites) lone_node_valid
+      (only_row (Fits signature (lone_node control node names sites))
       (record { control_there = below; ports_fit = length-map names Outer ∙ ports; normal_parent = refl }))
-      (λ place m. subst (λ p. is_atomic signature (molecule control node names sites) p ≡ false) (sym (inside place m))
+      (λ place m. subst (λ p. is_atomic signature (lone_node control node names sites) p ≡ false) (sym (inside place m))
       (ap (λ o. unwrap_or (option_map (λ (row : NodeRow). is_atomic_control signature row.control) o) false)
-      (row_of-member {row = row_alone control node names} (row_alone control node names ∷ []) molecule_valid.nodes_ascend (here refl) refl)
+      (row_of-member {row = row_alone control node names} (row_alone control node names ∷ []) lone_node_valid.nodes_ascend (here refl) refl)
       ∙ normal place m))
 
 pub ion_valid : (control node : ℕ) (names : List Name) → IsValid (ion control node names)
 unfolding ion
 ion_valid control node names =
-    molecule_valid control node names (Node node ∷ []) (λ place m. elim (Mem-cons_cases m) [ inl e ↦ sym e | inr n ↦ elim n [ ] ])
+    lone_node_valid control node names (Node node ∷ []) (λ place m. elim (Mem-cons_cases m) [ inl e ↦ sym e | inr n ↦ elim n [ ] ])
 
 pub ion_valid_under : (control node : ℕ) (names : List Name) (signature : List Control) → control < length signature → length names ≡ arity_of signature control
     → is_atomic_control signature control ≡ false → IsValidUnder signature (ion control node names)
 unfolding ion
 ion_valid_under control node names signature below ports normal =
-    molecule_valid_under control node names (Node node ∷ []) (λ place m. elim (Mem-cons_cases m) [ inl e ↦ sym e | inr n ↦ elim n [ ] ]) signature below ports
+    lone_node_valid_under control node names (Node node ∷ []) (λ place m. elim (Mem-cons_cases m) [ inl e ↦ sym e | inr n ↦ elim n [ ] ]) signature below ports
     (λ place m. normal)
 
 pub atom_valid : (control node : ℕ) (names : List Name) → IsValid (atom control node names)
 unfolding atom
-atom_valid control node names = molecule_valid control node names [] (λ place m. elim m [ ])
+atom_valid control node names = lone_node_valid control node names [] (λ place m. elim m [ ])
 
 pub atom_valid_under : (control node : ℕ) (names : List Name) (signature : List Control) → control < length signature → length names ≡ arity_of signature control
     → IsValidUnder signature (atom control node names)
 unfolding atom
 atom_valid_under control node names signature below ports =
-    molecule_valid_under control node names [] (λ place m. elim m [ ]) signature below ports (λ place m. elim m [ ])
+    lone_node_valid_under control node names [] (λ place m. elim m [ ]) signature below ports (λ place m. elim m [ ])
 
 -- ---- nesting
 

@@ -23,7 +23,7 @@ use Rattle.bg_base.specs.declared.big.InnerRow.{InnerRow}
 use Rattle.bg_base.specs.declared.big.Big.{Big}
 use Rattle.bg_base.specs.declared.signature.Control.{Control}
 use Rattle.bg_base.specs.Bigraph.{IsValid, IsValidUnder, node_cmp, inner_cmp, has_place, has_link, is_atomic}
-use Rattle.bg_base.specs.Instance.{along, node_numbers, place_renamed, link_renamed, row_renamed, inner_renamed, rename}
+use Rattle.bg_base.specs.Translation.{along, node_numbers, place_renamed, link_renamed, row_renamed, inner_renamed, rename}
 use Rattle.bg_base.proofs.LookUps.{node_cmp_total, has_row, has_edge, has_region, member_from_has_edge, member_from_edge_of, row_from_row_of, row_of-search, edge_of-search}
 use Rattle.bg_base.proofs.Climbs.{at_region}
 use Rattle.bg_algebra.proofs.Parts.{IsPart, IsSound, Fits, valid_from_rows, valid_under_from_rows, row_sound, site_there, inner_link_there, row_fits, site_fits}

@@ -9,7 +9,7 @@ use Rattle.bg_base.specs.declared.names.Name.TheVariants.{Plain, Port, Opened}
 use Rattle.bg_base.specs.declared.big.Big.{Big}
 use Rattle.bg_base.specs.Bigraph.{node_cmp}
 use Rattle.bg_base.specs.Elementary.{row_to_itself}
-use Rattle.bg_base.specs.Instance.{place_renamed, row_renamed}
+use Rattle.bg_base.specs.Translation.{place_renamed, row_renamed}
 
 -- a name that a user wrote
 abbrev pub is_plain : Name → Bool

@@ -2,3 +2,4 @@ pub mod Faults
 pub mod Halves
 pub mod Frame
 pub mod Laws
+pub mod Closure

@@ -1,4 +1,5 @@
-//! Elementary bigraphs: those from which all others are made by composition and products.
+//! Elementary bigraphs, from which the engine makes others by composition and products. (Milner's substitutions and
+//! symmetries are not among them: names are joined and closed by products and `close`, and regions keep their order.)
 ghost use Rattle.std.specs.Prelude.{◌≡◌, ◌<◌, ◌-◌, ◌^◌, List, [], ◌∷◌, false, length, map, IfOk};
 ghost use Rattle.std.specs.List.Sorted.{IsStrictlySortedBy};
 ghost use Rattle.bg_base.specs.declared.names.Place.TheVariants.{Region};
@@ -47,7 +48,8 @@ fn bare(alloc: Global, regions: u32) -> Big
 }
 
 /// The identity of the interface with `width` places and these names (Milner, chapter 2): site `i` in region `i`, and
-/// each inner name tied to the same outer name. Costs time and memory in proportion to the width and the names.
+/// each inner name tied to the same outer name. The names ascend, each once. Costs time and memory in proportion to the
+/// width and the names.
 pub fn identity(alloc: Global, width: u32, names: &[Name]) -> Mem<Big>
     requires few_places { width < 2 ^ 32 - 1 }
     requires few_names { length names.now < 2 ^ 32 - 1 }
@@ -123,7 +125,7 @@ fn sites_in_one_region(alloc: Global, width: u32) -> Mem<Rows<Place>>
     Ok(Rows::from_vec(sites))
 }
 
-/// Outer names to which nothing is tied, and no place. Costs time and memory in proportion to the names.
+/// Outer names to which nothing is tied, and no place. The names ascend, each once. Costs time and memory in proportion to the names.
 pub fn idle(alloc: Global, names: &[Name]) -> Mem<Big>
     requires few { length names.now < 2 ^ 32 - 1 }
     requires ascending { IsStrictlySortedBy name_cmp names.now }
@@ -152,7 +154,7 @@ pub fn ion(alloc: Global, control: u32, node: u32, names: &[Name]) -> Mem<Big>
 {
     let mut sites = Vec::new(alloc);
     sites.push(Place::Node(node))?;
-    let whole = molecule(alloc, control, node, names, Rows::from_vec(sites))?;
+    let whole = lone_node(alloc, control, node, names, Rows::from_vec(sites))?;
     Ok(whole)
 }
 
@@ -165,14 +167,14 @@ pub fn atom(alloc: Global, control: u32, node: u32, names: &[Name]) -> Mem<Big>
     ensures fits { (signature : List Control) → control < length signature → length names.now ≡ arity_of signature control
         → IfOk result (IsValidUnder signature) }
 {
-    let whole = molecule(alloc, control, node, names, Rows::from_vec(Vec::new(alloc)))?;
+    let whole = lone_node(alloc, control, node, names, Rows::from_vec(Vec::new(alloc)))?;
     Ok(whole)
 }
 
 /// A node alone in a region, with these sites.
-fn molecule(alloc: Global, control: u32, node: u32, names: &[Name], sites: Rows<Place>) -> Mem<Big>
+fn lone_node(alloc: Global, control: u32, node: u32, names: &[Name], sites: Rows<Place>) -> Mem<Big>
     requires few { length names.now < 2 ^ 32 - 1 }
-    ensures { IfOk result (λ big. big ≡ elementary.molecule control node names.now sites) }
+    ensures { IfOk result (λ big. big ≡ elementary.lone_node control node names.now sites) }
 {
     let mut nodes = Vec::new(alloc);
     nodes.push(NodeRow {

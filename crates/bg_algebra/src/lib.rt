@@ -5,7 +5,7 @@
 //! - [`tensor`], [`parallel`], [`merge`]: products. [`nest`]: nesting. [`close`]: a name made an edge.
 //! - [`lean`]: idle edges dropped. [`rename`]: nodes and edges numbered anew.
 //! - [`ion`], [`atom`], [`identity`], [`idle`], [`merger`], [`barren`], [`empty`]: elementary bigraphs.
-//! - [`laws`]: what a reader of Milner expects of these operations, proved.
+//! - [`laws`]: the laws of these operations, as contracts of calls that do nothing.
 //! - [`AlgebraFault`]: why an operation gives no bigraph.
 #![tactic(auto)]
 
@@ -28,7 +28,6 @@ pub use closing::close;
 pub use composition::compose;
 pub use elementary::{atom, barren, empty, identity, idle, ion, merger};
 pub use fault::AlgebraFault;
-pub use halves::ControlRow;
 pub use idle_edges::lean;
 pub use nesting::nest;
 pub use products::{merge, parallel, tensor};

@@ -17,7 +17,7 @@ use std::alloc::Global;
 /// name that both have is one name. It is the composition of `f`, beside the identity on the outer names of `g`, with `g`.
 /// It refuses, in this order: `HasInnerNames`, number 17, where `f` has an inner name; `WidthsDiffer`, number 15, where
 /// `g` has not as many regions as `f` has sites; `SupportMeets`, number 12, where a node or an edge is in both.
-/// Costs time n log n in the size of both, and memory in proportion to it.
+/// Costs as [`crate::compose`] does.
 pub fn nest(alloc: Global, f: &Big, g: &Big) -> Result<Big, AlgebraFault>
     requires f_valid { IsValid f.now }
     requires g_valid { IsValid g.now }

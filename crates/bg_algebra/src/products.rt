@@ -19,8 +19,8 @@ use std::alloc::Global;
 /// The tensor product of two valid bigraphs (Milner, chapter 2): `f` and `g` side by side. The regions of `g` come after
 /// those of `f`, and so do its sites; no name is in both.
 /// It refuses, in this order: `NamesMeet`, number 13, where an inner name is in both or an outer name is in both;
-/// `SupportMeets`, number 12, where a node or an edge is in both.
-/// Costs time n log n in the size of both, and memory in proportion to it.
+/// `SupportMeets`, number 12, where a node or an edge is in both. The regions of both, and the sites of both, are to be
+/// fewer than 32 bits can number. Costs time n log n in the size of both, and memory in proportion to it.
 pub fn tensor(alloc: Global, f: &Big, g: &Big) -> Result<Big, AlgebraFault>
     requires f_valid { IsValid f.now }
     requires g_valid { IsValid g.now }
@@ -70,7 +70,8 @@ fn tensor_whole(alloc: Global, f: &Big, g: &Big) -> Mem<Big>
 /// The parallel product of two valid bigraphs (Milner, chapter 3): `f` and `g` side by side as in the tensor product,
 /// where an outer name that both have is one name.
 /// It refuses, in this order: `InnerNamesMeet`, number 14, where an inner name is in both; `SupportMeets`, number 12,
-/// where a node or an edge is in both. Costs time n log n in the size of both, and memory in proportion to it.
+/// where a node or an edge is in both. The regions of both, and the sites of both, are to be fewer than 32 bits can
+/// number. Costs time n log n in the size of both, and memory in proportion to it.
 pub fn parallel(alloc: Global, f: &Big, g: &Big) -> Result<Big, AlgebraFault>
     requires f_valid { IsValid f.now }
     requires g_valid { IsValid g.now }
@@ -111,7 +112,8 @@ pub(crate) fn parallel_whole(alloc: Global, f: &Big, g: &Big) -> Mem<Big>
 }
 
 /// The merge product of two valid bigraphs (Milner, chapter 3): their parallel product with one region in place of all,
-/// also where there was none. It refuses as [`parallel`] does, in the same order, and costs as much.
+/// also where there was none. It refuses as [`parallel`] does, in the same order,
+/// asks as much of their sizes, and costs as much.
 pub fn merge(alloc: Global, f: &Big, g: &Big) -> Result<Big, AlgebraFault>
     requires f_valid { IsValid f.now }
     requires g_valid { IsValid g.now }

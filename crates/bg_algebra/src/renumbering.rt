@@ -7,7 +7,7 @@ ghost use Rattle.bg_lists.specs.Lists.{sort};
 ghost use Rattle.bg_lists.specs.Orders.{before};
 ghost use Rattle.bg_base.specs.declared.signature.Control.{Control};
 ghost use Rattle.bg_base.specs.Bigraph.{IsValid, IsValidUnder, node_cmp};
-ghost use Rattle.bg_base.specs.Instance as instance;
+ghost use Rattle.bg_base.specs.Translation as translation;
 
 use crate::by_rows::sorted_nodes;
 use bg_base::{Big, InnerRow, Link, NodeRow, Place, PortLinks};
@@ -16,7 +16,7 @@ use smallvec::SmallVec;
 use std::alloc::Global;
 
 /// The bigraph with these numbers for its nodes and these for its edges, in the order of its rows (Milner, chapter 2:
-/// support translation). The numbers need not ascend; no number repeats.
+/// support translation). There are as many numbers as nodes, and as edges; they need not ascend, and none repeats.
 /// Costs time n log n in the size of the bigraph, and memory in proportion to it.
 pub fn rename(alloc: Global, big: &Big, nodes: &[u32], edges: &[u32]) -> Mem<Big>
     requires valid { IsValid big.now }
@@ -24,7 +24,7 @@ pub fn rename(alloc: Global, big: &Big, nodes: &[u32], edges: &[u32]) -> Mem<Big
     requires as_many_edges { length big.now.edges ≡ length edges.now }
     requires nodes_differ { IsDistinct (eq_by_cmp nat_cmp) nodes.now }
     requires edges_differ { IsDistinct (eq_by_cmp nat_cmp) edges.now }
-    ensures value { IfOk result (λ made. made ≡ instance.rename big.now nodes.now edges.now) }
+    ensures value { IfOk result (λ made. made ≡ translation.rename big.now nodes.now edges.now) }
     ensures valid { IfOk result IsValid }
     ensures fits { (signature : List Control) → IsValidUnder signature big.now → IfOk result (IsValidUnder signature) }
 {
@@ -42,7 +42,7 @@ pub fn rename(alloc: Global, big: &Big, nodes: &[u32], edges: &[u32]) -> Mem<Big
 fn new_node(big: &Big, nodes: &[u32], node: u32) -> u32
     requires ascending { IsStrictlySortedBy node_cmp big.now.nodes }
     requires as_many { length big.now.nodes ≡ length nodes.now }
-    ensures { result ≡ instance.along (instance.node_numbers big.now.nodes) nodes.now node }
+    ensures { result ≡ translation.along (translation.node_numbers big.now.nodes) nodes.now node }
 {
     match big.nodes.binary_search_by_key(&node, |row| row.id) {
         Ok(at) => nodes[at],
@@ -54,7 +54,7 @@ fn new_node(big: &Big, nodes: &[u32], node: u32) -> u32
 fn new_edge(big: &Big, edges: &[u32], edge: u32) -> u32
     requires ascending { IsStrictlySortedBy nat_cmp big.now.edges }
     requires as_many { length big.now.edges ≡ length edges.now }
-    ensures { result ≡ instance.along big.now.edges edges.now edge }
+    ensures { result ≡ translation.along big.now.edges edges.now edge }
 {
     match big.edges.binary_search(&edge) {
         Ok(at) => edges[at],
@@ -65,7 +65,7 @@ fn new_edge(big: &Big, edges: &[u32], edge: u32) -> u32
 fn renamed_place(big: &Big, nodes: &[u32], place: Place) -> Place
     requires ascending { IsStrictlySortedBy node_cmp big.now.nodes }
     requires as_many { length big.now.nodes ≡ length nodes.now }
-    ensures { result ≡ instance.place_renamed big.now nodes.now place }
+    ensures { result ≡ translation.place_renamed big.now nodes.now place }
 {
     match place {
         Place::Node(node) => Place::Node(new_node(big, nodes, node)),
@@ -76,7 +76,7 @@ fn renamed_place(big: &Big, nodes: &[u32], place: Place) -> Place
 fn renamed_link(alloc: Global, big: &Big, edges: &[u32], link: &Link) -> Mem<Link>
     requires ascending { IsStrictlySortedBy nat_cmp big.now.edges }
     requires as_many { length big.now.edges ≡ length edges.now }
-    ensures { IfOk result (λ made. made ≡ instance.link_renamed big.now edges.now link.now) }
+    ensures { IfOk result (λ made. made ≡ translation.link_renamed big.now edges.now link.now) }
 {
     match link {
         Link::Edge(edge) => Ok(Link::Edge(new_edge(big, edges, *edge))),
@@ -87,7 +87,7 @@ fn renamed_link(alloc: Global, big: &Big, edges: &[u32], link: &Link) -> Mem<Lin
 fn renamed_links(alloc: Global, big: &Big, edges: &[u32], links: &[Link]) -> Mem<SmallVec<Link, 4>>
     requires ascending { IsStrictlySortedBy nat_cmp big.now.edges }
     requires as_many { length big.now.edges ≡ length edges.now }
-    ensures { IfOk result (λ made. made.items ≡ map (instance.link_renamed big.now edges.now) links.now) }
+    ensures { IfOk result (λ made. made.items ≡ map (translation.link_renamed big.now edges.now) links.now) }
 {
     let mut made = SmallVec::new(alloc);
     for link in links {
@@ -106,7 +106,7 @@ fn renamed_row(
     requires valid { IsValid big.now }
     requires as_many_nodes { length big.now.nodes ≡ length nodes.now }
     requires as_many_edges { length big.now.edges ≡ length edges.now }
-    ensures { IfOk result (λ made. made ≡ instance.row_renamed big.now nodes.now edges.now row.now) }
+    ensures { IfOk result (λ made. made ≡ translation.row_renamed big.now nodes.now edges.now row.now) }
 {
     let links = renamed_links(alloc, big, edges, row.links.as_slice())?;
     Ok(NodeRow {
@@ -129,7 +129,7 @@ fn push_renamed(
     requires valid { IsValid big.now }
     requires as_many_nodes { length big.now.nodes ≡ length nodes.now }
     requires as_many_edges { length big.now.edges ≡ length edges.now }
-    ensures { OnOk result (made.new.items ≡ made.old.items ++ map (instance.row_renamed big.now nodes.now edges.now) rows.now) }
+    ensures { OnOk result (made.new.items ≡ made.old.items ++ map (translation.row_renamed big.now nodes.now edges.now) rows.now) }
 {
     for row in rows {
         made.push(renamed_row(alloc, big, nodes, edges, row)?)?;
@@ -142,8 +142,8 @@ fn renamed_nodes(alloc: Global, big: &Big, nodes: &[u32], edges: &[u32]) -> Mem<
     requires valid { IsValid big.now }
     requires as_many_nodes { length big.now.nodes ≡ length nodes.now }
     requires as_many_edges { length big.now.edges ≡ length edges.now }
-    requires apart { IsDistinct (eq_by_cmp node_cmp) (map (instance.row_renamed big.now nodes.now edges.now) big.now.nodes) }
-    ensures { IfOk result (λ made. made ≡ sort (before node_cmp) (map (instance.row_renamed big.now nodes.now edges.now) big.now.nodes)) }
+    requires apart { IsDistinct (eq_by_cmp node_cmp) (map (translation.row_renamed big.now nodes.now edges.now) big.now.nodes) }
+    ensures { IfOk result (λ made. made ≡ sort (before node_cmp) (map (translation.row_renamed big.now nodes.now edges.now) big.now.nodes)) }
 {
     let mut made = Vec::new(alloc);
     push_renamed(alloc, big, nodes, edges, &big.nodes, &mut made)?;
@@ -164,7 +164,7 @@ fn renamed_sites(alloc: Global, big: &Big, nodes: &[u32], sites: &[Place]) -> Me
     requires ascending { IsStrictlySortedBy node_cmp big.now.nodes }
     requires as_many { length big.now.nodes ≡ length nodes.now }
     requires few { length sites.now < 2 ^ 32 - 1 }
-    ensures { IfOk result (λ made. made ≡ map (instance.place_renamed big.now nodes.now) sites.now) }
+    ensures { IfOk result (λ made. made ≡ map (translation.place_renamed big.now nodes.now) sites.now) }
 {
     let mut made = Vec::new(alloc);
     for place in sites {
@@ -177,7 +177,7 @@ fn renamed_inner(alloc: Global, big: &Big, edges: &[u32], inner: &[InnerRow]) ->
     requires ascending { IsStrictlySortedBy nat_cmp big.now.edges }
     requires as_many { length big.now.edges ≡ length edges.now }
     requires few { length inner.now < 2 ^ 32 - 1 }
-    ensures { IfOk result (λ made. made ≡ map (instance.inner_renamed big.now edges.now) inner.now) }
+    ensures { IfOk result (λ made. made ≡ map (translation.inner_renamed big.now edges.now) inner.now) }
 {
     let mut made = Vec::new(alloc);
     for row in inner {

@@ -102,7 +102,7 @@ pub record IsValidUnder (signature : List Control) (big : Big) : Type 0 where
   pub no_atomic_parent : All (λ (row : NodeRow). is_atomic signature big row.parent ≡ false) big.nodes
   pub no_atomic_site : All (λ (place : Place). is_atomic signature big place ≡ false) big.sites
 
--- a ground bigraph: it has no site and no inner name, so that nothing can be put into it
+-- a ground bigraph: it is valid and has no site and no inner name, so that nothing can be put into it
 pub record IsGround (big : Big) : Type 0 where
   pub valid : IsValid big
   pub no_sites : big.sites ≡ []

@@ -1,4 +1,4 @@
--- Elementary bigraphs (Milner, chapter 3): those from which all others are made by composition and products.
+-- Elementary bigraphs (Milner, chapter 3), from which others are made by composition and products.
 use Rattle.std.specs.Prelude.{ℕ, zero, suc, List, [], ◌∷◌, map}
 use Rattle.bg_lists.specs.Orders.{set_of}
 use Rattle.bg_base.specs.declared.names.Name.{Name}
@@ -46,14 +46,14 @@ abbrev pub row_alone : ℕ → ℕ → List Name → NodeRow
 row_alone control node names = record { id = node; control = control; parent = Region 0; links = map Outer names }
 
 -- a node in a region, its ports tied to the names, with these sites
-abbrev pub molecule : ℕ → ℕ → List Name → List Place → Big
-molecule control node names sites =
+abbrev pub lone_node : ℕ → ℕ → List Name → List Place → Big
+lone_node control node names sites =
     record { nodes = row_alone control node names ∷ []; edges = []; sites = sites; inner = []; regions = 1; outer = set_of name_cmp names }
 
 -- a node with a site in it
 unfoldable pub ion : ℕ → ℕ → List Name → Big
-ion control node names = molecule control node names (Node node ∷ [])
+ion control node names = lone_node control node names (Node node ∷ [])
 
 -- a node with nothing in it
 unfoldable pub atom : ℕ → ℕ → List Name → Big
-atom control node names = molecule control node names []
+atom control node names = lone_node control node names []

@@ -7,6 +7,6 @@ pub mod Bigraph
 pub mod Composition
 pub mod Elementary
 pub mod Products
-pub mod Instance
+pub mod Translation
 pub mod Faults
 pub mod Lookup

@@ -14,6 +14,7 @@ use crate::{Big, Control, InnerRow, Kind, Link, Name, NodeRow, Place, Signature}
 use bg_lists::{Mem, OutOfMemory, copies};
 use std::alloc::{AllocError, AllocFailed, Global};
 use std::collections::BTreeMap;
+use thiserror::Error;
 
 /// A part of a bigraph: one of its lists of rows.
 #[derive(Clone, Copy, Debug, PartialEq, Eq)]
@@ -26,11 +27,14 @@ pub enum Part {
 }
 
 /// Why a bigraph is not valid under a signature.
-#[derive(Clone, Copy, Debug, PartialEq, Eq)]
+#[derive(Clone, Copy, Debug, PartialEq, Eq, Error)]
 pub enum CheckFault {
     /// The first row that breaks a rule: the least code of the rules that it breaks (3 to 7, see docs/REFUSALS.md),
     /// its part, and its position in that part, counted from 0.
+    #[error("row {row} of the {part:?} breaks rule {code}")]
     Malformed { code: u8, part: Part, row: u32 },
+    /// There was no memory to check with.
+    #[error("out of memory")]
     OutOfMemory,
 }
 

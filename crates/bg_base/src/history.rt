@@ -8,6 +8,7 @@ pub type Map = Rows<u32>;
 /// A rule, by its number, at an occurrence of its redex.
 #[derive(Debug, Drop, PartialEq, Eq)]
 pub struct Step {
+    /// Counted from 0.
     pub rule: u32,
     pub map: Map,
 }
@@ -15,7 +16,9 @@ pub struct Step {
 /// A step that a worker made: the worker, the rule, and the occurrence.
 #[derive(Debug, Drop, PartialEq, Eq)]
 pub struct Entry {
+    /// Counted from 0.
     pub worker: u32,
+    /// Counted from 0.
     pub rule: u32,
     pub map: Map,
 }

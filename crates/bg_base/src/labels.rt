@@ -9,7 +9,8 @@ use bg_lists::{Duplicate, Mem, Rows};
 use std::alloc::Global;
 use std::cmp::Ordering;
 
-/// An argument of a label: a whole number, or a text. Whole numbers come before texts.
+/// An argument of a label: a whole number, or a text. Whole numbers ascend by size, texts by their bytes, and whole
+/// numbers come before texts.
 #[derive(Debug, Drop, PartialEq, Eq)]
 pub enum Value {
     Int(i64),
@@ -55,7 +56,7 @@ impl Duplicate for Value {
 }
 
 /// What a control, a rule or a predicate is called, as `K`, `K(3)` or `K(3,"a")`.
-/// Labels ascend by their identifiers, and then by their arguments.
+/// Labels ascend by their identifiers, and then by their arguments in dictionary order.
 #[derive(Debug, Drop, PartialEq, Eq)]
 pub struct Label {
     pub name: Ident,

@@ -28,7 +28,7 @@ impl Model for PortLinks {
 }
 
 impl PortLinks {
-    /// The list of these links. Takes no memory.
+    /// The list of these links, fewer than 4,294,967,295. Takes no memory.
     pub fn from_small_vec(items: SmallVec<Link, 4>) -> PortLinks
         requires { length items.items < 2 ^ 32 - 1 }
         ensures { result ≡ items.items }

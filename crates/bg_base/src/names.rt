@@ -15,9 +15,10 @@ use std::cmp::Ordering;
 pub enum Name {
     /// A name that a user wrote.
     Plain(Ident),
-    /// The name of a port of a node: the node, and the index of the port, counted from 0.
+    /// The name of a port of a node: the node, and the index of the port, counted from 0. A parameter of a match has
+    /// such names, one for each port, so that the context can tie them; the node need not be in the bigraph at hand.
     Port(u32, u32),
-    /// The name that stands for an edge which is open in a part of a bigraph.
+    /// The name that stands for an edge, by its number, where a part of a bigraph is cut out that the edge leaves.
     Opened(u32),
 }
 

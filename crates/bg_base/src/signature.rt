@@ -7,6 +7,7 @@ use bg_lists::{Duplicate, Mem, OutOfMemory, copies};
 use std::alloc::{AllocError, AllocFailed, Global};
 use std::collections::BTreeMap;
 use std::marker::Model;
+use thiserror::Error;
 
 /// Whether nodes of a control may have children.
 #[derive(Clone, Copy, Debug, PartialEq, Eq)]
@@ -25,8 +26,9 @@ pub struct Control {
     pub kind: Kind,
 }
 
-/// A basic signature (Milner, chapter 1): a list of controls. The limits are this project's: at most 4,096 controls. A control's number is its position, counted
-/// from 0. No label stands twice and no arity is above 16. A contract sees the list of the controls.
+/// A basic signature (Milner, chapter 1): a list of controls. A control's number is its position, counted from 0. No label
+/// stands twice. The limits are this project's: no arity is above 16, and there are at most 4,096 controls. A contract
+/// sees the list of the controls.
 #[derive(Debug, Drop)]
 pub struct Signature {
     controls: Vec<Control>,
@@ -46,14 +48,19 @@ impl Model for Signature {
 }
 
 /// Why a control was not added.
-#[derive(Clone, Copy, Debug, PartialEq, Eq)]
+#[derive(Clone, Copy, Debug, PartialEq, Eq, Error)]
 pub enum SignatureFault {
     /// The label is there.
+    #[error("a control has that label")]
     DuplicateControl,
     /// The arity is above 16.
+    #[error("the arity is above 16")]
     ArityTooLarge,
     /// There are 4,096 controls.
+    #[error("there are 4,096 controls")]
     TooManyControls,
+    /// There was no memory for the control.
+    #[error("out of memory")]
     OutOfMemory,
 }
 
@@ -112,7 +119,7 @@ impl Signature {
 
     /// Appends a control and answers its number. It refuses, in this order: `DuplicateControl` where the label is
     /// there, `ArityTooLarge` where the arity is above 16, `TooManyControls` where there are 4,096 controls.
-    /// The signature then stays as it was.
+    /// The signature then stays as it was. Logarithmic in the number of controls, and linear in the label.
     pub fn add(
         &mut self,
         alloc: Global,
@@ -169,7 +176,7 @@ impl Signature {
         self.controls.as_slice()
     }
 
-    /// The label of the control of this number.
+    /// The label of the control of this number, which is there. Constant time, as the calls that follow.
     pub fn label(&self, control: u32) -> &Label
         requires { control < length self.now }
         ensures { option_map (λ found. found.label) (slice_get self.now control) ≡ Some result.now }
@@ -177,7 +184,7 @@ impl Signature {
         &self.controls[control as usize].label
     }
 
-    /// The arity of the control of this number.
+    /// The arity of the control of this number, which is there.
     pub fn arity(&self, control: u32) -> u32
         requires { control < length self.now }
         ensures value { option_map (λ found. found.arity) (slice_get self.now control) ≡ Some result }
@@ -186,7 +193,7 @@ impl Signature {
         self.controls[control as usize].arity
     }
 
-    /// The kind of the control of this number.
+    /// The kind of the control of this number, which is there.
     pub fn kind(&self, control: u32) -> Kind
         requires { control < length self.now }
         ensures { option_map (λ found. found.kind) (slice_get self.now control) ≡ Some result }

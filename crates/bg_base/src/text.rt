@@ -44,7 +44,7 @@ impl Ident {
         }
     }
 
-    /// The identifier of these bytes. Linear in the bytes.
+    /// The identifier of these bytes, which spell one. Linear in the bytes.
     pub fn from_bytes(alloc: Global, bytes: &[u8]) -> Mem<Ident>
         requires { IsTrue (spelling.is_ident bytes.now) }
         ensures { IfOk result (λ made. made ≡ bytes.now) }
@@ -101,7 +101,7 @@ impl Text {
         }
     }
 
-    /// The text of these bytes. Linear in the bytes.
+    /// The text of these bytes, each of which may stand in a text. Linear in the bytes.
     pub fn from_bytes(alloc: Global, bytes: &[u8]) -> Mem<Text>
         requires { IsTrue (spelling.is_text bytes.now) }
         ensures { IfOk result (λ made. made ≡ bytes.now) }
@@ -126,7 +126,7 @@ impl Duplicate for Text {
     }
 }
 
-/// Whether the bytes spell an identifier.
+/// Whether the bytes spell an identifier. Linear.
 pub fn is_ident(bytes: &[u8]) -> bool
     ensures { result ≡ spelling.is_ident bytes.now }
 {
@@ -136,7 +136,7 @@ pub fn is_ident(bytes: &[u8]) -> bool
     }
 }
 
-/// Whether the bytes may stand in a text.
+/// Whether the bytes may stand in a text. Linear.
 pub fn is_text(bytes: &[u8]) -> bool
     ensures { result ≡ spelling.is_text bytes.now }
 {

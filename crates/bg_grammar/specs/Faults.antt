@@ -18,7 +18,7 @@ pub record IsOnlyDerivation (g : Grammar) (s most : ℕ) (kinds : List ℕ) (ste
   pub shallow : IsShallow most steps
   pub once : (others : List Step) → IsDerivation g s kinds others → others ≡ steps
 
--- no token before number `end` is
+-- no token before number `end` is deeper than `most`
 abbrev pub IsShallowBefore : ℕ → ℕ → List Step → Type 0
 IsShallowBefore most end steps = (token depth : ℕ) → token < end → At depth token (depths_of steps) → depth ≤ most
 

@@ -10,7 +10,7 @@ pub record Plan : Type 0 where
   pub rows : List (List ℕ)
   -- for each symbol a row: 1 for each kind that may follow it
   pub follows : List (List ℕ)
-  -- for each symbol a number from 1 on: one of its alternatives has only symbols of lower ranks, so that it derives some tokens
+  -- for each symbol a number from 1 on: one of its alternatives has only symbols of lower ranks, so that it derives a list of tokens, perhaps none
   pub ranks : List ℕ
 
 abbrev pub row : Plan → ℕ → List ℕ

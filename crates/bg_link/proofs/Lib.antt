@@ -3,3 +3,4 @@ pub mod RankLaws
 pub mod PointLaws
 pub mod GroupLaws
 pub mod WholeLaws
+pub mod AbsentLaws

@@ -19,8 +19,10 @@ use bg_lists::{Duplicate, Mem, Rows};
 use std::alloc::Global;
 
 /// The link part of the composition of `g` and `f` (Milner, chapter 2): what is tied to outer name `y` of `f` is tied
-/// to the link of inner name `y` of `g`. The places of the two play no part. Costs time n log n in the number of nodes,
-/// ports, edges and names, with a comparison of names at each step of a search, and memory in proportion to both.
+/// to the link of inner name `y` of `g`. The outer names of `f` are the inner names of `g`, and no node and no edge is in
+/// both. The places of the two play no part. Costs time n log n in the number of nodes, ports, edges and names, with a
+/// comparison of names at each step of a search, and memory in proportion to both and to the result: each port of `f`
+/// gets a copy of the name that its link becomes.
 pub fn compose_links(alloc: Global, g: &Big, f: &Big) -> Mem<Links>
     requires g_valid { IsValid g.now }
     requires f_valid { IsValid f.now }

@@ -6,11 +6,13 @@
 //! - [`compose_links`], [`tensor_links`], [`share_links`]: the link part of composition and of products.
 //! - [`name_set`], [`sorted_edges`], [`both_inner`], [`shared_names`], [`link_through`], [`links_through`],
 //!   [`inner_through`]: their parts.
+//! - [`laws`]: a link that is not there has no points.
 #![tactic(auto)]
 
 mod composition;
 mod graph;
 mod groups;
+pub mod laws;
 mod points;
 mod products;
 mod through;

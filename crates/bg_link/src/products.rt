@@ -35,7 +35,7 @@ pub fn tensor_links(alloc: Global, f: &Big, g: &Big) -> Mem<Links>
 }
 
 /// The link part of the parallel product of `f` and `g` (Milner, chapter 3): both side by side, and an outer name that
-/// both have is one link. Costs time n log n in the number of nodes, edges and names, with a comparison of names at each
+/// both have is one link; no inner name, no node and no edge is in both. Costs time n log n in the number of nodes, edges and names, with a comparison of names at each
 /// step of a sort of names, and memory in proportion to both.
 pub fn share_links(alloc: Global, f: &Big, g: &Big) -> Mem<Links>
     requires f_valid { IsValid f.now }

@@ -10,7 +10,7 @@ use smallvec::SmallVec;
 use std::alloc::Global;
 
 /// What a link of the lower bigraph becomes in its composition with `g`: an outer name becomes the link of that inner
-/// name of `g`, and an edge stays. Takes no memory; logarithmic in the number of inner names of `g`.
+/// name of `g`, a name that is no inner name of `g` stays, and an edge stays. The inner names of `g` ascend. Takes no memory; logarithmic in the number of inner names of `g`.
 pub fn link_through<'a>(g: &'a Big, link: &'a Link) -> &'a Link
     requires ascending { IsStrictlySortedBy inner_cmp g.now.inner }
     ensures { result.now ≡ composition.link_through g.now link.now }
@@ -24,8 +24,8 @@ pub fn link_through<'a>(g: &'a Big, link: &'a Link) -> &'a Link
     }
 }
 
-/// The links of a node of the lower bigraph, in the composition. Costs memory in proportion to them, and for each the
-/// logarithm of the number of inner names of `g`.
+/// The links of a node of the lower bigraph, in the composition. Costs memory in proportion to the result, and for each
+/// link the logarithm of the number of inner names of `g`.
 pub fn links_through(alloc: Global, g: &Big, links: &[Link]) -> Mem<PortLinks>
     requires ascending { IsStrictlySortedBy inner_cmp g.now.inner }
     requires small { length links.now < 2 ^ 32 - 1 }
@@ -46,8 +46,8 @@ fn link_list_through(alloc: Global, g: &Big, links: &[Link]) -> Mem<SmallVec<Lin
     Ok(made)
 }
 
-/// The inner names of the lower bigraph with their links, in the composition. Costs memory in proportion to them, and
-/// for each the logarithm of the number of inner names of `g`.
+/// The inner names of the lower bigraph with their links, in the composition. Costs memory in proportion to the
+/// result, and for each the logarithm of the number of inner names of `g`.
 pub fn inner_through(alloc: Global, g: &Big, inner: &[InnerRow]) -> Mem<Rows<InnerRow>>
     requires ascending { IsStrictlySortedBy inner_cmp g.now.inner }
     requires small { length inner.now < 2 ^ 32 - 1 }

@@ -61,7 +61,7 @@ impl Wiring {
         find_link(self.groups.links.ports.as_slice(), node, port).is_some()
     }
 
-    /// The link that the port is tied to. Takes no memory; logarithmic in the number of nodes.
+    /// The link that the port, which is there, is tied to. Takes no memory; logarithmic in the number of nodes.
     pub fn link(&self, node: u32, port: u32) -> &Link
         requires there { IsTrue (defined.has_port self.now node port) }
         ensures { defined.link_of self.now node port ≡ Some result.now }

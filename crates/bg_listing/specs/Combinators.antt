@@ -67,7 +67,7 @@ abbrev pub further : {A : Type 0} → Option A → List ℕ → Result (List A �
 further None rest others = Ok ([], rest)
 further (Some a) rest others = with_front (a ∷ []) others
 
--- as many as there are up to the closing byte, each behind a separator, in fewer than `most` steps
+-- as many as there are up to the closing byte, each behind a separator, in at most `most` steps
 unfoldable pub chain_within : {A : Type 0} → ℕ → ℕ → (List ℕ → Result (A × List ℕ) (Unit {0})) → ℕ → List ℕ → Result (List A × List ℕ) (Unit {0})
 chain_within closing separator read zero bytes = Err tt
 chain_within closing separator read (suc most) bytes = next closing separator read bytes >>= λ n. further n.0 n.1 (chain_within closing separator read most n.1)

@@ -1,6 +1,7 @@
 //! Why a listing was not read.
 use bg_lists::OutOfMemory as NoMemory;
 use std::alloc::{AllocError, AllocFailed};
+use thiserror::Error;
 
 /// The code of a line that is not of its form. The end of input counts as a line.
 pub const BAD_LINE: u8 = 1;
@@ -12,11 +13,14 @@ pub const TOO_MANY: u8 = 2;
 pub const DUPLICATE_LABEL: u8 = 9;
 
 /// Why a listing was not read.
-#[derive(Clone, Copy, Debug, PartialEq, Eq)]
+#[derive(Clone, Copy, Debug, PartialEq, Eq, Error)]
 pub enum ListingFault {
     /// No listing stands at the cursor: the code of the refusal, and the line, counted from 1 at the beginning of
     /// the input.
+    #[error("line {line}: refused with code {code}")]
     Bad { code: u8, line: u32 },
+    /// There was no memory for what was read.
+    #[error("out of memory")]
     OutOfMemory,
 }
 

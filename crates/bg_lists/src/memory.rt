@@ -1,8 +1,10 @@
 //! Want of memory, the one answer whose cause no contract tells.
 use std::alloc::{AllocError, AllocFailed};
+use thiserror::Error;
 
 /// There was no memory for what a call had to make. A list too long to be numbered by 32 bits counts as that too.
-#[derive(Clone, Copy, Debug, PartialEq, Eq)]
+#[derive(Clone, Copy, Debug, PartialEq, Eq, Error)]
+#[error("out of memory")]
 pub struct OutOfMemory;
 
 /// The answer of a call that can fail for want of memory alone.

@@ -3,3 +3,4 @@ pub mod GroupLaws
 pub mod ClimbLaws
 pub mod AncestryLaws
 pub mod SubtreeLaws
+pub mod AbsentLaws

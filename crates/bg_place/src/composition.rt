@@ -17,7 +17,7 @@ use bg_lists::{Mem, Rows};
 use std::alloc::Global;
 
 /// The place part of the composition of `g` and `f`: what lies in region `j` of `f` comes to lie where site `j` of `g`
-/// lies. The links of the two play no part. Costs time n log n, and memory n, in the number of nodes and sites.
+/// lies. `f` has as many regions as `g` has sites, and no node is in both. The links of the two play no part. Costs time n log n, and memory n, in the number of nodes and sites.
 pub fn compose_places(alloc: Global, g: &Big, f: &Big) -> Mem<Places>
     requires g_valid { IsValid g.now }
     requires f_valid { IsValid f.now }
@@ -33,7 +33,7 @@ pub fn compose_places(alloc: Global, g: &Big, f: &Big) -> Mem<Places>
 }
 
 /// Where a place of the lower bigraph comes to lie: region `j` becomes the place of site `j` of `g`, and a region that
-/// `g` has no site for stays.
+/// `g` has no site for stays. Takes no memory and constant time.
 pub fn place_through(g: &Big, place: Place) -> Place
     ensures { result ≡ whole.place_through g.now place }
 {

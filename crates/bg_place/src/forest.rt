@@ -70,7 +70,7 @@ impl Forest {
         }
     }
 
-    /// Where the node lies. Logarithmic in the number of nodes.
+    /// Where the node lies, which is there. Logarithmic in the number of nodes.
     pub fn parent(&self, node: u32) -> Place
         requires there { IsTrue (defined.has_node self.now node) }
         ensures { defined.parent_of self.now node ≡ Some result }
@@ -99,7 +99,7 @@ impl Forest {
         self.sites.members_of(place)
     }
 
-    /// The number of nodes that the node lies in, directly or not. Takes no memory; costs a logarithm of the number of
+    /// The number of nodes that the node, which is there, lies in, directly or not. Takes no memory; costs a logarithm of the number of
     /// nodes for each of them.
     pub fn depth(&self, node: u32) -> u32
         requires there { IsTrue (defined.has_node self.now node) }
@@ -119,7 +119,7 @@ impl Forest {
         is_above(&self.places.parents, upper, lower)
     }
 
-    /// The node and all nodes that lie in it, directly or not, ascending. Costs time n log n, and memory
+    /// The node, which is there, and all nodes that lie in it, directly or not, ascending. Costs time n log n, and memory
     /// n, in the number of nodes.
     pub fn subtree(&self, alloc: Global, node: u32) -> Mem<Vec<u32>>
         requires there { IsTrue (defined.has_node self.now node) }

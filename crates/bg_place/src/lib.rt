@@ -4,7 +4,8 @@
 //! - [`Forest`]: the places with their children kept at hand.
 //! - [`compose_places`]: the place part of composition; [`place_through`] and [`sites_through`], of which it is made.
 //! - [`tensor_places`]: the place part of the tensor product, and of the parallel product.
-//! - [`climbs_reach_regions`]: no climb is cut off, as a law.
+//! - [`climbs_reach_regions`], [`depths_count_from_regions`], [`places_not_there_are_empty`]: laws. No climb is cut off;
+//!   depths count from the regions; what is not there has no children and no sites.
 #![tactic(auto)]
 
 mod climb;
@@ -19,7 +20,7 @@ mod subtree;
 pub use composition::{compose_places, place_through, sites_through};
 pub use forest::Forest;
 pub use graph::{ParentRow, Places, places_of};
-pub use laws::climbs_reach_regions;
+pub use laws::{climbs_reach_regions, depths_count_from_regions, places_not_there_are_empty};
 pub use products::tensor_places;
 
 #[cfg(test)]

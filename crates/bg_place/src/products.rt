@@ -18,7 +18,7 @@ use bg_lists::{Duplicate, Mem, Rows};
 use std::alloc::Global;
 
 /// The place part of the tensor product of `f` and `g`, and of their parallel product: the two side by side, the regions
-/// and sites of `g` after those of `f`. The links of the two play no part. Costs time n log n, and memory n, in the
+/// and sites of `g` after those of `f`; no node is in both. The links of the two play no part. Costs time n log n, and memory n, in the
 /// number of nodes and sites.
 pub fn tensor_places(alloc: Global, f: &Big, g: &Big) -> Mem<Places>
     requires f_valid { IsValid f.now }

@@ -19,7 +19,7 @@ use Rattle.bg_base.specs.declared.big.Big.{Big}
 use Rattle.bg_base.specs.Bigraph.{IsGround, node_cmp}
 use Rattle.bg_base.specs.Composition.{compose, place_through, link_through, row_through, inner_through, FacesAgree, SupportsApart}
 use Rattle.bg_base.specs.Elementary.{row_to_itself, identity}
-use Rattle.bg_base.specs.Instance.{node_numbers, place_renamed, link_renamed, row_renamed}
+use Rattle.bg_base.specs.Translation.{node_numbers, place_renamed, link_renamed, row_renamed}
 use Rattle.bg_base.proofs.LookUps.{node_cmp_total}
 use Rattle.bg_base.proofs.Composed.{SupportsApart-from_members, nodes_apart, edges_apart, Mem-compose_upper, Mem-compose_lower, Mem-compose_cases, Mem-compose_edge_upper, Mem-compose_edge_lower, Mem-compose_edge_cases, compose_nodes_ascend, compose_edges_ascend, compose_sites, compose_inner, compose_regions, compose_outer}
 use Rattle.bg_algebra.specs.Frame.{framed}

@@ -12,7 +12,7 @@ use Rattle.bg_base.specs.declared.names.Link.{Link}
 use Rattle.bg_base.specs.declared.names.Link.TheVariants.{Edge, Outer}
 use Rattle.bg_base.specs.declared.big.NodeRow.{NodeRow}
 use Rattle.bg_base.specs.declared.big.Big.{Big}
-use Rattle.bg_base.specs.Instance.{node_numbers}
+use Rattle.bg_base.specs.Translation.{node_numbers}
 use Rattle.bg_base.specs.Products.{same_link}
 use Rattle.bg_base.proofs.NameLaws.{test_same_name}
 use Rattle.bg_place.specs.Places.{same_place}

@@ -20,7 +20,7 @@ use Rattle.bg_base.specs.Bigraph.{IsValid, IsGround, inner_of, outer_of}
 use Rattle.bg_base.specs.Faults.{fault_of}
 use Rattle.bg_base.specs.Composition.{compose, faces_agree, supports_apart}
 use Rattle.bg_base.specs.Elementary.{counted, identity}
-use Rattle.bg_base.specs.Instance.{rename}
+use Rattle.bg_base.specs.Translation.{rename}
 use Rattle.bg_base.specs.Products.{has_point}
 use Rattle.bg_base.proofs.FaultLaws.{no_fault}
 use Rattle.bg_base.proofs.CompositionTests.{FacesAgree-from_test, SupportsApart-from_test}

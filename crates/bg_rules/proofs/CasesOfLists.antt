@@ -12,7 +12,7 @@ use Rattle.bg_base.specs.declared.big.NodeRow.{NodeRow}
 use Rattle.bg_base.specs.declared.big.Big.{Big}
 use Rattle.bg_base.specs.Elementary.{counted}
 use Rattle.bg_base.specs.Faults.{fault_of, sites_fault, inner_fault, outer_fault, edges_fault, nodes_fault}
-use Rattle.bg_base.specs.Instance.{along}
+use Rattle.bg_base.specs.Translation.{along}
 use Rattle.bg_base.proofs.LookUps.{tied_numbers}
 use Rattle.bg_rules.specs.Decomposition.{Occurs}
 use Rattle.bg_rules.specs.LocalConditions.{MeetsLocally}

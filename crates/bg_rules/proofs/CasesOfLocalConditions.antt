@@ -21,7 +21,7 @@ use Rattle.bg_base.specs.Bigraph.{IsValid, IsGround, inner_cmp, outer_of}
 use Rattle.bg_base.specs.Composition.{compose, inner_names, row_through, link_through}
 use Rattle.bg_base.specs.Elementary.{counted, identity, row_to_itself}
 use Rattle.bg_base.specs.Faults.{fault_of, sites_fault, inner_fault, outer_fault, edges_fault, nodes_fault}
-use Rattle.bg_base.specs.Instance.{along, rename}
+use Rattle.bg_base.specs.Translation.{along, rename}
 use Rattle.bg_base.specs.Products.{tensor}
 use Rattle.bg_base.proofs.Composed.{length-compose_edges, nodes_apart, Mem-compose_upper, Mem-compose_cases}
 use Rattle.bg_rules.specs.Decomposition.{frame, names_of, IsParameter, Occurs}

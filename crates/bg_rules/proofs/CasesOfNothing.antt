@@ -13,7 +13,7 @@ use Rattle.bg_base.specs.Bigraph.{IsValid, IsGround, reaches, is_rooted}
 use Rattle.bg_base.specs.Composition.{compose, inner_names}
 use Rattle.bg_base.specs.Elementary.{counted, identity}
 use Rattle.bg_base.specs.Faults.{fault_of, sites_fault, inner_fault, outer_fault, edges_fault, nodes_fault}
-use Rattle.bg_base.specs.Instance.{rename}
+use Rattle.bg_base.specs.Translation.{rename}
 use Rattle.bg_base.specs.Products.{tensor}
 use Rattle.bg_base.proofs.CompositionTests.{FacesAgree-from_test, SupportsApart-from_test}
 use Rattle.bg_base.proofs.Climbs.{row_from_reaches}

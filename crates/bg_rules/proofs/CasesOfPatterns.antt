@@ -14,7 +14,7 @@ use Rattle.bg_base.specs.Bigraph.{IsValid, IsGround}
 use Rattle.bg_base.specs.Composition.{compose}
 use Rattle.bg_base.specs.Elementary.{counted, identity}
 use Rattle.bg_base.specs.Faults.{fault_of, sites_fault, inner_fault, outer_fault, edges_fault, nodes_fault}
-use Rattle.bg_base.specs.Instance.{along, rename}
+use Rattle.bg_base.specs.Translation.{along, rename}
 use Rattle.bg_base.specs.Products.{same_link, has_point, tensor}
 use Rattle.bg_place.specs.Places.{same_place}
 use Rattle.bg_algebra.specs.Frame.{is_plain}

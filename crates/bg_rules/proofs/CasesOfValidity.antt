@@ -9,7 +9,7 @@ use Rattle.bg_base.specs.declared.big.Big.{Big}
 use Rattle.bg_base.specs.Bigraph.{IsValid, has_place}
 use Rattle.bg_base.specs.Composition.{compose}
 use Rattle.bg_base.specs.Elementary.{counted, identity}
-use Rattle.bg_base.specs.Instance.{along, rename}
+use Rattle.bg_base.specs.Translation.{along, rename}
 use Rattle.bg_base.specs.Products.{tensor}
 use Rattle.bg_rules.specs.Decomposition.{frame}
 use Rattle.bg_rules.proofs.CaseTests.{parts_fit}

@@ -12,7 +12,7 @@ use Rattle.bg_base.specs.declared.big.Big.{Big}
 use Rattle.bg_base.specs.declared.signature.Control.{Control}
 use Rattle.bg_base.specs.Elementary.{counted}
 use Rattle.bg_base.specs.Faults.{fault_of, sites_fault, inner_fault, outer_fault, edges_fault, nodes_fault}
-use Rattle.bg_base.specs.Instance.{along}
+use Rattle.bg_base.specs.Translation.{along}
 use Rattle.bg_base.specs.Products.{same_link}
 use Rattle.bg_place.specs.Places.{same_place}
 use Rattle.bg_rules.specs.Decomposition.{Occurs}

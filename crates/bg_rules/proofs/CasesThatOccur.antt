@@ -7,7 +7,7 @@ use Rattle.bg_base.specs.declared.names.Link.TheVariants.{Edge, Outer}
 use Rattle.bg_base.specs.Composition.{compose}
 use Rattle.bg_base.specs.Elementary.{counted, identity}
 use Rattle.bg_base.specs.Faults.{fault_of, sites_fault, inner_fault, outer_fault, edges_fault, nodes_fault}
-use Rattle.bg_base.specs.Instance.{along, rename}
+use Rattle.bg_base.specs.Translation.{along, rename}
 use Rattle.bg_base.specs.Products.{tensor}
 use Rattle.bg_rules.specs.Decomposition.{Occurs}
 use Rattle.bg_rules.proofs.CaseTests.{occurs_by}

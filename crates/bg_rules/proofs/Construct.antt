@@ -19,7 +19,7 @@ use Rattle.bg_base.specs.declared.big.Big.{Big}
 use Rattle.bg_base.specs.Bigraph.{IsValid, IsGround}
 use Rattle.bg_base.specs.Composition.{place_through, link_through, inner_names}
 use Rattle.bg_base.specs.Elementary.{counted}
-use Rattle.bg_base.specs.Instance.{along, place_renamed, link_renamed}
+use Rattle.bg_base.specs.Translation.{along, place_renamed, link_renamed}
 use Rattle.bg_base.proofs.LookUps.{inner_of-member}
 use Rattle.bg_algebra.proofs.Nested.{Mem-counted, length-counted}
 use Rattle.bg_algebra.proofs.CompositionLaws.{At-counted}

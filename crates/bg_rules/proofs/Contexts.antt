@@ -24,7 +24,7 @@ use Rattle.bg_base.specs.declared.big.Big.{Big}
 use Rattle.bg_base.specs.Order.{name_cmp}
 use Rattle.bg_base.specs.Bigraph.{IsValid, node_cmp, inner_cmp, has_place, has_link}
 use Rattle.bg_base.specs.Composition.{inner_names}
-use Rattle.bg_base.specs.Instance.{along}
+use Rattle.bg_base.specs.Translation.{along}
 use Rattle.bg_base.proofs.LookUps.{has_row, has_edge, row_of-member, row_from_row_of, member_from_has_edge, tied_numbers, apart_numbers}
 use Rattle.bg_base.proofs.Climbs.{Climb, at_region, at_node, Climb-from_place}
 use Rattle.bg_algebra.proofs.Renamed.{map-along}

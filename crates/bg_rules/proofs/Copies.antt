@@ -13,7 +13,7 @@ use Rattle.bg_lists.proofs.Words.{is_some_find, found}
 use Rattle.bg_base.specs.declared.big.NodeRow.{NodeRow}
 use Rattle.bg_base.specs.declared.big.Big.{Big}
 use Rattle.bg_base.specs.Bigraph.{IsValid, node_cmp}
-use Rattle.bg_base.specs.Instance.{node_numbers}
+use Rattle.bg_base.specs.Translation.{node_numbers}
 use Rattle.bg_base.proofs.LookUps.{apart_numbers, tied_numbers}
 use Rattle.bg_rules.specs.Instantiation.{part, is_among, late_nodes, number_in_copy, row_in_copy, copies_from}
 use Rattle.bg_rules.proofs.Patterns.{number_mem}

@@ -13,7 +13,7 @@ use Rattle.bg_lists.proofs.Words.{All-member, All-from_members}
 use Rattle.bg_base.specs.declared.big.NodeRow.{NodeRow}
 use Rattle.bg_base.specs.declared.big.Big.{Big}
 use Rattle.bg_base.specs.Bigraph.{node_cmp}
-use Rattle.bg_base.specs.Instance.{node_numbers}
+use Rattle.bg_base.specs.Translation.{node_numbers}
 use Rattle.bg_rules.specs.Hosts.{IsHost, IsHostBig, AreSmallNumbers, past_largest, fresh_host}
 
 pub below_past : (numbers : List ℕ) {number : ℕ} → Mem number numbers → number < past_largest numbers

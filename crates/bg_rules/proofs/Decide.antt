@@ -16,7 +16,7 @@ use Rattle.bg_base.specs.declared.big.NodeRow.{NodeRow}
 use Rattle.bg_base.specs.declared.big.Big.{Big}
 use Rattle.bg_base.specs.Order.{name_cmp}
 use Rattle.bg_base.specs.Bigraph.{IsGround}
-use Rattle.bg_base.specs.Instance.{node_numbers}
+use Rattle.bg_base.specs.Translation.{node_numbers}
 use Rattle.bg_base.proofs.NameLaws.{same_name_from_test, test_same_name}
 use Rattle.bg_base.proofs.LookUps.{row_from_row_of}
 use Rattle.bg_base.proofs.Climbs.{Climb, at_region, at_node, Climb-from_place}

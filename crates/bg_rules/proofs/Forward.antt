@@ -14,7 +14,7 @@ use Rattle.bg_base.specs.declared.big.InnerRow.{InnerRow}
 use Rattle.bg_base.specs.declared.big.Big.{Big}
 use Rattle.bg_base.specs.Bigraph.{IsGround, has_place, has_link}
 use Rattle.bg_base.specs.Composition.{place_through, link_through}
-use Rattle.bg_base.specs.Instance.{along, node_numbers, place_renamed, link_renamed}
+use Rattle.bg_base.specs.Translation.{along, node_numbers, place_renamed, link_renamed}
 use Rattle.bg_base.proofs.LookUps.{inner_of-member}
 use Rattle.bg_rules.specs.Solid.{IsPattern}
 use Rattle.bg_rules.specs.LocalConditions.{Meets, at_place, above, image_of, IsImage, MeetsLocally}

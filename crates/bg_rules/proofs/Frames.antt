@@ -15,7 +15,7 @@ use Rattle.bg_base.specs.declared.signature.Control.{Control}
 use Rattle.bg_base.specs.Bigraph.{IsValid, IsValidUnder, node_cmp}
 use Rattle.bg_base.specs.Composition.{inner_names}
 use Rattle.bg_base.specs.Elementary.{counted, row_to_itself, identity}
-use Rattle.bg_base.specs.Instance.{place_renamed, row_renamed, inner_renamed, rename}
+use Rattle.bg_base.specs.Translation.{place_renamed, row_renamed, inner_renamed, rename}
 use Rattle.bg_base.proofs.Composed.{SupportsApart-from_members}
 use Rattle.bg_algebra.specs.Frame.{is_plain, is_port, framed}
 use Rattle.bg_algebra.specs.Laws.{Apart}

@@ -10,7 +10,7 @@ use Rattle.bg_base.specs.declared.big.NodeRow.{NodeRow}
 use Rattle.bg_base.specs.declared.big.Big.{Big}
 use Rattle.bg_base.specs.Bigraph.{IsValid}
 use Rattle.bg_base.specs.Composition.{place_through, link_through, inner_names}
-use Rattle.bg_base.specs.Instance.{node_numbers, place_renamed, link_renamed}
+use Rattle.bg_base.specs.Translation.{node_numbers, place_renamed, link_renamed}
 use Rattle.bg_rules.specs.Decomposition.{IsParameter, AreNew}
 use Rattle.bg_rules.specs.LocalConditions.{image_of}
 

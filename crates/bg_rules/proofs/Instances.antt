@@ -17,7 +17,7 @@ use Rattle.bg_base.specs.declared.big.Big.{Big}
 use Rattle.bg_base.specs.declared.signature.Control.{Control}
 use Rattle.bg_base.specs.Order.{name_cmp}
 use Rattle.bg_base.specs.Bigraph.{IsValid, IsValidUnder, IsGround, node_cmp, row_of, has_place, has_link, is_atomic, is_atomic_control, arity_of}
-use Rattle.bg_base.specs.Instance.{node_numbers}
+use Rattle.bg_base.specs.Translation.{node_numbers}
 use Rattle.bg_base.proofs.LookUps.{node_cmp_total, row_from_row_of, row_of-member, row_from_has, has_row, has_region, member_from_has_edge}
 use Rattle.bg_base.proofs.Climbs.{Climb, at_region, at_node, Climb-from_place}
 use Rattle.bg_algebra.proofs.Parts.{IsSound, Fits, valid_from_rows, valid_under_from_rows}

@@ -16,7 +16,7 @@ use Rattle.bg_base.specs.declared.names.Link.TheVariants.{Outer}
 use Rattle.bg_base.specs.declared.big.NodeRow.{NodeRow}
 use Rattle.bg_base.specs.declared.big.Big.{Big}
 use Rattle.bg_base.specs.Bigraph.{IsValid, node_cmp, has_place, has_link}
-use Rattle.bg_base.specs.Instance.{place_renamed}
+use Rattle.bg_base.specs.Translation.{place_renamed}
 use Rattle.bg_base.proofs.LookUps.{has_row, has_region, has_outer, row_of-member, row_from_row_of}
 use Rattle.bg_base.proofs.Climbs.{Climb, at_region, at_node, Climb-from_place}
 use Rattle.bg_algebra.proofs.Parts.{IsSound, valid_from_rows}

@@ -7,7 +7,7 @@ use Rattle.bg_base.specs.declared.big.NodeRow.{NodeRow}
 use Rattle.bg_base.specs.declared.big.Big.{Big}
 use Rattle.bg_base.specs.Composition.{compose}
 use Rattle.bg_base.specs.Elementary.{counted, identity}
-use Rattle.bg_base.specs.Instance.{along, rename}
+use Rattle.bg_base.specs.Translation.{along, rename}
 use Rattle.bg_base.specs.Products.{tensor, lean}
 use Rattle.bg_rules.specs.Instantiation.{part, late_nodes, number_in_copy, copies_from, instantiate, next_after}
 use Rattle.bg_rules.specs.Reaction.{Numbered, recomposed}

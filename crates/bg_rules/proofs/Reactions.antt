@@ -10,7 +10,7 @@ use Rattle.bg_base.specs.declared.big.Big.{Big}
 use Rattle.bg_base.specs.Bigraph.{IsValid, IsGround}
 use Rattle.bg_base.specs.Composition.{compose, FacesAgree, SupportsApart, place_through, inner_through}
 use Rattle.bg_base.specs.Elementary.{counted}
-use Rattle.bg_base.specs.Instance.{node_numbers}
+use Rattle.bg_base.specs.Translation.{node_numbers}
 use Rattle.bg_base.specs.Products.{lean, has_point}
 use Rattle.bg_base.proofs.Composed.{SupportsApart-from_members, Mem-compose_cases, Mem-compose_edge_cases, compose_sites, compose_inner, compose_regions, compose_outer}
 use Rattle.bg_base.proofs.ComposedValid.{compose_valid}

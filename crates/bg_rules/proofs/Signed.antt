@@ -13,7 +13,7 @@ use Rattle.bg_base.specs.declared.signature.Control.{Control}
 use Rattle.bg_base.specs.Bigraph.{IsValidUnder, IsGround, has_place, is_atomic, arity_of}
 use Rattle.bg_base.specs.Composition.{link_through, place_through, compose}
 use Rattle.bg_base.specs.Elementary.{counted}
-use Rattle.bg_base.specs.Instance.{place_renamed}
+use Rattle.bg_base.specs.Translation.{place_renamed}
 use Rattle.bg_base.proofs.LookUps.{row_of-member, row_from_has}
 use Rattle.bg_base.proofs.ComposedValid.{compose_valid_under}
 use Rattle.bg_algebra.proofs.Changes.{lean_valid_under}

@@ -16,7 +16,7 @@ use Rattle.bg_base.specs.declared.big.InnerRow.{InnerRow}
 use Rattle.bg_base.specs.declared.big.Big.{Big}
 use Rattle.bg_base.specs.Bigraph.{IsGround, has_place}
 use Rattle.bg_base.specs.Composition.{place_through, link_through}
-use Rattle.bg_base.specs.Instance.{along, node_numbers, place_renamed, link_renamed}
+use Rattle.bg_base.specs.Translation.{along, node_numbers, place_renamed, link_renamed}
 use Rattle.bg_base.proofs.LookUps.{row_from_row_of, inner_cmp_total}
 use Rattle.bg_base.proofs.Climbs.{Climb, at_region, at_node, Climb-from_place}
 use Rattle.bg_algebra.proofs.CompositionLaws.{same_parts, same_nodes, same_edges as same_numbers}

@@ -9,7 +9,7 @@ use Rattle.bg_base.specs.declared.big.NodeRow.{NodeRow}
 use Rattle.bg_base.specs.declared.big.Big.{Big}
 use Rattle.bg_base.specs.Bigraph.{IsValid, has_place}
 use Rattle.bg_base.specs.Elementary.{counted}
-use Rattle.bg_base.specs.Instance.{node_numbers}
+use Rattle.bg_base.specs.Translation.{node_numbers}
 use Rattle.bg_base.proofs.LookUps.{row_from_has}
 use Rattle.bg_algebra.proofs.CompositionLaws.{At-counted, same_parts, same_nodes}
 use Rattle.bg_algebra.proofs.Nested.{length-counted}

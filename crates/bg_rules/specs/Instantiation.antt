@@ -8,7 +8,7 @@ use Rattle.bg_base.specs.declared.names.Place.TheVariants.{Node, Region}
 use Rattle.bg_base.specs.declared.big.NodeRow.{NodeRow}
 use Rattle.bg_base.specs.declared.big.Big.{Big}
 use Rattle.bg_base.specs.Bigraph.{node_cmp, row_of}
-use Rattle.bg_base.specs.Instance.{node_numbers}
+use Rattle.bg_base.specs.Translation.{node_numbers}
 
 -- going up from the place, that region is reached in at most so many moves
 abbrev pub is_under : List NodeRow → ℕ → ℕ → Place → Bool

@@ -3,7 +3,7 @@ use Rattle.std.specs.Prelude.{ℕ, ◌+◌, List, length}
 use Rattle.bg_base.specs.declared.big.Big.{Big}
 use Rattle.bg_base.specs.Composition.{compose, FacesAgree, SupportsApart}
 use Rattle.bg_base.specs.Elementary.{counted, identity}
-use Rattle.bg_base.specs.Instance.{rename}
+use Rattle.bg_base.specs.Translation.{rename}
 use Rattle.bg_algebra.specs.Laws.{Apart}
 use Rattle.bg_rules.specs.Decomposition.{frame}
 use Rattle.bg_rules.specs.Instantiation.{instantiate}

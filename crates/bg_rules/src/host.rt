@@ -3,7 +3,7 @@ ghost use Rattle.std.specs.Prelude.{◌≡◌, ◌≤◌};
 ghost use Rattle.std.specs.List.Sorted.{IsStrictlySortedBy};
 ghost use Rattle.std.specs.Ordering.{nat_cmp};
 ghost use Rattle.bg_base.specs.Bigraph.{node_cmp};
-ghost use Rattle.bg_base.specs.Instance.{node_numbers};
+ghost use Rattle.bg_base.specs.Translation.{node_numbers};
 ghost use Rattle.bg_rules.specs.Hosts.{IsHost, IsHostBig, AreSmallNumbers, fresh_host, past_largest};
 
 use bg_base::{Big, NodeRow};

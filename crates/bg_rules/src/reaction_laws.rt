@@ -6,7 +6,7 @@ ghost use Rattle.bg_base.specs.declared.big.Big.{Big};
 ghost use Rattle.bg_base.specs.declared.signature.Control.{Control};
 ghost use Rattle.bg_base.specs.Bigraph.{IsGround, IsValidUnder};
 ghost use Rattle.bg_base.specs.Elementary.{counted};
-ghost use Rattle.bg_base.specs.Instance.{node_numbers};
+ghost use Rattle.bg_base.specs.Translation.{node_numbers};
 ghost use Rattle.bg_rules.specs.Decomposition.{IsParameter, Decomposes, Occurs};
 ghost use Rattle.bg_rules.specs.Instantiation.{instantiate, next_after};
 ghost use Rattle.bg_rules.specs.Reaction.{Numbered, IsNumbered, AreSides, Reacts};

@@ -135,7 +135,7 @@ model_ways =
     ((s symbols.Number ∷ []) ∷ (k kinds.Text ∷ []) ∷ (k kinds.Lower ∷ []) ∷ (k kinds.Minus ∷ s symbols.U ∷ []) ∷ (k kinds.OpenRound ∷ s symbols.X ∷ k kinds.CloseRound ∷ []) ∷ []) ∷
     []
 
--- what stands below K and U is one deeper
+-- what stands below K (symbol 45) and U (symbol 57) is one deeper: these are the true ones, from 0
 unfoldable pub model_deepens : List Bool
 model_deepens = false ∷ false ∷ false ∷ false ∷ false ∷ false ∷ false ∷ false ∷ false ∷ false ∷ false ∷ false ∷ false ∷ false ∷ false ∷ false ∷ false ∷ false ∷ false ∷ false ∷ false ∷ false ∷ false ∷ false ∷ false ∷ false ∷ false ∷ false ∷ false ∷ false ∷ false ∷ false ∷ false ∷ false ∷ false ∷ false ∷ false ∷ false ∷ false ∷ false ∷ false ∷ false ∷ false ∷ false ∷ false ∷ true ∷ false ∷ false ∷ false ∷ false ∷ false ∷ false ∷ false ∷ false ∷ false ∷ false ∷ false ∷ true ∷ []
 

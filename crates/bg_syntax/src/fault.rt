@@ -1,5 +1,6 @@
 //! Why tokens are no model.
 use std::alloc::AllocFailed;
+use thiserror::Error;
 
 /// The code of a token, or of the end of input, that cannot stand there.
 pub const UNEXPECTED: u8 = 31;
@@ -8,13 +9,16 @@ pub const UNEXPECTED: u8 = 31;
 pub const TOO_DEEP: u8 = 32;
 
 /// Why tokens are no model. Tokens are counted from 0; the number of all tokens stands for the end of input.
-#[derive(Clone, Copy, Debug, PartialEq, Eq)]
+#[derive(Clone, Copy, Debug, PartialEq, Eq, Error)]
 pub enum SyntaxFault {
     /// The first token, or the end of input, that follows the tokens before it in no model.
+    #[error("token {token} is unexpected")]
     Unexpected { token: u32 },
     /// The first token with more than 256 symbols `K` and `U` above it, where a model begins with the tokens up to it.
+    #[error("token {token} is too deep")]
     TooDeep { token: u32 },
     /// Memory was wanting.
+    #[error("out of memory")]
     OutOfMemory,
 }
 

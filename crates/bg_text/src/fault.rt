@@ -1,5 +1,6 @@
 //! Why a text has no tokens.
 use std::alloc::AllocFailed;
+use thiserror::Error;
 
 /// The code of a byte that begins no token, or that no text between quotes may hold.
 pub const BAD_BYTE: u8 = 21;
@@ -14,10 +15,13 @@ pub const NUMBER_TOO_LARGE: u8 = 23;
 pub const DECIMAL_NUMBER: u8 = 24;
 
 /// Why a text has no tokens.
-#[derive(Clone, Copy, Debug, PartialEq, Eq)]
+#[derive(Clone, Copy, Debug, PartialEq, Eq, Error)]
 pub enum LexFault {
     /// The code of the first refusal, and its place in bytes from the beginning of the text.
+    #[error("byte {offset}: refused with code {code}")]
     Bad { code: u8, offset: u32 },
+    /// There was no memory for the tokens.
+    #[error("out of memory")]
     OutOfMemory,
 }
 

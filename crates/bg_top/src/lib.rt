@@ -15,4 +15,4 @@ mod top;
 pub use command::Command;
 pub use refusal::Refusal;
 pub use reply::Status;
-pub use top::{MOST, NO_MEMORY, engine};
+pub use top::{MOST, NO_MEMORY, READ_FAILURE, WRITE_FAILURE, engine};

@@ -1,14 +1,14 @@
 use Rattle.std.proofs.Common.{[], ◌∷◌, ◌++◌, ◌∙◌, ap, subst, sym}
 use Rattle.bg_base.specs.declared.names.Place.TheVariants.{Node}
 use Rattle.bg_base.specs.Bigraph.{IsValid, IsValidUnder}
-use Rattle.bg_base.specs.Elementary.{ion, molecule}
+use Rattle.bg_base.specs.Elementary.{ion, lone_node}
 use Rattle.bg_algebra.proofs.Nested.{ion_valid, ion_valid_under}
 use Rattle.bg_algebra.proofs.elementary.ion.Goals as goal
 
 pub returns-clause-value : goal.returns-clause-value
 unfolding ion
 returns-clause-value c =
-    c.in_ok-whole.ensures ∙ ap (molecule c.args.control c.args.node c.args.names.now) (c.from_vec.ensures ∙ c.in_ok-push.ensures.items ∙ ap (λ xs. xs ++ Node c.args.node ∷ []) c.new-sites.ensures.items)
+    c.in_ok-whole.ensures ∙ ap (lone_node c.args.control c.args.node c.args.names.now) (c.from_vec.ensures ∙ c.in_ok-push.ensures.items ∙ ap (λ xs. xs ++ Node c.args.node ∷ []) c.new-sites.ensures.items)
 
 pub returns-clause-valid : goal.returns-clause-valid
 returns-clause-valid c = subst IsValid (sym (returns-clause-value c)) (ion_valid c.args.control c.args.node c.args.names.now)

@@ -1,7 +1,7 @@
 use Rattle.std.proofs.Common.{◌≡◌, get_or, length, Ok, Err, sym, ap, subst, ◌∙◌}
 use Rattle.std.specs.List.Sorted.{IsStrictlySortedBy}
 use Rattle.std.specs.Ordering.{nat_cmp}
-use Rattle.bg_base.specs.Instance.{along}
+use Rattle.bg_base.specs.Translation.{along}
 use Rattle.bg_algebra.proofs.Renamed.{along-edge}
 use Rattle.bg_algebra.proofs.renumbering.new_edge.Goals as goal
 

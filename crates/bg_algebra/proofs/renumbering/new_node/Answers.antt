@@ -3,7 +3,7 @@ use Rattle.std.specs.List.Sorted.{IsStrictlySortedBy}
 use Rattle.std.proofs.lemmas.List.Sorted.{answers_always}
 use Rattle.bg_base.specs.declared.big.NodeRow.{NodeRow}
 use Rattle.bg_base.specs.Bigraph.{node_cmp}
-use Rattle.bg_base.specs.Instance.{along, node_numbers}
+use Rattle.bg_base.specs.Translation.{along, node_numbers}
 use Rattle.bg_algebra.proofs.Renamed.{along-node}
 use Rattle.bg_algebra.proofs.renumbering.new_node.Goals as goal
 

@@ -1,6 +1,6 @@
 use Rattle.std.proofs.Common.{◌∙◌, ap, map, subst, sym}
 use Rattle.bg_base.specs.Bigraph.{IsValid, IsValidUnder}
-use Rattle.bg_base.specs.Instance.{rename, place_renamed, inner_renamed}
+use Rattle.bg_base.specs.Translation.{rename, place_renamed, inner_renamed}
 use Rattle.bg_algebra.proofs.Renamed.{renamed_distinct, rename_valid, rename_valid_under}
 use Rattle.bg_algebra.proofs.renumbering.rename.Goals as goal
 

@@ -1,6 +1,6 @@
 use Rattle.std.proofs.Common.{◌≡◌, ◌+◌, sym, ap, ◌∙◌, arith}
 use Rattle.std.specs.Option.{option_copied}
-use Rattle.bg_base.specs.Instance.{node_numbers}
+use Rattle.bg_base.specs.Translation.{node_numbers}
 use Rattle.bg_rules.specs.Hosts.{past_largest}
 use Rattle.bg_rules.proofs.Counters.{past_last_row}
 use Rattle.bg_rules.proofs.host.past_last_node.Goals as goal

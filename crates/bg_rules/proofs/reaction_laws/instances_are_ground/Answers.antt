@@ -2,7 +2,7 @@ use Rattle.std.proofs.Common.{◌<◌, ◌≤◌, ◌⊎◌}
 use Rattle.bg_lists.specs.Lists.{Mem}
 use Rattle.bg_lists.proofs.Words.{All-from_members}
 use Rattle.bg_base.specs.declared.big.NodeRow.{NodeRow}
-use Rattle.bg_base.specs.Instance.{node_numbers}
+use Rattle.bg_base.specs.Translation.{node_numbers}
 use Rattle.bg_rules.specs.Instantiation.{instantiate, next_after}
 use Rattle.bg_rules.proofs.Instances.{number_below_from_all, instance_edges, instance_outer, instance_regions, instance_ground, instance_numbers, instance_below, instance_valid_under}
 use Rattle.bg_rules.proofs.reaction_laws.instances_are_ground.Goals as goal

@@ -1,5 +1,5 @@
 use Rattle.std.proofs.Common.{◌≡◌}
-use Rattle.bg_base.specs.Instance.{node_numbers}
+use Rattle.bg_base.specs.Translation.{node_numbers}
 use Rattle.bg_rules.specs.Hosts.{IsHost, past_largest}
 use Rattle.bg_rules.proofs.Counters.{nodes_past_small, edges_past_small, IsHost-fresh}
 use Rattle.bg_rules.proofs.host.Host.new.Goals as goal
