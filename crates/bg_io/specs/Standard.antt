@@ -7,6 +7,10 @@ use Rattle.bg_io.specs.declared.standard.StdSink.{StdSink}
 abbrev pub reader_of : {R : Type 0} → StdSource R → R
 reader_of source = source.reader
 
+-- how many reads were made
+abbrev pub reads_made : {R : Type 0} → StdSource R → ℕ
+reads_made source = source.calls
+
 -- how many reads have failed
 abbrev pub failed_reads : {R : Type 0} → StdSource R → ℕ
 failed_reads source = source.faults

@@ -1,3 +1,8 @@
+ghost use Rattle.std.specs.Prelude.{◌≡◌, ◌<◌, IfOk, MatchResult, length, OnOk};
+ghost use Rattle.std.specs.Io.{ReadsAtMost, WritesAtMost};
+ghost use Rattle.std.specs.Io.KnownBytes.{Keeps, ReadConsumes, WriteAppends};
+ghost use Rattle.bg_io.specs.Faults.{HasCause, HasSinkCause, next_count};
+
 use crate::fault::{Failed, SinkFault};
 use crate::sink::Sink;
 use crate::source::Source;
@@ -5,34 +10,52 @@ use std::io::{Read, Write};
 
 /// A source over a reader of std, as the standard input. It tells what is left where the reader does.
 ///
-/// Its count of faults starts at 0, has 64 bits, stays at its end and rises at each read that fails.
+/// Both its counts have 64 bits, start at 0 and stay at their end: of the reads, and of those that failed.
 #[derive(Debug, Drop)]
 pub struct StdSource<R> {
     reader: R,
+    calls: u64,
     faults: u64,
 }
 
 impl<R: Read> StdSource<R> {
     ghost use Rattle.std.specs.Prelude.{◌≡◌};
-    ghost use Rattle.bg_io.specs.Standard.{reader_of, failed_reads};
+    ghost use Rattle.bg_io.specs.Standard.{reader_of, reads_made, failed_reads};
 
-    /// A source that has not failed yet.
+    /// A source that was not read yet.
     pub fn new(reader: R) -> StdSource<R>
         ensures reader { reader_of result ≡ reader }
+        ensures reads { reads_made result ≡ 0 }
         ensures faults { failed_reads result ≡ 0 }
     {
-        StdSource { reader, faults: 0 }
+        StdSource {
+            reader,
+            calls: 0,
+            faults: 0,
+        }
     }
 }
 
 impl<R: Read> Source for StdSource<R> {
+    ghost use Rattle.bg_io.specs.Standard.{reader_of, reads_made, failed_reads};
+
     ghost left = { λ source. R.remaining source.reader };
 
-    ghost faults = { λ source. source.faults };
+    ghost faults = { λ source. failed_reads source };
 
-    ghost reads = { λ _. 0 };
+    ghost reads = { λ source. reads_made source };
 
-    fn read(&mut self, buf: &mut [u8]) -> Result<usize, Failed> {
+    /// Reads the reader once; a read that fails is counted.
+    fn read(&mut self, buf: &mut [u8]) -> Result<usize, Failed>
+        ensures bound { ReadsAtMost result buf.new }
+        ensures bytes { ReadConsumes (R.remaining (reader_of self.old)) (R.remaining (reader_of self.new)) result buf.new }
+        ensures cause { HasCause (failed_reads self.old) (failed_reads self.new) result }
+        ensures count { reads_made self.new ≡ next_count (reads_made self.old) }
+        ensures faults { MatchResult result
+            (λ _. failed_reads self.new ≡ failed_reads self.old)
+            (λ _. failed_reads self.new ≡ next_count (failed_reads self.old)) }
+    {
+        self.calls = self.calls.saturating_add(1);
         match self.reader.read(buf) {
             Ok(count) => Ok(count),
             Err(_) => {
@@ -67,13 +90,24 @@ impl<W: Write> StdSink<W> {
 }
 
 impl<W: Write> Sink for StdSink<W> {
+    ghost use Rattle.bg_io.specs.Standard.{writer_of, failed_writes};
+
     ghost held = { λ sink. W.contents sink.writer };
 
-    ghost faults = { λ sink. sink.faults };
+    ghost faults = { λ sink. failed_writes sink };
 
     ghost is_flushed = { λ _. Unit {0} };
 
-    fn write(&mut self, piece: &[u8]) -> Result<usize, SinkFault> {
+    /// Writes to the writer once; a write that fails, or takes nothing of a piece that is not empty, is counted.
+    fn write(&mut self, piece: &[u8]) -> Result<usize, SinkFault>
+        ensures bound { WritesAtMost result piece.now }
+        ensures moves { IfOk result (λ n. 0 < length piece.now → 0 < n) }
+        ensures bytes { WriteAppends (W.contents (writer_of self.old)) (W.contents (writer_of self.new)) result piece.now }
+        ensures cause { HasSinkCause (failed_writes self.old) (failed_writes self.new) result }
+        ensures faults { MatchResult result
+            (λ _. failed_writes self.new ≡ failed_writes self.old)
+            (λ _. failed_writes self.new ≡ next_count (failed_writes self.old)) }
+    {
         match self.writer.write(piece) {
             Ok(count) if count > 0 || piece.is_empty() => Ok(count),
             _ => {
@@ -83,7 +117,15 @@ impl<W: Write> Sink for StdSink<W> {
         }
     }
 
-    fn flush(&mut self) -> Result<(), SinkFault> {
+    /// Flushes the writer; a flush that fails is counted.
+    fn flush(&mut self) -> Result<(), SinkFault>
+        ensures bytes { Keeps (W.contents (writer_of self.old)) (W.contents (writer_of self.new)) }
+        ensures flushed { OnOk result (Unit {0}) }
+        ensures cause { HasSinkCause (failed_writes self.old) (failed_writes self.new) result }
+        ensures faults { MatchResult result
+            (λ _. failed_writes self.new ≡ failed_writes self.old)
+            (λ _. failed_writes self.new ≡ next_count (failed_writes self.old)) }
+    {
         match self.writer.flush() {
             Ok(()) => Ok(()),
             Err(_) => {

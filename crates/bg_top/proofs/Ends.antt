@@ -69,14 +69,14 @@ judged most command input answer right =
 
 -- ---- the clauses of `engine`
 
-pub written_from : (most : ℕ) (asked : Option Command) (left : Option (List ℕ)) (status : ℕ) (reads writes : Type 0) (old new : Option (List ℕ))
-    → Ended (IsRight most asked left) status reads writes old new → status ≡ 0
+pub written_from : (most : ℕ) (asked : Option Command) (left : Option (List ℕ)) (status : ℕ) (reads writes flushed : Type 0) (old new : Option (List ℕ))
+    → Ended (IsRight most asked left) status reads writes flushed old new → status ≡ 0
     → IsSomeAnd asked (λ command. Answers command left old new)
-written_from most None left status reads writes old new ended zero =
+written_from most None left status reads writes flushed old new ended zero =
     let some = ended.answered (omega arith) (omega arith) (omega arith) in
     let two : number some.0.status ≡ 2 = ap (λ a. number a.status) some.1 in
     absurd (omega (arith, some.2.0))
-written_from most (Some command) left status reads writes old new ended zero =
+written_from most (Some command) left status reads writes flushed old new ended zero =
     let some = ended.answered (omega arith) (omega arith) (omega arith) in
     let input = some.1.0 in
     ⊎_elim
@@ -96,14 +96,14 @@ stops status =
 abbrev IsFewRefused : ℕ → Command → List ℕ → Type 0
 IsFewRefused most command input = (length input ≤ most) × IsRefused command input
 
-refused_only : (most : ℕ) (asked : Option Command) (input : List ℕ) (status : ℕ) (reads writes : Type 0) (old new : Option (List ℕ))
-    → Ended (IsRight most asked (Some input)) status reads writes old new → status ≡ 1
+refused_only : (most : ℕ) (asked : Option Command) (input : List ℕ) (status : ℕ) (reads writes flushed : Type 0) (old new : Option (List ℕ))
+    → Ended (IsRight most asked (Some input)) status reads writes flushed old new → status ≡ 1
     → IsSomeAnd asked (λ command. IsFewRefused most command input)
-refused_only most None input status reads writes old new ended one =
+refused_only most None input status reads writes flushed old new ended one =
     let some = ended.answered (omega arith) (omega arith) (omega arith) in
     let two : number some.0.status ≡ 2 = ap (λ a. number a.status) some.1 in
     absurd (omega (arith, some.2.0))
-refused_only most (Some command) input status reads writes old new ended one =
+refused_only most (Some command) input status reads writes flushed old new ended one =
     let some = ended.answered (omega arith) (omega arith) (omega arith) in
     ⊎_elim
     (λ long. absurd (omega (arith, some.2.0, long.status_is)))
@@ -113,11 +113,11 @@ refused_only most (Some command) input status reads writes old new ended one =
     short.verdict)
     (judged most command some.1.0 some.0 some.1.2)
 
-refused_always : (most : ℕ) (asked : Option Command) (input : List ℕ) (status : ℕ) (reads writes : Type 0) (old new : Option (List ℕ))
-    → Ended (IsRight most asked (Some input)) status reads writes old new
+refused_always : (most : ℕ) (asked : Option Command) (input : List ℕ) (status : ℕ) (reads writes flushed : Type 0) (old new : Option (List ℕ))
+    → Ended (IsRight most asked (Some input)) status reads writes flushed old new
     → IsSomeAnd asked (λ command. IsFewRefused most command input) → IsStopped status ⊎ (status ≡ 1)
-refused_always most None input status reads writes old new ended where_it = absurd where_it
-refused_always most (Some command) input status reads writes old new ended where_it =
+refused_always most None input status reads writes flushed old new ended where_it = absurd where_it
+refused_always most (Some command) input status reads writes flushed old new ended where_it =
     ⊎_elim (λ stopped. inl stopped) (λ goes.
     let some = ended.answered goes.0 goes.1 goes.2 in
     let here = subst (IsFewRefused most command) (sym some.1.1) where_it in
@@ -130,19 +130,19 @@ refused_always most (Some command) input status reads writes old new ended where
     (judged most command some.1.0 some.0 some.1.2))
     (stops status)
 
-pub refused_from : (most : ℕ) (asked : Option Command) (left : Option (List ℕ)) (status : ℕ) (reads writes : Type 0) (old new : Option (List ℕ))
-    → Ended (IsRight most asked left) status reads writes old new
+pub refused_from : (most : ℕ) (asked : Option Command) (left : Option (List ℕ)) (status : ℕ) (reads writes flushed : Type 0) (old new : Option (List ℕ))
+    → Ended (IsRight most asked left) status reads writes flushed old new
     → IfSome left (λ input. ComesWhere status Refused (IsSomeAnd asked (λ command. IsFewRefused most command input)))
-refused_from most asked None status reads writes old new ended = tt
-refused_from most asked (Some input) status reads writes old new ended =
-    record { only = refused_only most asked input status reads writes old new ended; always = refused_always most asked input status reads writes old new ended }
+refused_from most asked None status reads writes flushed old new ended = tt
+refused_from most asked (Some input) status reads writes flushed old new ended =
+    record { only = refused_only most asked input status reads writes flushed old new ended; always = refused_always most asked input status reads writes flushed old new ended }
 
-pub complete_from : (most : ℕ) (asked : Option Command) (left : Option (List ℕ)) (status : ℕ) (reads writes : Type 0) (old new : Option (List ℕ))
-    → Ended (IsRight most asked left) status reads writes old new → IsAccepted most asked left → ¬ reads → ¬ writes
+pub complete_from : (most : ℕ) (asked : Option Command) (left : Option (List ℕ)) (status : ℕ) (reads writes flushed : Type 0) (old new : Option (List ℕ))
+    → Ended (IsRight most asked left) status reads writes flushed old new → IsAccepted most asked left → ¬ reads → ¬ writes
     → (status ≡ 0) ⊎ (status ≡ NO_MEMORY)
-complete_from most None left status reads writes old new ended accepted no_read no_write = absurd accepted
-complete_from most (Some command) None status reads writes old new ended accepted no_read no_write = absurd accepted
-complete_from most (Some command) (Some input) status reads writes old new ended accepted no_read no_write =
+complete_from most None left status reads writes flushed old new ended accepted no_read no_write = absurd accepted
+complete_from most (Some command) None status reads writes flushed old new ended accepted no_read no_write = absurd accepted
+complete_from most (Some command) (Some input) status reads writes flushed old new ended accepted no_read no_write =
     ⊎_elim (λ e. inr e.1) (λ e.
     let some = ended.answered (λ is. no_read (ended.read_failure is).0) (λ is. no_write (ended.write_failure is).0) e.1 in
     let here = subst (λ i. (length i ≤ most) × IsTaken command i) (sym some.1.1) accepted in

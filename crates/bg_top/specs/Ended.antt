@@ -11,8 +11,8 @@ use Rattle.bg_top.specs.declared.top.TheConstants.{READ_FAILURE, WRITE_FAILURE, 
 abbrev pub SomeAnswer : (Answer → Type 0) → (Answer → Type 0) → Type 0
 SomeAnswer right P = (answer : Answer) × right answer × P answer
 
--- a call ended with this status; what the sink holds went from old to new
-pub record Ended (right : Answer → Type 0) (status : ℕ) (read_failed write_failed : Type 0) (old new : Option (List ℕ)) : Type 0 where
+-- a call ended with this status; what the sink holds went from old to new; `flushed` says that the sink has passed it on
+pub record Ended (right : Answer → Type 0) (status : ℕ) (read_failed write_failed flushed : Type 0) (old new : Option (List ℕ)) : Type 0 where
   -- after a failed read nothing is written
   pub read_failure : status ≡ READ_FAILURE → read_failed × Keeps old new
   -- after a failed write the start of a right text is written
@@ -22,6 +22,8 @@ pub record Ended (right : Answer → Type 0) (status : ℕ) (read_failed write_f
   -- any other status is that of a right answer, whose text is written whole
   pub answered : status ≢ READ_FAILURE → status ≢ WRITE_FAILURE → status ≢ NO_MEMORY
       → SomeAnswer right (λ answer. (status ≡ number answer.status) × Appends old new answer.text)
+  -- and the sink has passed it on
+  pub passed_on : status ≢ READ_FAILURE → status ≢ WRITE_FAILURE → status ≢ NO_MEMORY → flushed
 
 -- some text of which P holds was written whole
 abbrev pub Writes : (List ℕ → Type 0) → Option (List ℕ) → Option (List ℕ) → Type 0

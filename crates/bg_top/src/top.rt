@@ -28,7 +28,8 @@ pub const NO_MEMORY: u8 = 5;
 /// Does all that the program does: reads the words, then the source, and writes the answer to the sink.
 ///
 /// `words` are those of the command line, the program's name first. The answer is made whole before its
-/// first byte is written, and each written line ends with a line feed.
+/// first byte is written, each written line ends with a line feed, and at every status but 3, 4 and 5 the sink
+/// was flushed after the last byte.
 ///
 /// | Status | Written | When |
 /// |---|---|---|
@@ -50,7 +51,7 @@ pub fn engine<S: Source, K: Sink>(
     // every status, and what is written with it
     ensures ended { Ended (IsRight MOST (asked words.now) (S.left source.old)) result
         (Rose (S.faults source.old) (S.faults source.new)) (Rose (K.faults sink.old) (K.faults sink.new))
-        (K.held sink.old) (K.held sink.new) }
+        (K.is_flushed sink.new) (K.held sink.old) (K.held sink.new) }
 
     // refused words
     ensures wrong_words { ComesWhere result Status.WrongWords (asked words.now ≡ None) }
@@ -79,7 +80,7 @@ pub fn engine<S: Source, K: Sink>(
 fn run<S: Source, K: Sink>(alloc: Global, words: &[String], source: &mut S, sink: &mut K) -> u8
     ensures ended { Ended (IsRight MOST (asked words.now) (S.left source.old)) result
         (Rose (S.faults source.old) (S.faults source.new)) (Rose (K.faults sink.old) (K.faults sink.new))
-        (K.held sink.old) (K.held sink.new) }
+        (K.is_flushed sink.new) (K.held sink.old) (K.held sink.new) }
     ensures unread { asked words.now ≡ None → (source.new ≡ source.old) × (result ≢ READ_FAILURE) }
     ensures few_reads { S.reads source.new ≤ S.reads source.old + MOST + 1 }
 {
@@ -99,7 +100,7 @@ fn run<S: Source, K: Sink>(alloc: Global, words: &[String], source: &mut S, sink
 fn answer<K: Sink>(alloc: Global, command: Command, input: &[u8], sink: &mut K) -> u8
     requires { length input.now ≤ MOST }
     ensures { Ended (IsReply command input.now) result
-        ⊥ (Rose (K.faults sink.old) (K.faults sink.new)) (K.held sink.old) (K.held sink.new) }
+        ⊥ (Rose (K.faults sink.old) (K.faults sink.new)) (K.is_flushed sink.new) (K.held sink.old) (K.held sink.new) }
 {
     match reply_to(alloc, command, input) {
         Ok(reply) => respond(sink, reply.status, reply.text.as_slice()),
@@ -121,7 +122,7 @@ fn reply_to(alloc: Global, command: Command, input: &[u8]) -> Result<Reply, Allo
 /// Writes an answer, and gives the status with which the program ends.
 fn respond<K: Sink>(sink: &mut K, status: Status, text: &[u8]) -> u8
     ensures { Ended (λ answer. answer ≡ record { status = status; text = text.now }) result
-        ⊥ (Rose (K.faults sink.old) (K.faults sink.new)) (K.held sink.old) (K.held sink.new) }
+        ⊥ (Rose (K.faults sink.old) (K.faults sink.new)) (K.is_flushed sink.new) (K.held sink.old) (K.held sink.new) }
 {
     match write_all(sink, text) {
         Ok(()) => status.number(),

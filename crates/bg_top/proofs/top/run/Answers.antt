@@ -13,5 +13,5 @@ returns-in-Err-TooLong-clause-ended g c =
     let after = left c.read_all.new.source in
     let is : asked c.args.words.now ≡ Some c.in-Some.command = search rules in
     let given : ConsumesExactly before after (MOST + 1) = search rules in
-    ended_with _ too_long _ _ _ _ _ (right_too_long MOST (asked c.args.words.now) c.in-Some.command before after is given)
+    ended_with _ too_long _ _ _ _ _ _ (right_too_long MOST (asked c.args.words.now) c.in-Some.command before after is given)
     c.respond-in-Err-TooLong.ensures
