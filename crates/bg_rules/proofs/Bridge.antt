@@ -282,6 +282,7 @@ module _ (pattern : Big) (nodes edges : List ℕ) (parameter : Big) (side : IsSi
       pub decomposes_from : Decomposes host pattern nodes context edges parameter
       decomposes_from =
           record {
+            pattern_valid = side.valid;
             context_valid = g.context_valid;
             is_parameter = g.is_parameter;
             nodes_new = g.nodes_new;

@@ -195,10 +195,11 @@ module _ (signature : List Control) where
         names = names;
       }
 
-  pub decomposes_by : (host pattern : Big) (nodes : List ℕ) (context : Big) (edges : List ℕ) (parameter : Big) → IsValid context → IsParameter parameter
+  pub decomposes_by : (host pattern : Big) (nodes : List ℕ) (context : Big) (edges : List ℕ) (parameter : Big) → IsValid pattern
+      → IsValid context → IsParameter parameter
       → parts_fit pattern nodes context edges parameter ≡ true
       → compose context (compose (frame pattern nodes edges parameter.outer) parameter) ≡ host → Decomposes host pattern nodes context edges parameter
-  decomposes_by host pattern nodes context edges parameter valid is e whole =
+  decomposes_by host pattern nodes context edges parameter pattern_valid valid is e whole =
       let inside = compose (frame pattern nodes edges parameter.outer) parameter in
       let framed = frame pattern nodes edges parameter.outer in
       let apart = are_apart (rename pattern nodes edges) (identity 0 parameter.outer) in
@@ -210,6 +211,7 @@ module _ (signature : List Control) where
       let filled = and_parts (faces_agree framed parameter) (supports_apart framed parameter) four.0 in
       let placed = and_parts (faces_agree context inside) (supports_apart context inside) four.1 in
       record {
+        pattern_valid = pattern_valid;
         context_valid = valid;
         is_parameter = is;
         nodes_new = new-from_test nodes (length pattern.nodes) one.0;
@@ -224,16 +226,17 @@ module _ (signature : List Control) where
 
   -- a pattern occurs where context, edges and parameter pass the tests and make the host
   pub occurs_by : (host pattern : Big) (nodes : List ℕ) (context : Big) (edges : List ℕ) (parameter : Big)
-      → fault_of signature context ≡ None → fault_of signature parameter ≡ None
+      → fault_of signature pattern ≡ None → fault_of signature context ≡ None → fault_of signature parameter ≡ None
       → (is_without_inside parameter && is_nil parameter.edges) ≡ true → Discrete parameter → parameter.outer ≡ names_of parameter.nodes
       → parts_fit pattern nodes context edges parameter ≡ true
       → compose context (compose (frame pattern nodes edges parameter.outer) parameter) ≡ host → Occurs host pattern nodes
-  occurs_by host pattern nodes context edges parameter context_fine parameter_fine bare discrete names fits whole =
+  occurs_by host pattern nodes context edges parameter pattern_fine context_fine parameter_fine bare discrete names fits whole =
       record {
         context = context;
         edges = edges;
         parameter = parameter;
-        decomposes = decomposes_by host pattern nodes context edges parameter (valid_by signature context context_fine)
+        decomposes = decomposes_by host pattern nodes context edges parameter (valid_by signature pattern pattern_fine)
+            (valid_by signature context context_fine)
             (parameter_by parameter parameter_fine bare discrete names) fits whole;
       }
 

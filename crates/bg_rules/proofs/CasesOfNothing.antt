@@ -19,7 +19,7 @@ use Rattle.bg_base.proofs.CompositionTests.{FacesAgree-from_test, SupportsApart-
 use Rattle.bg_base.proofs.Climbs.{row_from_reaches}
 use Rattle.bg_algebra.proofs.CompositionLaws.{same_parts, neutral_below}
 use Rattle.bg_rules.specs.Decomposition.{frame, names_of, Decomposes}
-use Rattle.bg_rules.proofs.CaseTests.{parameter_by, new-from_test, apart-from_test}
+use Rattle.bg_rules.proofs.CaseTests.{valid_by, parameter_by, new-from_test, apart-from_test}
 use Rattle.bg_rules.proofs.CasesOfPatterns.{clauses}
 use Rattle.bg_rules.proofs.CaseRows.{four_controls, nothing}
 
@@ -89,6 +89,7 @@ each_host host ground =
     let sites = sym (ap length ground.no_sites) in
     let names = sym (ap inner_names ground.no_inner) in
     record {
+      pattern_valid = valid_by four_controls nothing refl;
       context_valid = ground.valid;
       is_parameter = parameter_by four_controls nothing refl refl tt refl;
       nodes_new = new-from_test [] 0 refl;

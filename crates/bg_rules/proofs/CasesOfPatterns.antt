@@ -65,8 +65,8 @@ empty_region =
         other_context = in_places [] (Region 0 ∷ Region 1 ∷ []) 2;
         other_edges = [];
         other_parameter = nothing;
-        one = decomposes_by four_controls _ _ _ _ _ _ (valid_by four_controls _ refl) (parameter_by four_controls _ refl refl tt refl) refl refl;
-        other = decomposes_by four_controls _ _ _ _ _ _ (valid_by four_controls _ refl) (parameter_by four_controls _ refl refl tt refl) refl refl;
+        one = decomposes_by four_controls _ _ _ _ _ _ (valid_by four_controls _ refl) (valid_by four_controls _ refl) (parameter_by four_controls _ refl refl tt refl) refl refl;
+        other = decomposes_by four_controls _ _ _ _ _ _ (valid_by four_controls _ refl) (valid_by four_controls _ refl) (parameter_by four_controls _ refl refl tt refl) refl refl;
         not_the_same = λ same. unlike (λ (big : Big). differ same_place big.sites) (in_places [] (Region 0 ∷ Region 1 ∷ []) 2) (in_places [] (Region 0 ∷ Region 0 ∷ []) 2) refl refl (sym same.0);
       };
     }
@@ -86,8 +86,8 @@ idle_name =
         other_context = context_of [] [] (Region 0 ∷ []) (tied x (Outer z) ∷ []) 1 (y ∷ z ∷ []);
         other_edges = [];
         other_parameter = nothing;
-        one = decomposes_by four_controls _ _ _ _ _ _ (valid_by four_controls _ refl) (parameter_by four_controls _ refl refl tt refl) refl refl;
-        other = decomposes_by four_controls _ _ _ _ _ _ (valid_by four_controls _ refl) (parameter_by four_controls _ refl refl tt refl) refl refl;
+        one = decomposes_by four_controls _ _ _ _ _ _ (valid_by four_controls _ refl) (valid_by four_controls _ refl) (parameter_by four_controls _ refl refl tt refl) refl refl;
+        other = decomposes_by four_controls _ _ _ _ _ _ (valid_by four_controls _ refl) (valid_by four_controls _ refl) (parameter_by four_controls _ refl refl tt refl) refl refl;
         not_the_same = λ same. unlike (λ (big : Big). list_any (λ (row : InnerRow). same_link row.link (Outer y)) big.inner) (context_of [] [] (Region 0 ∷ []) (tied x (Outer y) ∷ []) 1 (y ∷ z ∷ [])) (context_of [] [] (Region 0 ∷ []) (tied x (Outer z) ∷ []) 1 (y ∷ z ∷ [])) refl refl same.0;
       };
     }
@@ -107,8 +107,8 @@ two_sites_in_one_node =
         other_context = in_places [] (Region 0 ∷ []) 1;
         other_edges = [];
         other_parameter = in_places (node_b 1 (Region 1) ∷ []) [] 2;
-        one = decomposes_by four_controls _ _ _ _ _ _ (valid_by four_controls _ refl) (parameter_by four_controls _ refl refl (refl, tt) refl) refl refl;
-        other = decomposes_by four_controls _ _ _ _ _ _ (valid_by four_controls _ refl) (parameter_by four_controls _ refl refl (refl, tt) refl) refl refl;
+        one = decomposes_by four_controls _ _ _ _ _ _ (valid_by four_controls _ refl) (valid_by four_controls _ refl) (parameter_by four_controls _ refl refl (refl, tt) refl) refl refl;
+        other = decomposes_by four_controls _ _ _ _ _ _ (valid_by four_controls _ refl) (valid_by four_controls _ refl) (parameter_by four_controls _ refl refl (refl, tt) refl) refl refl;
         not_the_same = λ same. unlike (λ (big : Big). list_any (λ (row : NodeRow). same_place row.parent (Region 0)) big.nodes) (in_places (node_b 1 (Region 0) ∷ []) [] 2) (in_places (node_b 1 (Region 1) ∷ []) [] 2) refl refl same.2;
       };
     }
@@ -128,8 +128,8 @@ site_in_a_region =
         other_context = in_places [] (Region 0 ∷ []) 1;
         other_edges = [];
         other_parameter = in_places (node_b 1 (Region 0) ∷ []) [] 1;
-        one = decomposes_by four_controls _ _ _ _ _ _ (valid_by four_controls _ refl) (parameter_by four_controls _ refl refl tt refl) refl refl;
-        other = decomposes_by four_controls _ _ _ _ _ _ (valid_by four_controls _ refl) (parameter_by four_controls _ refl refl (refl, tt) refl) refl refl;
+        one = decomposes_by four_controls _ _ _ _ _ _ (valid_by four_controls _ refl) (valid_by four_controls _ refl) (parameter_by four_controls _ refl refl tt refl) refl refl;
+        other = decomposes_by four_controls _ _ _ _ _ _ (valid_by four_controls _ refl) (valid_by four_controls _ refl) (parameter_by four_controls _ refl refl (refl, tt) refl) refl refl;
         not_the_same = λ same. unlike (λ (big : Big). is_nil big.nodes) (in_places [] (Region 0 ∷ []) 1) (in_places (node_b 1 (Region 0) ∷ []) (Region 0 ∷ []) 1) refl refl (sym same.0);
       };
     }
@@ -149,8 +149,8 @@ idle_edge =
         other_context = context_of [] (3 ∷ []) (Region 0 ∷ []) [] 1 [];
         other_edges = 4 ∷ [];
         other_parameter = nothing;
-        one = decomposes_by four_controls _ _ _ _ _ _ (valid_by four_controls _ refl) (parameter_by four_controls _ refl refl tt refl) refl refl;
-        other = decomposes_by four_controls _ _ _ _ _ _ (valid_by four_controls _ refl) (parameter_by four_controls _ refl refl tt refl) refl refl;
+        one = decomposes_by four_controls _ _ _ _ _ _ (valid_by four_controls _ refl) (valid_by four_controls _ refl) (parameter_by four_controls _ refl refl tt refl) refl refl;
+        other = decomposes_by four_controls _ _ _ _ _ _ (valid_by four_controls _ refl) (valid_by four_controls _ refl) (parameter_by four_controls _ refl refl tt refl) refl refl;
         not_the_same = λ same. unlike (list_any (λ edge. eqb edge 3)) (3 ∷ []) (4 ∷ []) refl refl same.1;
       };
     }

@@ -55,11 +55,8 @@ copying_sides =
     record {
       is_pattern = pattern_by four_controls a_open refl refl;
       reactum_valid = valid_by four_controls two_open refl;
-      reactum_inner = refl;
-      regions = refl;
-      outer = refl;
-      as_many = refl;
-      entries_there = All-from_recursion (λ entry. entry < 1) (0 ∷ 0 ∷ []) (omega arith, (omega arith, tt));
+      agree = record { regions_agree = refl; outer_agree = refl; reactum_inner = refl };
+      fits = record { as_many = refl; entries_there = All-from_recursion (λ entry. entry < 1) (0 ∷ 0 ∷ []) (omega arith, (omega arith, tt)) };
     }
 
 -- A.id, with map 0, 0, becomes A.id | A.id: A.B.1 at node 0 becomes A.B.1 | A.B.1. The nodes of the reactum get the next
@@ -76,7 +73,7 @@ copied =
       context = in_places [] (Region 0 ∷ []) 1;
       edges = [];
       parameter = in_places (node_b 1 (Region 0) ∷ []) [] 1;
-      decomposes = decomposes_by four_controls _ _ _ _ _ _ (valid_by four_controls _ refl)
+      decomposes = decomposes_by four_controls _ _ _ _ _ _ (valid_by four_controls _ refl) (valid_by four_controls _ refl)
           (parameter_by four_controls _ refl refl (refl, tt) refl) refl refl;
       big = refl;
       next_node = refl;
@@ -97,7 +94,7 @@ tied_anew =
       context = context_of [] [] (Region 0 ∷ []) (tied x (Outer y) ∷ []) 1 (y ∷ []);
       edges = [];
       parameter = nothing;
-      decomposes = decomposes_by four_controls _ _ _ _ _ _ (valid_by four_controls _ refl)
+      decomposes = decomposes_by four_controls _ _ _ _ _ _ (valid_by four_controls _ refl) (valid_by four_controls _ refl)
           (parameter_by four_controls _ refl refl tt refl) refl refl;
       big = refl;
       next_node = refl;
@@ -118,7 +115,7 @@ edge_dropped =
       context = context_of (node_b 1 (Region 0) ∷ []) (3 ∷ []) (Region 0 ∷ []) (tied x (Edge 3) ∷ []) 1 [];
       edges = [];
       parameter = nothing;
-      decomposes = decomposes_by four_controls _ _ _ _ _ _ (valid_by four_controls _ refl)
+      decomposes = decomposes_by four_controls _ _ _ _ _ _ (valid_by four_controls _ refl) (valid_by four_controls _ refl)
           (parameter_by four_controls _ refl refl tt refl) refl refl;
       big = refl;
       next_node = refl;
@@ -136,7 +133,7 @@ part_discarded =
       context = context_of [] (3 ∷ []) (Region 0 ∷ []) (tied (Port 1 0) (Edge 3) ∷ []) 1 [];
       edges = [];
       parameter = parameter_of (node_k 1 (Region 0) (Outer (Port 1 0)) ∷ []) 1 (Port 1 0 ∷ []);
-      decomposes = decomposes_by four_controls _ _ _ _ _ _ (valid_by four_controls _ refl)
+      decomposes = decomposes_by four_controls _ _ _ _ _ _ (valid_by four_controls _ refl) (valid_by four_controls _ refl)
           (parameter_by four_controls _ refl refl (refl, tt) refl) refl refl;
       big = refl;
       next_node = refl;

@@ -21,6 +21,9 @@ pub mod Instances
 pub mod Frames
 pub mod Reactions
 pub mod Signed
+pub mod Grounded
+pub mod Kept
+pub mod Ancestry
 pub mod Wholes
 pub mod ReactionExamples
 mod CaseTests

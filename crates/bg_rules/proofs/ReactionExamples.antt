@@ -10,7 +10,7 @@ use Rattle.bg_base.specs.Elementary.{counted, identity}
 use Rattle.bg_base.specs.Translation.{along, rename}
 use Rattle.bg_base.specs.Products.{tensor, lean}
 use Rattle.bg_rules.specs.Instantiation.{part, late_nodes, number_in_copy, copies_from, instantiate, next_after}
-use Rattle.bg_rules.specs.Reaction.{Numbered, recomposed}
+use Rattle.bg_rules.specs.Reaction.{HostParts, recomposed}
 
 -- a node without ports
 abbrev node : ℕ → ℕ → Place → NodeRow
@@ -45,7 +45,7 @@ unfolding instantiate copies_from sort
 none_asked = refl
 
 -- what is in node 0 is copied beside it: redex 0 with a site in it, reactum 0 with a site in it and one beside it
-abbrev host : Numbered
+abbrev host : HostParts
 host = record { big = places (node 0 0 (Region 0) ∷ node 1 1 (Node 0) ∷ node 2 2 (Node 1) ∷ []) [] 1; next_node = 3; next_edge = 0 }
 
 abbrev reactum : Big

@@ -19,7 +19,7 @@ use Rattle.bg_algebra.proofs.Changes.{lean_valid}
 use Rattle.bg_algebra.proofs.Nested.{Mem-counted}
 use Rattle.bg_rules.specs.Decomposition.{AreNew, Decomposes, Occurs}
 use Rattle.bg_rules.specs.Instantiation.{next_after}
-use Rattle.bg_rules.specs.Reaction.{Numbered, IsNumbered, AreSides, recomposed, Reacts}
+use Rattle.bg_rules.specs.Reaction.{HostParts, IsNumbered, AreSides, recomposed, Reacts}
 use Rattle.bg_rules.specs.Recomposition.{next_frame, next_instance, IsRecomposable}
 use Rattle.bg_rules.proofs.Glued.{Glued}
 use Rattle.bg_rules.proofs.Patterns.{number_row, number_mem}
@@ -48,11 +48,11 @@ pub reactum_side : (redex reactum : Big) (entries : List ℕ) → AreSides redex
 reactum_side redex reactum entries sides =
     record {
       valid = sides.reactum_valid;
-      no_inner = sides.reactum_inner;
-      names_plain = subst (λ names. All (λ (name : Name). IsTrue (is_plain name)) names) sides.outer sides.is_pattern.solid.names_plain;
+      no_inner = sides.agree.reactum_inner;
+      names_plain = subst (λ names. All (λ (name : Name). IsTrue (is_plain name)) names) sides.agree.outer_agree sides.is_pattern.solid.names_plain;
     }
 
-module _ (host : Numbered) (redex reactum : Big) (entries nodes : List ℕ) (numbered : IsNumbered host) (sides : AreSides redex reactum entries)
+module _ (host : HostParts) (redex reactum : Big) (entries nodes : List ℕ) (numbered : IsNumbered host) (sides : AreSides redex reactum entries)
     (context : Big) (edges : List ℕ) (parameter : Big) (decomposes : Decomposes host.big redex nodes context edges parameter) where
   glued : Glued host.big redex nodes context edges parameter
   glued = glued_of host.big redex nodes context edges parameter sides.is_pattern decomposes
@@ -117,7 +117,7 @@ module _ (host : Numbered) (redex reactum : Big) (entries nodes : List ℕ) (num
   filled_faces : FacesAgree made filling
   filled_faces =
       record {
-        widths = instance_regions parameter entries next ∙ sides.as_many
+        widths = instance_regions parameter entries next ∙ sides.fits.as_many
             ∙ sym (frame_width reactum new_nodes new_edges parameter side glued.is_parameter nodes_new edges_new);
         names = instance_outer parameter entries next
             ∙ sym (frame_names reactum new_nodes new_edges parameter side glued.is_parameter nodes_new edges_new);
@@ -143,10 +143,10 @@ module _ (host : Numbered) (redex reactum : Big) (entries nodes : List ℕ) (num
       record {
         widths = compose_regions made filling
             ∙ frame_regions reactum new_nodes new_edges parameter side glued.is_parameter nodes_new edges_new
-            ∙ sym sides.regions ∙ glued.pattern_width;
+            ∙ sym sides.agree.regions_agree ∙ glued.pattern_width;
         names = compose_outer made filling
             ∙ frame_outer reactum new_nodes new_edges parameter side glued.is_parameter nodes_new edges_new
-            ∙ ap (λ names. names ++ parameter.outer) (sym sides.outer) ∙ sym glued.names;
+            ∙ ap (λ names. names ++ parameter.outer) (sym sides.agree.outer_agree) ∙ sym glued.names;
       }
 
   placed_supports : SupportsApart context inside
@@ -233,8 +233,8 @@ module _ (host : Numbered) (redex reactum : Big) (entries nodes : List ℕ) (num
 
 -- ---- exactly one result
 
-module _ (host : Numbered) (redex reactum : Big) (entries nodes : List ℕ) where
-  pub reacts : Occurs host.big redex nodes → (after : Numbered) × Reacts host redex reactum entries nodes after
+module _ (host : HostParts) (redex reactum : Big) (entries nodes : List ℕ) where
+  pub reacts : Occurs host.big redex nodes → (after : HostParts) × Reacts host redex reactum entries nodes after
   reacts o = (
     record {
       big = recomposed host reactum entries o.context o.parameter;
@@ -245,7 +245,7 @@ module _ (host : Numbered) (redex reactum : Big) (entries nodes : List ℕ) wher
   )
 
   module _ (numbered : IsNumbered host) (sides : AreSides redex reactum entries) where
-    pub one_result : (after other : Numbered) → Reacts host redex reactum entries nodes after → Reacts host redex reactum entries nodes other → after ≡ other
+    pub one_result : (after other : HostParts) → Reacts host redex reactum entries nodes after → Reacts host redex reactum entries nodes other → after ≡ other
     one_result after other r s =
         let same = one_decomposition host.big redex sides.is_pattern numbered.ground nodes r.context s.context r.edges s.edges r.parameter s.parameter
         r.decomposes s.decomposes in
@@ -257,7 +257,7 @@ module _ (host : Numbered) (redex reactum : Big) (entries nodes : List ℕ) wher
         let edge : after.next_edge ≡ other.next_edge = r.next_edge ∙ sym s.next_edge in
         λ t. record { big = big t; next_node = node t; next_edge = edge t }
 
-    pub result_numbered : (after : Numbered) → Reacts host redex reactum entries nodes after → IsNumbered after
+    pub result_numbered : (after : HostParts) → Reacts host redex reactum entries nodes after → IsNumbered after
     result_numbered after r =
         record {
           ground = subst IsGround (sym r.big)

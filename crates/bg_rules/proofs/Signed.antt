@@ -20,7 +20,7 @@ use Rattle.bg_algebra.proofs.Changes.{lean_valid_under}
 use Rattle.bg_algebra.proofs.Parts.{valid_under_from_rows}
 use Rattle.bg_rules.specs.Solid.{IsPattern}
 use Rattle.bg_rules.specs.Decomposition.{Decomposes}
-use Rattle.bg_rules.specs.Reaction.{Numbered, IsNumbered, AreSides, recomposed, Reacts}
+use Rattle.bg_rules.specs.Reaction.{HostParts, IsNumbered, AreSides, recomposed, Reacts}
 use Rattle.bg_rules.specs.Recomposition.{next_frame, next_instance}
 use Rattle.bg_rules.proofs.Glued.{Glued, pattern_row, parameter_row}
 use Rattle.bg_rules.proofs.Patterns.{parent_there, site_there, full_region}
@@ -94,7 +94,7 @@ module _ (signature : List Control) where
 
 -- ---- the result
 
-module _ (signature : List Control) (host : Numbered) (redex reactum : Big) (entries nodes : List ℕ) (numbered : IsNumbered host)
+module _ (signature : List Control) (host : HostParts) (redex reactum : Big) (entries nodes : List ℕ) (numbered : IsNumbered host)
     (sides : AreSides redex reactum entries) (host_fits : IsValidUnder signature host.big) (reactum_fits : IsValidUnder signature reactum) where
   recomposed_valid_under : (context : Big) (edges : List ℕ) (parameter : Big) → Decomposes host.big redex nodes context edges parameter
       → IsValidUnder signature (recomposed host reactum entries context parameter)
@@ -117,6 +117,6 @@ module _ (signature : List Control) (host : Numbered) (redex reactum : Big) (ent
       glued.context_valid (inside_valid host redex reactum entries nodes numbered sides context edges parameter d) signature
       (context_valid_under signature sides.is_pattern numbered.ground host_fits glued) inside_fits)
 
-  pub result_valid_under : (after : Numbered) → Reacts host redex reactum entries nodes after → IsValidUnder signature after.big
+  pub result_valid_under : (after : HostParts) → Reacts host redex reactum entries nodes after → IsValidUnder signature after.big
   result_valid_under after r =
       subst (IsValidUnder signature) (sym r.big) (recomposed_valid_under r.context r.edges r.parameter r.decomposes)

@@ -8,7 +8,7 @@ use Rattle.bg_base.specs.Bigraph.{IsGround}
 use Rattle.bg_base.specs.Translation.{node_numbers}
 use Rattle.bg_base.specs.Products.{has_point}
 use Rattle.bg_algebra.specs.Frame.{is_plain}
-use Rattle.bg_rules.specs.Reaction.{Numbered, IsNumbered}
+use Rattle.bg_rules.specs.Reaction.{HostParts, IsNumbered}
 
 -- what a bigraph must be to be the bigraph of a host: ground, with plain names, without idle edges, and not too large
 pub record IsHostBig (big : Big) : Type 0 where
@@ -19,7 +19,7 @@ pub record IsHostBig (big : Big) : Type 0 where
   pub few_edges : length big.edges ≤ 65536
 
 -- what each host keeps
-pub record IsHost (host : Numbered) : Type 0 where
+pub record IsHost (host : HostParts) : Type 0 where
   pub fits : IsHostBig host.big
   pub numbered : IsNumbered host
   pub next_node_small : host.next_node ≤ 2147483648
@@ -36,5 +36,5 @@ past_largest [] = 0
 past_largest (number ∷ numbers) = max (number + 1) (past_largest numbers)
 
 -- the bigraph with the counters of a host in which nothing was made yet
-abbrev pub fresh_host : Big → Numbered
+abbrev pub fresh_host : Big → HostParts
 fresh_host big = record { big = big; next_node = past_largest (node_numbers big.nodes); next_edge = past_largest big.edges }

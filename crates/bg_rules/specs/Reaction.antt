@@ -11,37 +11,44 @@ use Rattle.bg_rules.specs.Decomposition.{Decomposes, frame}
 use Rattle.bg_rules.specs.Instantiation.{instantiate, next_after}
 
 -- a bigraph, and the numbers that its next new node and its next new edge will have
-pub record Numbered : Type 0 where
+pub record HostParts : Type 0 where
   pub big : Big
   pub next_node : ℕ
   pub next_edge : ℕ
 
 -- ground, and every number that is there is below the next one
-pub record IsNumbered (host : Numbered) : Type 0 where
+pub record IsNumbered (host : HostParts) : Type 0 where
   pub ground : IsGround host.big
   pub nodes_below : All (λ (row : NodeRow). row.id < host.next_node) host.big.nodes
   pub edges_below : All (λ edge. edge < host.next_edge) host.big.edges
 
--- the redex is a pattern; the reactum is valid, has no inner name, and has its regions and outer names;
--- each site of the reactum asks for a site of the redex
-pub record AreSides (redex reactum : Big) (entries : List ℕ) : Type 0 where
-  pub is_pattern : IsPattern redex
-  pub reactum_valid : IsValid reactum
+-- the reactum has the regions and the outer names of the redex, and no inner name
+pub record SidesAgree (redex reactum : Big) : Type 0 where
+  pub regions_agree : redex.regions ≡ reactum.regions
+  pub outer_agree : redex.outer ≡ reactum.outer
   pub reactum_inner : reactum.inner ≡ []
-  pub regions : redex.regions ≡ reactum.regions
-  pub outer : redex.outer ≡ reactum.outer
+
+-- the map has an entry for each site of the reactum, and each entry is a site of the redex
+pub record MapFits (redex reactum : Big) (entries : List ℕ) : Type 0 where
   pub as_many : length entries ≡ length reactum.sites
   pub entries_there : All (λ entry. entry < length redex.sites) entries
 
+-- the redex is a pattern, the reactum valid; they agree, and the map fits
+pub record AreSides (redex reactum : Big) (entries : List ℕ) : Type 0 where
+  pub is_pattern : IsPattern redex
+  pub reactum_valid : IsValid reactum
+  pub agree : SidesAgree redex reactum
+  pub fits : MapFits redex reactum entries
+
 -- the reactum with new numbers for its nodes and edges, round the instance, in the context; then idle edges are dropped
-abbrev pub recomposed : Numbered → Big → List ℕ → Big → Big → Big
+abbrev pub recomposed : HostParts → Big → List ℕ → Big → Big → Big
 recomposed host reactum entries context parameter =
     lean (compose context (compose
     (frame reactum (counted host.next_node (length reactum.nodes)) (counted host.next_edge (length reactum.edges)) parameter.outer)
     (instantiate parameter entries (host.next_node + length reactum.nodes))))
 
 -- the host reacts at these nodes to that
-pub record Reacts (host : Numbered) (redex reactum : Big) (entries nodes : List ℕ) (after : Numbered) : Type 0 where
+pub record Reacts (host : HostParts) (redex reactum : Big) (entries nodes : List ℕ) (after : HostParts) : Type 0 where
   pub context : Big
   pub edges : List ℕ
   pub parameter : Big

@@ -1,5 +1,5 @@
 -- Rules: what a reaction may do (Milner, chapter 8).
-use Rattle.std.specs.Prelude.{◌≡◌, ℕ, ◌<◌, List, [], length, All}
+use Rattle.std.specs.Prelude.{◌≡◌, ℕ, List, length}
 use Rattle.bg_base.specs.declared.labels.Label.{Label}
 use Rattle.bg_base.specs.declared.big.Big.{Big}
 use Rattle.bg_base.specs.Elementary.{counted}
@@ -20,17 +20,6 @@ pub record RuleParts : Type 0 where
 pub record IsNumberedFromZero (big : Big) : Type 0 where
   pub nodes_counted : node_numbers big.nodes ≡ counted 0 (length big.nodes)
   pub edges_counted : big.edges ≡ counted 0 (length big.edges)
-
--- the reactum has the regions and the outer names of the redex, and no inner name
-pub record SidesAgree (redex reactum : Big) : Type 0 where
-  pub regions_agree : redex.regions ≡ reactum.regions
-  pub outer_agree : redex.outer ≡ reactum.outer
-  pub reactum_inner : reactum.inner ≡ []
-
--- the map has an entry for each site of the reactum, and each entry is a site of the redex
-pub record MapFits (redex reactum : Big) (entries : List ℕ) : Type 0 where
-  pub as_many : length entries ≡ length reactum.sites
-  pub entries_there : All (λ entry. entry < length redex.sites) entries
 
 -- what each rule keeps
 pub record IsRule (rule : RuleParts) : Type 0 where

@@ -4,13 +4,13 @@ use Rattle.bg_base.specs.declared.signature.Control.{Control}
 use Rattle.bg_base.specs.Bigraph.{IsValidUnder}
 use Rattle.bg_rules.specs.declared.condition.Condition.{Condition}
 use Rattle.bg_rules.specs.declared.predicate.Predicate.{Predicate}
-use Rattle.bg_rules.specs.Reaction.{Numbered}
+use Rattle.bg_rules.specs.Reaction.{HostParts}
 use Rattle.bg_rules.specs.Rules.{RuleParts}
 
 -- a system, as contracts see it
 pub record SystemParts : Type 0 where
   pub signature : List Control
-  pub init : Numbered
+  pub init : HostParts
   pub rules : List RuleParts
   pub classes : ℕ
   pub preds : List Predicate

@@ -22,10 +22,10 @@ pub struct Host {
 }
 
 impl Model for Host {
-    ghost use Rattle.bg_rules.specs.Reaction.{Numbered};
+    ghost use Rattle.bg_rules.specs.Reaction.{HostParts};
     ghost use Rattle.bg_rules.specs.Hosts.{IsHost};
 
-    ghost Value = { Numbered };
+    ghost Value = { HostParts };
 
     ghost view = { λ host. record { big = host.big; next_node = host.next_node; next_edge = host.next_edge } };
 

@@ -1,10 +1,13 @@
 //! The theorem on which the engine stands, and what follows from it. A call does nothing.
-ghost use Rattle.std.specs.Prelude.{◌≡◌, ◌↔◌, ℕ, List};
+ghost use Rattle.std.specs.Prelude.{◌≡◌, ◌↔◌, ◌++◌, ℕ, IsTrue, List, length};
+ghost use Rattle.bg_base.specs.declared.names.Place.TheVariants.{Node};
 ghost use Rattle.bg_base.specs.declared.big.Big.{Big};
-ghost use Rattle.bg_base.specs.Bigraph.{IsGround};
+ghost use Rattle.bg_base.specs.Bigraph.{IsValid, IsGround};
+ghost use Rattle.bg_base.specs.Composition.{compose, inner_names};
+ghost use Rattle.bg_place.specs.Places.{places_of, is_within, is_ancestor};
 ghost use Rattle.bg_rules.specs.Solid.{IsPattern};
-ghost use Rattle.bg_rules.specs.Decomposition.{Decomposes, Occurs};
-ghost use Rattle.bg_rules.specs.LocalConditions.{MeetsLocally};
+ghost use Rattle.bg_rules.specs.Decomposition.{frame, Decomposes, Occurs};
+ghost use Rattle.bg_rules.specs.LocalConditions.{Meets, MeetsLocally};
 ghost use Rattle.bg_rules.specs.Occurrences.{AreOccurrences};
 
 /// Occurrences are the local conditions: a pattern occurs at some nodes of a ground host, that is, some context and some
@@ -27,4 +30,33 @@ pub fn occurrences_have_one_list()
     ensures some { (host pattern : Big) → IsPattern pattern → IsGround host → (maps : List (List ℕ)) × AreOccurrences host pattern maps }
     ensures one { (host pattern : Big) (maps others : List (List ℕ)) → IsPattern pattern → IsGround host
         → AreOccurrences host pattern maps → AreOccurrences host pattern others → maps ≡ others }
+{}
+
+/// What decomposes is ground: what lies in the context, that is the pattern with the parameter in it, and the host. The
+/// context has the regions and the outer names of the host. Of a pattern the context has a site for each region, and an
+/// inner name for each outer name, then one for each port of the parameter; the parameter has a region for each site.
+pub fn a_decomposition_is_ground()
+    ensures inside { (host pattern : Big) (nodes : List ℕ) (context : Big) (edges : List ℕ) (parameter : Big)
+        → Decomposes host pattern nodes context edges parameter → IsGround (compose (frame pattern nodes edges parameter.outer) parameter) }
+    ensures whole { (host pattern : Big) (nodes : List ℕ) (context : Big) (edges : List ℕ) (parameter : Big)
+        → Decomposes host pattern nodes context edges parameter → IsGround host }
+    ensures regions { (host pattern : Big) (nodes : List ℕ) (context : Big) (edges : List ℕ) (parameter : Big)
+        → Decomposes host pattern nodes context edges parameter → context.regions ≡ host.regions }
+    ensures outer { (host pattern : Big) (nodes : List ℕ) (context : Big) (edges : List ℕ) (parameter : Big)
+        → Decomposes host pattern nodes context edges parameter → context.outer ≡ host.outer }
+    ensures sites { (host pattern : Big) (nodes : List ℕ) (context : Big) (edges : List ℕ) (parameter : Big)
+        → IsPattern pattern → Decomposes host pattern nodes context edges parameter → length context.sites ≡ pattern.regions }
+    ensures names { (host pattern : Big) (nodes : List ℕ) (context : Big) (edges : List ℕ) (parameter : Big)
+        → IsPattern pattern → Decomposes host pattern nodes context edges parameter
+        → inner_names context.inner ≡ pattern.outer ++ parameter.outer }
+    ensures parts { (host pattern : Big) (nodes : List ℕ) (context : Big) (edges : List ℕ) (parameter : Big)
+        → IsPattern pattern → Decomposes host pattern nodes context edges parameter → parameter.regions ≡ length pattern.sites }
+{}
+
+/// Going up from a node of a valid bigraph, what is met is the node itself and its proper ancestors.
+pub fn meeting_is_ancestry()
+    ensures within { (big : Big) (node other : ℕ) → IsValid big
+        → (Meets big.nodes node (Node other) ↔ IsTrue (is_within (places_of big).parents node other)) }
+    ensures above { (big : Big) (node other : ℕ) → IsValid big → (node ≡ other → ⊥)
+        → (Meets big.nodes node (Node other) ↔ IsTrue (is_ancestor (places_of big) node other)) }
 {}

@@ -1,16 +1,27 @@
 //! The laws of instances and reactions (Milner, chapter 8). A call does nothing.
-ghost use Rattle.std.specs.Prelude.{◌≡◌, ℕ, ◌<◌, ◌≤◌, ◌⊎◌, List, [], length, All};
+ghost use Rattle.std.specs.Prelude.{◌≡◌, ℕ, ◌<◌, ◌≤◌, ◌⊎◌, IsTrue, List, [], length, All};
 ghost use Rattle.bg_lists.specs.Lists.{Mem};
+ghost use Rattle.bg_base.specs.declared.names.Link.TheVariants.{Edge};
 ghost use Rattle.bg_base.specs.declared.big.NodeRow.{NodeRow};
 ghost use Rattle.bg_base.specs.declared.big.Big.{Big};
 ghost use Rattle.bg_base.specs.declared.signature.Control.{Control};
-ghost use Rattle.bg_base.specs.Bigraph.{IsGround, IsValidUnder};
+ghost use Rattle.bg_base.specs.Bigraph.{IsValid, IsGround, IsValidUnder};
 ghost use Rattle.bg_base.specs.Elementary.{counted};
 ghost use Rattle.bg_base.specs.Translation.{node_numbers};
+ghost use Rattle.bg_base.specs.Products.{has_point};
 ghost use Rattle.bg_rules.specs.Decomposition.{IsParameter, Decomposes, Occurs};
-ghost use Rattle.bg_rules.specs.Instantiation.{instantiate, next_after};
-ghost use Rattle.bg_rules.specs.Reaction.{Numbered, IsNumbered, AreSides, Reacts};
+ghost use Rattle.bg_rules.specs.Instantiation.{part, instantiate, next_after};
+ghost use Rattle.bg_rules.specs.Reaction.{HostParts, IsNumbered, AreSides, Reacts};
 ghost use Rattle.bg_rules.specs.Recomposition.{IsRecomposable};
+
+/// Each node of a parameter is in the part under one of its regions, and under no other; a part has nothing else.
+pub fn parts_of_a_parameter()
+    ensures some_part { (parameter : Big) (row : NodeRow) → IsValid parameter → Mem row parameter.nodes
+        → (region : ℕ) × (region < parameter.regions) × Mem row (part parameter region) }
+    ensures one_part { (parameter : Big) (row : NodeRow) (region other : ℕ) → Mem row (part parameter region)
+        → Mem row (part parameter other) → region ≡ other }
+    ensures nothing_else { (parameter : Big) (row : NodeRow) (region : ℕ) → Mem row (part parameter region) → Mem row parameter.nodes }
+{}
 
 /// An instance of a parameter whose nodes are below the next number is a ground bigraph: no edge, the parameter's outer
 /// names, and one region for each entry. Each of its nodes has a number of the parameter or a new one, below the number
@@ -42,18 +53,34 @@ pub fn instance_of_all_is_the_parameter()
 /// defined, and the result is a numbered ground host again. Where the host and the reactum are valid under a signature,
 /// the result is.
 pub fn reactions_have_one_result()
-    ensures some_result { (host : Numbered) (redex reactum : Big) (entries nodes : List ℕ) → Occurs host.big redex nodes
-        → (after : Numbered) × Reacts host redex reactum entries nodes after }
-    ensures one_result { (host : Numbered) (redex reactum : Big) (entries nodes : List ℕ) → IsNumbered host
-        → AreSides redex reactum entries → (after other : Numbered) → Reacts host redex reactum entries nodes after
+    ensures some_result { (host : HostParts) (redex reactum : Big) (entries nodes : List ℕ) → Occurs host.big redex nodes
+        → (after : HostParts) × Reacts host redex reactum entries nodes after }
+    ensures one_result { (host : HostParts) (redex reactum : Big) (entries nodes : List ℕ) → IsNumbered host
+        → AreSides redex reactum entries → (after other : HostParts) → Reacts host redex reactum entries nodes after
         → Reacts host redex reactum entries nodes other → after ≡ other }
-    ensures defined { (host : Numbered) (redex reactum : Big) (entries nodes : List ℕ) → IsNumbered host
+    ensures defined { (host : HostParts) (redex reactum : Big) (entries nodes : List ℕ) → IsNumbered host
         → AreSides redex reactum entries → (context : Big) (edges : List ℕ) (parameter : Big)
         → Decomposes host.big redex nodes context edges parameter → IsRecomposable host reactum entries context parameter }
-    ensures numbered { (host : Numbered) (redex reactum : Big) (entries nodes : List ℕ) → IsNumbered host
-        → AreSides redex reactum entries → (after : Numbered) → Reacts host redex reactum entries nodes after
+    ensures numbered { (host : HostParts) (redex reactum : Big) (entries nodes : List ℕ) → IsNumbered host
+        → AreSides redex reactum entries → (after : HostParts) → Reacts host redex reactum entries nodes after
         → IsNumbered after }
-    ensures fits { (signature : List Control) (host : Numbered) (redex reactum : Big) (entries nodes : List ℕ)
+    ensures fits { (signature : List Control) (host : HostParts) (redex reactum : Big) (entries nodes : List ℕ)
         → IsNumbered host → AreSides redex reactum entries → IsValidUnder signature host.big → IsValidUnder signature reactum
-        → (after : Numbered) → Reacts host redex reactum entries nodes after → IsValidUnder signature after.big }
+        → (after : HostParts) → Reacts host redex reactum entries nodes after → IsValidUnder signature after.big }
+{}
+
+/// A reaction keeps the regions and the outer names of the host, its counters do not fall, and no edge of its result is
+/// idle.
+pub fn reactions_keep_the_face()
+    ensures regions { (host : HostParts) (redex reactum : Big) (entries nodes : List ℕ) (after : HostParts)
+        → Reacts host redex reactum entries nodes after → after.big.regions ≡ host.big.regions }
+    ensures outer { (host : HostParts) (redex reactum : Big) (entries nodes : List ℕ) (after : HostParts)
+        → Reacts host redex reactum entries nodes after → after.big.outer ≡ host.big.outer }
+    ensures next_node { (host : HostParts) (redex reactum : Big) (entries nodes : List ℕ) (after : HostParts)
+        → Reacts host redex reactum entries nodes after → host.next_node ≤ after.next_node }
+    ensures next_edge { (host : HostParts) (redex reactum : Big) (entries nodes : List ℕ) (after : HostParts)
+        → Reacts host redex reactum entries nodes after → host.next_edge ≤ after.next_edge }
+    ensures edges_used { (host : HostParts) (redex reactum : Big) (entries nodes : List ℕ) (after : HostParts)
+        → Reacts host redex reactum entries nodes after
+        → All (λ edge. IsTrue (has_point after.big (Edge edge))) after.big.edges }
 {}

@@ -2,7 +2,8 @@
 ghost use Rattle.std.specs.Prelude.{◌≡◌, ◌↔◌, ◌<◌, IfOk, IsErrOf, IsTrue};
 ghost use Rattle.std.specs.List.{All};
 ghost use Rattle.bg_base.specs.Bigraph.{IsValid};
-ghost use Rattle.bg_rules.specs.Rules.{IsNumberedFromZero, SidesAgree, MapFits, IsRule};
+ghost use Rattle.bg_rules.specs.Reaction.{SidesAgree, MapFits};
+ghost use Rattle.bg_rules.specs.Rules.{IsNumberedFromZero, IsRule};
 
 use crate::{Condition, Pattern, RuleFault};
 use bg_base::{Big, Label, Map, Name};

@@ -1,0 +1,54 @@
+-- What a reaction keeps: regions, outer names, and the numbers that were given; and no edge of its result is idle.
+use Rattle.std.proofs.Common.{◌≡◌, ℕ, ◌+◌, ◌≤◌, List, [], filter, length, All, IsTrue, refl, sym, ap, subst, ◌∙◌, arith}
+use Rattle.bg_lists.proofs.Members.{Mem-unfilter}
+use Rattle.bg_lists.proofs.Words.{All-from_members}
+use Rattle.bg_base.specs.declared.names.Link.TheVariants.{Edge}
+use Rattle.bg_base.specs.declared.big.Big.{Big}
+use Rattle.bg_base.specs.Composition.{compose}
+use Rattle.bg_base.specs.Products.{lean, has_point}
+use Rattle.bg_base.proofs.Composed.{compose_regions, compose_outer}
+use Rattle.bg_rules.specs.Instantiation.{late_nodes}
+use Rattle.bg_rules.specs.Reaction.{HostParts, Reacts}
+use Rattle.bg_rules.specs.Recomposition.{next_frame, next_instance}
+use Rattle.bg_rules.proofs.Grounded.{context_regions, context_outer}
+
+lean_regions : (big : Big) → (lean big).regions ≡ big.regions
+unfolding lean
+lean_regions big = refl
+
+lean_outer : (big : Big) → (lean big).outer ≡ big.outer
+unfolding lean
+lean_outer big = refl
+
+lean_used : (big : Big) → All (λ edge. IsTrue (has_point (lean big) (Edge edge))) (lean big).edges
+unfolding lean
+lean_used big =
+    All-from_members (λ edge. IsTrue (has_point big (Edge edge))) (filter (λ edge. has_point big (Edge edge)) big.edges)
+    (λ edge m. (Mem-unfilter (λ edge. has_point big (Edge edge)) big.edges m).1)
+
+module _ (host : HostParts) (redex reactum : Big) (entries nodes : List ℕ) (after : HostParts) (r : Reacts host redex reactum entries nodes after) where
+  abbrev inside : Big
+  inside = compose (next_frame host reactum r.parameter) (next_instance host reactum entries r.parameter)
+
+  abbrev whole : Big
+  whole = compose r.context inside
+
+  pub regions_kept : after.big.regions ≡ host.big.regions
+  regions_kept =
+      ap (λ (b : Big). b.regions) r.big ∙ lean_regions whole ∙ compose_regions r.context inside
+      ∙ context_regions host.big redex nodes r.context r.edges r.parameter r.decomposes
+
+  pub outer_kept : after.big.outer ≡ host.big.outer
+  outer_kept =
+      ap (λ (b : Big). b.outer) r.big ∙ lean_outer whole ∙ compose_outer r.context inside
+      ∙ context_outer host.big redex nodes r.context r.edges r.parameter r.decomposes
+
+  pub next_node_grows : host.next_node ≤ after.next_node
+  next_node_grows =
+      let next : after.next_node ≡ host.next_node + length reactum.nodes + late_nodes r.parameter [] entries = r.next_node in omega (arith, next)
+
+  pub next_edge_grows : host.next_edge ≤ after.next_edge
+  next_edge_grows = let next = r.next_edge in omega (arith, next)
+
+  pub result_edges_used : All (λ edge. IsTrue (has_point after.big (Edge edge))) after.big.edges
+  result_edges_used = subst (λ (b : Big). All (λ edge. IsTrue (has_point b (Edge edge))) b.edges) (sym r.big) (lean_used whole)
