@@ -1,0 +1,3 @@
+mod Runs
+mod Words
+pub mod Partly
