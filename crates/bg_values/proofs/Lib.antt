@@ -1,3 +1,4 @@
 mod Runs
 mod Words
 pub mod Partly
+pub mod Gathering

@@ -7,3 +7,4 @@ pub mod Scopes
 pub mod Numbers
 pub mod Reading
 pub mod Lowering
+pub mod Operands

@@ -10,6 +10,7 @@ mod arithmetic;
 mod formula;
 mod names;
 mod number;
+mod operands;
 mod reading;
 mod refusal;
 mod scope;
@@ -17,6 +18,7 @@ mod stack;
 
 pub use formula::{Formula, Operator, Step};
 pub use names::NameTable;
+pub use operands::{Operand, operand_of, operands_of, values_of};
 pub use reading::{formula_of, number_at, number_token, text_at};
 pub use refusal::{Cause, LimitWord, Refusal, Stop};
 pub use scope::Scope;

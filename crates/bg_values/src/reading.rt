@@ -77,6 +77,13 @@ fn name_at(scope: &Scope, token: u32) -> Result<u32, Stop>
 }
 
 /// The first token of the tree.
+pub(crate) fn first_of_x(tree: &SynX) -> u32
+    ensures { result ≡ (definition.x_read tree.now).0 }
+{
+    first_of_t(&tree.part1)
+}
+
+/// The first token of the tree.
 fn first_of_t(tree: &SynT) -> u32
     ensures { result ≡ (definition.t_read tree.now).0 }
 {
