@@ -9,9 +9,8 @@ use Rattle.bg_values.specs.declared.operands.Operand.{Operand as Code}
 use Rattle.bg_values.specs.declared.refusal.Refusal.{Refusal}
 use Rattle.bg_values.specs.declared.refusal.Stop.{Stop}
 use Rattle.bg_values.specs.declared.refusal.Stop.TheVariants as stops
-use Rattle.bg_values.specs.Arithmetic.{value}
 use Rattle.bg_values.specs.Outcome.{◌>>=◌, Stops}
-use Rattle.bg_values.specs.Operands.{Operand, operand_read, operands_read, trees_of, shown, coded, AreCodesOf, values}
+use Rattle.bg_values.specs.Operands.{Operand, operand_read, operands_read, trees_of, shown, coded, AreCodesOf, each}
 use Rattle.bg_values.specs.Scopes.{ScopeParts}
 
 ok_same : {A : Type 0} {x y : A} → ◌≡◌ {A = Result A Refusal} (Ok x) (Ok y) → x ≡ y
@@ -106,10 +105,10 @@ others_stop scope x xs fs stops.OutOfMemory first refuses = tt
 -- ---- what the formulas come to
 
 -- these values were found; what the other formulas come to follows them
-pub record Evaluated (env : List Value) (found : List Value) (wanted : Result (List Value) Refusal) (others : List Code) : Type 0 where
+pub record Evaluated (comes : Operand → Result Value Refusal) (found : List Value) (wanted : Result (List Value) Refusal) (others : List Code) : Type 0 where
   pub left : List Operand
   pub same : AreCodesOf left others
-  pub wants : wanted ≡ (values env left >>= λ vs. Ok (found ++ vs))
+  pub wants : wanted ≡ (each comes left >>= λ vs. Ok (found ++ vs))
 
 -- the first of some formulas and the others
 pub record Opens (left : List Operand) (code : Code) (rest : List Code) : Type 0 where
@@ -128,33 +127,33 @@ value_go : (found : List Value) (v : Value) (r : Result (List Value) Refusal)
 value_go found v (Ok vs) = ap Ok (sym (append_assoc found (v ∷ []) vs))
 value_go found v (Err e) = refl
 
-pub evaluated_more : (env found next : List Value) (wanted : Result (List Value) Refusal) (code : Code) (rest : List Code) (v : Value)
-    → Evaluated env found wanted (code ∷ rest) → ((f : Operand) → shown code ≡ coded f → value env f.1 ≡ Ok v) → next ≡ found ++ v ∷ []
-    → Evaluated env next wanted rest
-evaluated_more env found next wanted code rest v so_far comes made =
+pub evaluated_more : (comes : Operand → Result Value Refusal) (found next : List Value) (wanted : Result (List Value) Refusal) (code : Code) (rest : List Code) (v : Value)
+    → Evaluated comes found wanted (code ∷ rest) → ((f : Operand) → shown code ≡ coded f → comes f ≡ Ok v) → next ≡ found ++ v ∷ []
+    → Evaluated comes next wanted rest
+evaluated_more comes found next wanted code rest v so_far gives made =
     let first = opened so_far.left code rest so_far.same in
     record {
       left = first.others;
       same = first.rest_are;
-      wants = so_far.wants ∙ ap (λ fs. values env fs >>= λ vs. Ok (found ++ vs)) first.is
-          ∙ ap (λ r. (r >>= λ w. values env first.others >>= λ vs. Ok (w ∷ vs)) >>= λ vs. Ok (found ++ vs)) (comes first.first first.code_is)
-          ∙ value_go found v (values env first.others)
-          ∙ ap (λ l. values env first.others >>= λ vs. Ok (l ++ vs)) (sym made);
+      wants = so_far.wants ∙ ap (λ fs. each comes fs >>= λ vs. Ok (found ++ vs)) first.is
+          ∙ ap (λ r. (r >>= λ w. each comes first.others >>= λ vs. Ok (w ∷ vs)) >>= λ vs. Ok (found ++ vs)) (gives first.first first.code_is)
+          ∙ value_go found v (each comes first.others)
+          ∙ ap (λ l. each comes first.others >>= λ vs. Ok (l ++ vs)) (sym made);
     }
 
-pub evaluation_stops : (env found : List Value) (wanted : Result (List Value) Refusal) (code : Code) (rest : List Code) (stop : Stop)
-    → Evaluated env found wanted (code ∷ rest) → ((f : Operand) → shown code ≡ coded f → Stops stop (value env f.1)) → Stops stop wanted
-evaluation_stops env found wanted code rest (stops.Refused refusal) so_far refuses =
+pub evaluation_stops : (comes : Operand → Result Value Refusal) (found : List Value) (wanted : Result (List Value) Refusal) (code : Code) (rest : List Code) (stop : Stop)
+    → Evaluated comes found wanted (code ∷ rest) → ((f : Operand) → shown code ≡ coded f → Stops stop (comes f)) → Stops stop wanted
+evaluation_stops comes found wanted code rest (stops.Refused refusal) so_far refuses =
     let first = opened so_far.left code rest so_far.same in
-    so_far.wants ∙ ap (λ fs. values env fs >>= λ vs. Ok (found ++ vs)) first.is
-    ∙ ap (λ r. (r >>= λ w. values env first.others >>= λ vs. Ok (w ∷ vs)) >>= λ vs. Ok (found ++ vs)) (refuses first.first first.code_is)
-evaluation_stops env found wanted code rest stops.OutOfMemory so_far refuses = tt
+    so_far.wants ∙ ap (λ fs. each comes fs >>= λ vs. Ok (found ++ vs)) first.is
+    ∙ ap (λ r. (r >>= λ w. each comes first.others >>= λ vs. Ok (w ∷ vs)) >>= λ vs. Ok (found ++ vs)) (refuses first.first first.code_is)
+evaluation_stops comes found wanted code rest stops.OutOfMemory so_far refuses = tt
 
-pub evaluation_ends : (env found : List Value) (wanted : Result (List Value) Refusal) (others : List Code) → length others ≡ 0
-    → Evaluated env found wanted others → wanted ≡ Ok found
-evaluation_ends env found wanted [] none so_far = so_far.wants ∙ ended so_far.left so_far.same
+pub evaluation_ends : (comes : Operand → Result Value Refusal) (found : List Value) (wanted : Result (List Value) Refusal) (others : List Code) → length others ≡ 0
+    → Evaluated comes found wanted others → wanted ≡ Ok found
+evaluation_ends comes found wanted [] none so_far = so_far.wants ∙ ended so_far.left so_far.same
   where
-    ended : (left : List Operand) → AreCodesOf left [] → (values env left >>= λ vs. Ok (found ++ vs)) ≡ Ok found
+    ended : (left : List Operand) → AreCodesOf left [] → (each comes left >>= λ vs. Ok (found ++ vs)) ≡ Ok found
     ended [] same = ap Ok (append-nil found)
     ended (f ∷ fs) same = absurd cc
-evaluation_ends env found wanted (code ∷ codes) none so_far = absurd (omega (arith, none))
+evaluation_ends comes found wanted (code ∷ codes) none so_far = absurd (omega (arith, none))

@@ -8,3 +8,4 @@ pub mod Numbers
 pub mod Reading
 pub mod Lowering
 pub mod Operands
+pub mod Parameters

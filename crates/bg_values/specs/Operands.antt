@@ -3,6 +3,7 @@ use Rattle.std.specs.Prelude.{◌≡◌, ℕ, List, [], ◌∷◌, ◌++◌, map
 use Rattle.std.specs.Prelude.{Vec}
 use Rattle.std.specs.Global.{Global}
 use Rattle.bg_base.specs.declared.labels.Value.{Value}
+use Rattle.bg_base.specs.declared.labels.Value.TheVariants.{Int}
 use Rattle.bg_syntax.specs.declared.tree.arithmetic.SynX.{SynX}
 use Rattle.bg_syntax.specs.declared.tree.arithmetic.SynMoreXItem.{SynMoreXItem}
 use Rattle.bg_values.specs.declared.formula.Step.{Step}
@@ -34,10 +35,22 @@ abbrev pub operands_read : ScopeParts → List SynX → Result (List Operand) Re
 operands_read scope [] = Ok []
 operands_read scope (x ∷ xs) = operand_read scope x >>= λ f. operands_read scope xs >>= λ fs. Ok (f ∷ fs)
 
--- what the formulas come to, in order
+-- what each of them comes to, in order
+abbrev pub each : (Operand → Result Value Refusal) → List Operand → Result (List Value) Refusal
+each comes [] = Ok []
+each comes (f ∷ fs) = comes f >>= λ v. each comes fs >>= λ vs. Ok (v ∷ vs)
+
+-- what the formulas come to, where the visible names have these values
 abbrev pub values : List Value → List Operand → Result (List Value) Refusal
-values env [] = Ok []
-values env (f ∷ fs) = value env f.1 >>= λ v. values env fs >>= λ vs. Ok (v ∷ vs)
+values env = each (λ f. value env f.1)
+
+-- the number that a formula comes to
+abbrev pub number : List Value → Operand → Result Value Refusal
+number env f = value env f.1 >>= λ v. number_of f.0 v >>= λ z. Ok (Int z)
+
+-- the numbers that the formulas come to
+abbrev pub numbers : List Value → List Operand → Result (List Value) Refusal
+numbers env = each (number env)
 
 -- the formula as its steps
 abbrev pub coded : Operand → ℕ × List Step

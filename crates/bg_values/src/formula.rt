@@ -157,7 +157,7 @@ fn apply(stack: &mut Stack<Value>, operator: Operator, at: u32, left: u32, right
 }
 
 /// The number that the value is, the first token of whose formula stands there.
-fn number_of(token: u32, value: &Value) -> Result<i64, Stop>
+pub(crate) fn number_of(token: u32, value: &Value) -> Result<i64, Stop>
     ensures { Gives result (definition.number_of token value.now) }
 {
     match value {

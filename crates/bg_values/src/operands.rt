@@ -3,7 +3,7 @@ ghost use Rattle.std.specs.Prelude.{◌≡◌, ◌∷◌, [], List, map};
 ghost use Rattle.bg_values.specs.Operands as definition;
 ghost use Rattle.bg_values.specs.Outcome.{Gives};
 
-use crate::formula::Formula;
+use crate::formula::{Formula, number_of};
 use crate::reading::{first_of_x, formula_of};
 use crate::refusal::Stop;
 use crate::scope::Scope;
@@ -68,4 +68,26 @@ pub fn values_of(alloc: Global, operands: &[Operand], env: &[Value]) -> Result<V
         others = rest;
     }
     Ok(values)
+}
+
+/// The numbers that the formulas come to, in order. Refuses the first that comes to a text. Linear in their steps.
+pub fn numbers_of(alloc: Global, operands: &[Operand], env: &[Value]) -> Result<Vec<Value>, Stop>
+    ensures { (fs : List definition.Operand) → definition.AreCodesOf fs operands.now → definition.GivesList result (definition.numbers env.now fs) }
+{
+    let mut numbers = Vec::new(alloc);
+    let mut others = operands;
+    while let Some((operand, rest)) = others.split_first() {
+        numbers.push(evaluate_number(alloc, operand, env)?)?;
+        others = rest;
+    }
+    Ok(numbers)
+}
+
+/// The number that the formula comes to.
+fn evaluate_number(alloc: Global, operand: &Operand, env: &[Value]) -> Result<Value, Stop>
+    ensures { (f : definition.Operand) → definition.shown operand.now ≡ definition.coded f → Gives result (definition.number env.now f) }
+{
+    let value = operand.formula.evaluate(alloc, env)?;
+    let number = number_of(operand.first, &value)?;
+    Ok(Value::Int(number))
 }
