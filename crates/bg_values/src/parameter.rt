@@ -1,5 +1,5 @@
 //! The values of a parameter.
-ghost use Rattle.std.specs.Prelude.{◌≡◌, ◌∷◌, ◌++◌, ℕ, suc, IfOk, OnOk, Some};
+ghost use Rattle.std.specs.Prelude.{◌≡◌, [], ◌∷◌, ◌++◌, ℕ, suc, IfOk, OnOk, Some};
 
 ghost use Rattle.bg_values.specs.Operands as operands;
 ghost use Rattle.bg_values.specs.Outcome.{Gives};
@@ -178,21 +178,37 @@ fn take_turn(bounds: &Bounds, following: &mut Option<i64>, values: &mut Vec<Valu
         → values.old.items ++ definition.spaced (suc most) bounds.now.step bounds.now.end following.old
         ≡ values.new.items ++ definition.spaced most bounds.now.step bounds.now.end following.new) }
 {
-    match *following {
+    match &*following {
         Some(value) => {
-            values.push(Value::Int(value))?;
-            *following = next(bounds.step, bounds.end, value);
+            add(values, value)?;
+            *following = next(bounds, value);
             Ok(())
         }
         None => Ok(()),
     }
 }
 
-/// The next number of a range, where it is not above the end.
-fn next(s: i64, b: i64, a: i64) -> Option<i64>
-    ensures { result ≡ definition.next s b a }
+fn add(values: &mut Vec<Value>, number: &i64) -> Mem<()>
+    ensures { OnOk result (values.new.items ≡ values.old.items ++ Value.Int number.now ∷ []) }
 {
-    not_above(b, small(i128::from(a) + i128::from(s)))
+    values.push(Value::Int(*number))?;
+    Ok(())
+}
+
+/// The next number of a range, where it is not above the end.
+fn next(bounds: &Bounds, value: &i64) -> Option<i64>
+    ensures { result ≡ definition.next bounds.now.step bounds.now.end value.now }
+{
+    let number = *value;
+    let step = bounds.step;
+    let end = bounds.end;
+    next_number(step, end, number)
+}
+
+fn next_number(step: i64, end: i64, value: i64) -> Option<i64>
+    ensures { result ≡ definition.next step end value }
+{
+    not_above(end, small(i128::from(value) + i128::from(step)))
 }
 
 fn not_above(b: i64, value: Option<i64>) -> Option<i64>
