@@ -57,7 +57,7 @@ module _ {T : Type 0} where
       → map shown new ≡ entries ++ (word, value) ∷ []
   added_last m word key value entries result new same found none old made =
       let absent : get (λ a b. pointwise nat_eq a.items b.items) m key ≡ None =
-          is_none _ (ap (λ w. is_some (get_by (λ k. pointwise nat_eq w k.items) m)) same ∙ sym found ∙ ap is_some none) in
+      is_none _ (ap (λ w. is_some (get_by (λ k. pointwise nat_eq w k.items) m)) same ∙ sym found ∙ ap is_some none) in
       ap (map shown) (made ∙ insert_entry-new (λ a b. pointwise nat_eq a.items b.items) m key value absent)
       ∙ shown_last m.entries (key, value)
       ∙ ap (λ es. es ++ (key.items, value) ∷ []) old

@@ -6,7 +6,6 @@ use Rattle.bg_values.specs.declared.refusal.Stop.{Stop}
 use Rattle.bg_values.specs.declared.refusal.Stop.TheVariants.{Refused, OutOfMemory}
 
 infixl 10 ◌>>=◌
-
 -- goes on with the value; a refusal is the first one
 abbrev pub ◌>>=◌ : {A B : Type 0} → Result A Refusal → (A → Result B Refusal) → Result B Refusal
 (Ok x) >>= f = f x

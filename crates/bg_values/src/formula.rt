@@ -29,9 +29,15 @@ pub enum Step {
     /// Puts a text.
     Words(Text),
     /// Puts the value of the visible name with that number.
-    Name { at: u32, number: u32 },
+    Name {
+        at: u32,
+        number: u32,
+    },
     /// Turns the sign of the number on top.
-    Negate { at: u32, operand: u32 },
+    Negate {
+        at: u32,
+        operand: u32,
+    },
     /// Takes two numbers, and puts what the operator gives.
     Apply {
         operator: Operator,
@@ -84,7 +90,12 @@ fn run(alloc: Global, steps: &[Step], env: &[Value], stack: &mut Stack<Value>) -
 }
 
 /// Takes one step.
-fn take_step(alloc: Global, step: &Step, env: &[Value], stack: &mut Stack<Value>) -> Result<(), Stop>
+fn take_step(
+    alloc: Global,
+    step: &Step,
+    env: &[Value],
+    stack: &mut Stack<Value>,
+) -> Result<(), Stop>
     ensures { Goes result stack.new (machine.step env.now step.now stack.old) }
 {
     match step {
@@ -114,7 +125,13 @@ fn put_text(alloc: Global, stack: &mut Stack<Value>, text: &Text) -> Result<(), 
     put(stack, Value::Words(text.copy(alloc)?))
 }
 
-fn put_name(alloc: Global, stack: &mut Stack<Value>, env: &[Value], at: u32, number: u32) -> Result<(), Stop>
+fn put_name(
+    alloc: Global,
+    stack: &mut Stack<Value>,
+    env: &[Value],
+    at: u32,
+    number: u32,
+) -> Result<(), Stop>
     ensures { Goes result stack.new (machine.put_name env.now at number stack.old) }
 {
     let value = look_up(alloc, env, at, number)?;
@@ -145,7 +162,13 @@ fn negate(stack: &mut Stack<Value>, at: u32, operand: u32) -> Result<(), Stop>
     put(stack, Value::Int(number))
 }
 
-fn apply(stack: &mut Stack<Value>, operator: Operator, at: u32, left: u32, right: u32) -> Result<(), Stop>
+fn apply(
+    stack: &mut Stack<Value>,
+    operator: Operator,
+    at: u32,
+    left: u32,
+    right: u32,
+) -> Result<(), Stop>
     ensures { Goes result stack.new (machine.apply operator at left right stack.old) }
 {
     let second = top(stack)?;

@@ -19,9 +19,12 @@ mod stack;
 
 pub use formula::{Formula, Operator, Step};
 pub use names::NameTable;
-pub use operands::{Operand, operand_of, numbers_of, operands_of, values_of};
+pub use operands::{Operand, numbers_of, operand_of, operands_of, values_of};
 pub use parameter::{parameter_name, parameter_values};
 pub use reading::{formula_of, number_at, number_token, text_at};
 pub use refusal::{Cause, LimitWord, Refusal, Stop};
 pub use scope::Scope;
 pub use stack::Stack;
+
+#[cfg(test)]
+mod tests;

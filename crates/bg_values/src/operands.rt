@@ -19,7 +19,12 @@ pub struct Operand {
 }
 
 /// The formulas of a list of trees, in order. Refuses the first name that is not visible. Linear in the trees.
-pub fn operands_of(alloc: Global, scope: &Scope, first: &SynX, more: &[SynMoreXItem]) -> Result<Vec<Operand>, Stop>
+pub fn operands_of(
+    alloc: Global,
+    scope: &Scope,
+    first: &SynX,
+    more: &[SynMoreXItem],
+) -> Result<Vec<Operand>, Stop>
     ensures { definition.ReadsAll result (definition.operands_read scope.now (definition.trees first.now more.now)) }
 {
     let mut operands = Vec::new(alloc);
@@ -28,7 +33,12 @@ pub fn operands_of(alloc: Global, scope: &Scope, first: &SynX, more: &[SynMoreXI
     Ok(operands)
 }
 
-fn add_operands(alloc: Global, scope: &Scope, items: &[SynMoreXItem], operands: &mut Vec<Operand>) -> Result<(), Stop>
+fn add_operands(
+    alloc: Global,
+    scope: &Scope,
+    items: &[SynMoreXItem],
+    operands: &mut Vec<Operand>,
+) -> Result<(), Stop>
     ensures { definition.Adds result operands.old.items operands.new.items
         (definition.operands_read scope.now (definition.trees_of items.now)) }
 {
@@ -38,7 +48,12 @@ fn add_operands(alloc: Global, scope: &Scope, items: &[SynMoreXItem], operands: 
     Ok(())
 }
 
-fn add_operand(alloc: Global, scope: &Scope, tree: &SynX, operands: &mut Vec<Operand>) -> Result<(), Stop>
+fn add_operand(
+    alloc: Global,
+    scope: &Scope,
+    tree: &SynX,
+    operands: &mut Vec<Operand>,
+) -> Result<(), Stop>
     ensures { definition.Adds result operands.old.items operands.new.items (definition.operands_read scope.now (tree.now ∷ [])) }
 {
     let operand = operand_of(alloc, scope, tree)?;

@@ -1,6 +1,5 @@
 //! The values of a parameter.
 ghost use Rattle.std.specs.Prelude.{◌≡◌, [], ◌∷◌, ◌++◌, ℕ, suc, IfOk, OnOk, Some};
-
 ghost use Rattle.bg_values.specs.Operands as operands;
 ghost use Rattle.bg_values.specs.Outcome.{Gives};
 ghost use Rattle.bg_values.specs.Parameters as definition;
@@ -45,13 +44,21 @@ fn int_values(alloc: Global, scope: &Scope, name: u32, set: &SynIntSet) -> Resul
 {
     match set {
         SynIntSet::Way1(_, first, more, _) => listed(alloc, scope, name, first, more.as_slice()),
-        SynIntSet::Way2(bracket, from, _, step, _, to, _) => ranged(alloc, scope, name, *bracket, from, step, to),
+        SynIntSet::Way2(bracket, from, _, step, _, to, _) => ranged(
+            alloc, scope, name, *bracket, from, step, to,
+        ),
         SynIntSet::Way3(only) => listed(alloc, scope, name, only, &[]),
     }
 }
 
 /// The numbers of a list.
-fn listed(alloc: Global, scope: &Scope, name: u32, first: &SynX, more: &[SynMoreXItem]) -> Result<Vec<Value>, Stop>
+fn listed(
+    alloc: Global,
+    scope: &Scope,
+    name: u32,
+    first: &SynX,
+    more: &[SynMoreXItem],
+) -> Result<Vec<Value>, Stop>
     ensures { operands.GivesList result (definition.listed scope.now name first.now more.now) }
 {
     let operands = operands_of(alloc, scope, first, more)?;
@@ -103,7 +110,9 @@ fn evaluated_range(
     let second = step.formula.evaluate(alloc, &[])?;
     let third = to.formula.evaluate(alloc, &[])?;
     let a = number_of(from.first, &first)?;
-    numbered_range(alloc, name, bracket, a, step.first, &second, to.first, &third)
+    numbered_range(
+        alloc, name, bracket, a, step.first, &second, to.first, &third,
+    )
 }
 
 fn numbered_range(
@@ -215,13 +224,7 @@ fn not_above(b: i64, value: Option<i64>) -> Option<i64>
     ensures { result ≡ definition.not_above b value }
 {
     match value {
-        Some(value) => {
-            if value > b {
-                None
-            } else {
-                Some(value)
-            }
-        }
+        Some(value) => { if value > b { None } else { Some(value) } }
         None => None,
     }
 }
@@ -237,16 +240,33 @@ fn small(value: i128) -> Option<i64>
     }
 }
 
-fn text_values(alloc: Global, scope: &Scope, name: u32, set: &SynTextSet) -> Result<Vec<Value>, Stop>
+fn text_values(
+    alloc: Global,
+    scope: &Scope,
+    name: u32,
+    set: &SynTextSet,
+) -> Result<Vec<Value>, Stop>
     ensures { operands.GivesList result (definition.text_values scope.now name set.now) }
 {
     match set {
-        SynTextSet::Way1(_, first, more, _) => few_texts(alloc, scope, name, *first, more.as_slice()),
+        SynTextSet::Way1(_, first, more, _) => few_texts(
+            alloc,
+            scope,
+            name,
+            *first,
+            more.as_slice(),
+        ),
         SynTextSet::Way2(only) => texts_at(alloc, scope, *only, &[]),
     }
 }
 
-fn few_texts(alloc: Global, scope: &Scope, name: u32, first: u32, more: &[SynMoreTextItem]) -> Result<Vec<Value>, Stop>
+fn few_texts(
+    alloc: Global,
+    scope: &Scope,
+    name: u32,
+    first: u32,
+    more: &[SynMoreTextItem],
+) -> Result<Vec<Value>, Stop>
     ensures { operands.GivesList result (definition.few_texts scope.now name first (definition.tokens_of more.now)) }
 {
     let texts = texts_at(alloc, scope, first, more)?;
@@ -254,7 +274,12 @@ fn few_texts(alloc: Global, scope: &Scope, name: u32, first: u32, more: &[SynMor
 }
 
 /// The texts of the tokens, in order.
-fn texts_at(alloc: Global, scope: &Scope, first: u32, more: &[SynMoreTextItem]) -> Result<Vec<Value>, Stop>
+fn texts_at(
+    alloc: Global,
+    scope: &Scope,
+    first: u32,
+    more: &[SynMoreTextItem],
+) -> Result<Vec<Value>, Stop>
     ensures { operands.GivesList result (definition.texts_at scope.now (first ∷ definition.tokens_of more.now)) }
 {
     let mut texts = Vec::new(alloc);

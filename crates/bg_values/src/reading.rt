@@ -108,11 +108,23 @@ fn lower_x(alloc: Global, scope: &Scope, tree: &SynX, steps: &mut Vec<Step>) -> 
     ensures { Goes result steps.new.items (lowered steps.old.items ((definition.x_read tree.now).1 scope.now)) }
 {
     lower_t(alloc, scope, &tree.part1, steps)?;
-    lower_x_items(alloc, scope, first_of_t(&tree.part1), tree.part2.as_slice(), steps)
+    lower_x_items(
+        alloc,
+        scope,
+        first_of_t(&tree.part1),
+        tree.part2.as_slice(),
+        steps,
+    )
 }
 
 #[cycle(lowering)]
-fn lower_x_items(alloc: Global, scope: &Scope, first: u32, items: &[SynX1Item], steps: &mut Vec<Step>) -> Result<(), Stop>
+fn lower_x_items(
+    alloc: Global,
+    scope: &Scope,
+    first: u32,
+    items: &[SynX1Item],
+    steps: &mut Vec<Step>,
+) -> Result<(), Stop>
     ensures { Extends result steps.old.items steps.new.items (definition.along (map definition.x1_item_read items.now) scope.now first) }
 {
     for item in items {
@@ -122,17 +134,47 @@ fn lower_x_items(alloc: Global, scope: &Scope, first: u32, items: &[SynX1Item], 
 }
 
 #[cycle(lowering)]
-fn lower_x_item(alloc: Global, scope: &Scope, first: u32, item: &SynX1Item, steps: &mut Vec<Step>) -> Result<(), Stop>
+fn lower_x_item(
+    alloc: Global,
+    scope: &Scope,
+    first: u32,
+    item: &SynX1Item,
+    steps: &mut Vec<Step>,
+) -> Result<(), Stop>
     ensures { Extends result steps.old.items steps.new.items (definition.x1_item_read item.now scope.now first) }
 {
     match item {
-        SynX1Item::Way1(at, right) => lower_term(alloc, scope, Operator::Add, *at, first, right, steps),
-        SynX1Item::Way2(at, right) => lower_term(alloc, scope, Operator::Subtract, *at, first, right, steps),
+        SynX1Item::Way1(at, right) => lower_term(
+            alloc,
+            scope,
+            Operator::Add,
+            *at,
+            first,
+            right,
+            steps,
+        ),
+        SynX1Item::Way2(at, right) => lower_term(
+            alloc,
+            scope,
+            Operator::Subtract,
+            *at,
+            first,
+            right,
+            steps,
+        ),
     }
 }
 
 #[cycle(lowering)]
-fn lower_term(alloc: Global, scope: &Scope, operator: Operator, at: u32, first: u32, right: &SynT, steps: &mut Vec<Step>) -> Result<(), Stop>
+fn lower_term(
+    alloc: Global,
+    scope: &Scope,
+    operator: Operator,
+    at: u32,
+    first: u32,
+    right: &SynT,
+    steps: &mut Vec<Step>,
+) -> Result<(), Stop>
     ensures { Extends result steps.old.items steps.new.items (definition.operated operator at (definition.t_read right.now) scope.now first) }
 {
     lower_t(alloc, scope, right, steps)?;
@@ -150,11 +192,23 @@ fn lower_t(alloc: Global, scope: &Scope, tree: &SynT, steps: &mut Vec<Step>) -> 
     ensures { Goes result steps.new.items (lowered steps.old.items ((definition.t_read tree.now).1 scope.now)) }
 {
     lower_u(alloc, scope, &tree.part1, steps)?;
-    lower_t_items(alloc, scope, first_of_u(&tree.part1), tree.part2.as_slice(), steps)
+    lower_t_items(
+        alloc,
+        scope,
+        first_of_u(&tree.part1),
+        tree.part2.as_slice(),
+        steps,
+    )
 }
 
 #[cycle(lowering)]
-fn lower_t_items(alloc: Global, scope: &Scope, first: u32, items: &[SynT1Item], steps: &mut Vec<Step>) -> Result<(), Stop>
+fn lower_t_items(
+    alloc: Global,
+    scope: &Scope,
+    first: u32,
+    items: &[SynT1Item],
+    steps: &mut Vec<Step>,
+) -> Result<(), Stop>
     ensures { Extends result steps.old.items steps.new.items (definition.along (map definition.t1_item_read items.now) scope.now first) }
 {
     for item in items {
@@ -164,17 +218,47 @@ fn lower_t_items(alloc: Global, scope: &Scope, first: u32, items: &[SynT1Item], 
 }
 
 #[cycle(lowering)]
-fn lower_t_item(alloc: Global, scope: &Scope, first: u32, item: &SynT1Item, steps: &mut Vec<Step>) -> Result<(), Stop>
+fn lower_t_item(
+    alloc: Global,
+    scope: &Scope,
+    first: u32,
+    item: &SynT1Item,
+    steps: &mut Vec<Step>,
+) -> Result<(), Stop>
     ensures { Extends result steps.old.items steps.new.items (definition.t1_item_read item.now scope.now first) }
 {
     match item {
-        SynT1Item::Way1(at, right) => lower_factor(alloc, scope, Operator::Multiply, *at, first, right, steps),
-        SynT1Item::Way2(at, right) => lower_factor(alloc, scope, Operator::Divide, *at, first, right, steps),
+        SynT1Item::Way1(at, right) => lower_factor(
+            alloc,
+            scope,
+            Operator::Multiply,
+            *at,
+            first,
+            right,
+            steps,
+        ),
+        SynT1Item::Way2(at, right) => lower_factor(
+            alloc,
+            scope,
+            Operator::Divide,
+            *at,
+            first,
+            right,
+            steps,
+        ),
     }
 }
 
 #[cycle(lowering)]
-fn lower_factor(alloc: Global, scope: &Scope, operator: Operator, at: u32, first: u32, right: &SynU, steps: &mut Vec<Step>) -> Result<(), Stop>
+fn lower_factor(
+    alloc: Global,
+    scope: &Scope,
+    operator: Operator,
+    at: u32,
+    first: u32,
+    right: &SynU,
+    steps: &mut Vec<Step>,
+) -> Result<(), Stop>
     ensures { Extends result steps.old.items steps.new.items (definition.operated operator at (definition.u_read right.now) scope.now first) }
 {
     lower_u(alloc, scope, right, steps)?;
@@ -201,7 +285,13 @@ fn lower_u(alloc: Global, scope: &Scope, tree: &SynU, steps: &mut Vec<Step>) -> 
 }
 
 #[cycle(lowering)]
-fn lower_negation(alloc: Global, scope: &Scope, at: u32, operand: &SynU, steps: &mut Vec<Step>) -> Result<(), Stop>
+fn lower_negation(
+    alloc: Global,
+    scope: &Scope,
+    at: u32,
+    operand: &SynU,
+    steps: &mut Vec<Step>,
+) -> Result<(), Stop>
     ensures { Goes result steps.new.items (lowered steps.old.items (definition.negated at (definition.u_read operand.now) scope.now)) }
 {
     lower_u(alloc, scope, operand, steps)?;

@@ -8,9 +8,9 @@ returns-in_err-evaluate_number c = λ fs codes.
     let comes = definition.number c.args.env.now in
     let found = c.loop-operand.numbers.items in
     let opened : Evaluated comes found (definition.each comes fs) (c.in-Some.operand.now ∷ c.in-Some.rest.now) =
-        subst (Evaluated comes found (definition.each comes fs)) c.in-Some.ensures.cases.0 (c.loop-operand.invariant fs codes) in
+    subst (Evaluated comes found (definition.each comes fs)) c.in-Some.ensures.cases.0 (c.loop-operand.invariant fs codes) in
     let stopped = evaluation_stops comes found (definition.each comes fs) c.in-Some.operand.now c.in-Some.rest.now
-        c.in_err-evaluate_number.field-0.0 opened (λ f same. c.in_err-evaluate_number.ensures f same) in
+    c.in_err-evaluate_number.field-0.0 opened (λ f same. c.in_err-evaluate_number.ensures f same) in
     search (rules, stopped)
 
 pub loop-operand-preserved : goal.loop-operand-preserved
@@ -18,7 +18,7 @@ loop-operand-preserved c = λ fs codes.
     let comes = definition.number c.args.env.now in
     let found = c.loop-operand.numbers.items in
     let opened : Evaluated comes found (definition.each comes fs) (c.in-Some.operand.now ∷ c.in-Some.rest.now) =
-        subst (Evaluated comes found (definition.each comes fs)) c.in-Some.ensures.cases.0 (c.loop-operand.invariant fs codes) in
+    subst (Evaluated comes found (definition.each comes fs)) c.in-Some.ensures.cases.0 (c.loop-operand.invariant fs codes) in
     evaluated_more comes found c.push.new.self.items (definition.each comes fs) c.in-Some.operand.now c.in-Some.rest.now c.in_ok-evaluate_number.field-0
     opened (λ f same. c.in_ok-evaluate_number.ensures f same) c.in_ok-push.ensures.items
 

@@ -14,7 +14,7 @@ returns-in_err-add_operands c =
     let none : AreCodesOf [] c.new-operands.result.items = ap (map shown) c.new-operands.ensures.items in
     let first = c.in_ok-add_operand.ensures [] none in
     let stopped = others_stop c.args.scope.now c.args.first.now (trees_of c.args.more.now) first.0 c.in_err-add_operands.field-0.0 first.1
-        (c.in_err-add_operands.ensures first.0 first.2) in
+    (c.in_err-add_operands.ensures first.0 first.2) in
     search (rules, stopped)
 
 pub returns : goal.returns

@@ -15,9 +15,9 @@ returns-in_err-evaluate c = λ fs codes.
     let comes = value_comes c.args.env.now in
     let found = c.loop-operand.values.items in
     let opened : Evaluated comes found (definition.each comes fs) (c.in-Some.operand.now ∷ c.in-Some.rest.now) =
-        subst (Evaluated comes found (definition.each comes fs)) c.in-Some.ensures.cases.0 (c.loop-operand.invariant fs codes) in
+    subst (Evaluated comes found (definition.each comes fs)) c.in-Some.ensures.cases.0 (c.loop-operand.invariant fs codes) in
     let stopped = evaluation_stops comes found (definition.each comes fs) c.in-Some.operand.now c.in-Some.rest.now
-        c.in_err-evaluate.field-0.0 opened (λ f same. c.in_err-evaluate.ensures f.1 (ap (λ p. p.1) same)) in
+    c.in_err-evaluate.field-0.0 opened (λ f same. c.in_err-evaluate.ensures f.1 (ap (λ p. p.1) same)) in
     search (rules, stopped)
 
 pub loop-operand-preserved : goal.loop-operand-preserved
@@ -25,7 +25,7 @@ loop-operand-preserved c = λ fs codes.
     let comes = value_comes c.args.env.now in
     let found = c.loop-operand.values.items in
     let opened : Evaluated comes found (definition.each comes fs) (c.in-Some.operand.now ∷ c.in-Some.rest.now) =
-        subst (Evaluated comes found (definition.each comes fs)) c.in-Some.ensures.cases.0 (c.loop-operand.invariant fs codes) in
+    subst (Evaluated comes found (definition.each comes fs)) c.in-Some.ensures.cases.0 (c.loop-operand.invariant fs codes) in
     evaluated_more comes found c.push.new.self.items (definition.each comes fs) c.in-Some.operand.now c.in-Some.rest.now c.in_ok-evaluate.field-0
     opened (λ f same. c.in_ok-evaluate.ensures f.1 (ap (λ p. p.1) same)) c.in_ok-push.ensures.items
 
