@@ -1,7 +1,7 @@
 -- The steps of a formula leave what it comes to on the stack.
 use Rattle.std.proofs.Common.{◌≡◌, ℕ, List, [], ◌∷◌, ◌++◌, Option, Some, None, Result, Ok, Err, ℤ, refl, sym, ap, ◌∙◌, slice_get}
 use Rattle.bg_base.specs.declared.labels.Value.{Value}
-use Rattle.bg_base.specs.declared.labels.Value.TheVariants.{Int, Words}
+use Rattle.bg_base.specs.declared.labels.Value.TheVariants.{Int}
 use Rattle.bg_values.specs.declared.formula.Operator.{Operator}
 use Rattle.bg_values.specs.declared.formula.Step.{Step}
 use Rattle.bg_values.specs.declared.formula.Step.TheVariants as steps

@@ -1,5 +1,5 @@
 -- Names found in a map with their bytes as keys.
-use Rattle.std.proofs.Common.{◌≡◌, ◌+◌, ℕ, suc, cond, not, nat_lt, Option, Some, None, nat_eq, Vec, Global, List, [], ◌∷◌, map, length, refl, sym, ap, ◌∙◌, Bool, true, false, is_some, ◌++◌}
+use Rattle.std.proofs.Common.{◌≡◌, ◌+◌, ℕ, suc, cond, not, nat_lt, Option, Some, None, nat_eq, Vec, Global, List, [], ◌∷◌, map, length, refl, sym, ap, ◌∙◌, Bool, false, is_some, ◌++◌}
 use Rattle.std.specs.Prelude.{position}
 use Rattle.std.specs.List.{prefix_len, position_or_len}
 use Rattle.std.specs.Cmp.Lexicographic.{pointwise}

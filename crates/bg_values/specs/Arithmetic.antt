@@ -1,5 +1,5 @@
 -- Formulas of numbers and texts, and what they come to.
-use Rattle.std.specs.Prelude.{ℕ, ℤ, pos, negsuc, ◌+ℤ◌, ◌-ℤ◌, ◌*ℤ◌, neg_ℤ, int_div, int_lt, Bool, ◌||◌, if◌then◌else◌, List, Result, Ok, slice_get}
+use Rattle.std.specs.Prelude.{ℕ, ℤ, pos, negsuc, ◌+ℤ◌, ◌-ℤ◌, ◌*ℤ◌, neg_ℤ, int_div, int_lt, ◌||◌, if◌then◌else◌, List, Result, Ok, slice_get}
 use Rattle.std.specs.Ordering.{int_eq}
 use Rattle.bg_base.specs.declared.labels.Value.{Value}
 use Rattle.bg_base.specs.declared.labels.Value.TheVariants.{Int, Words}

@@ -1,5 +1,5 @@
 -- The steps of a formula behind others.
-use Rattle.std.specs.Prelude.{◌≡◌, ℕ, List, [], ◌++◌, Result, Ok, Err}
+use Rattle.std.specs.Prelude.{◌≡◌, List, ◌++◌, Result, Ok, Err}
 use Rattle.bg_values.specs.declared.formula.Step.{Step}
 use Rattle.bg_values.specs.declared.formula.Formula.{Formula as Code}
 use Rattle.bg_values.specs.declared.refusal.Refusal.{Refusal}

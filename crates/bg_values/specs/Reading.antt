@@ -1,5 +1,5 @@
 -- What a tree of arithmetic says, where some names are visible.
-use Rattle.std.specs.Prelude.{ℕ, ◌-◌, if◌then◌else◌, List, [], ◌∷◌, length, take, drop, Option, Some, None, Result, Ok, ℤ}
+use Rattle.std.specs.Prelude.{ℕ, ◌-◌, if◌then◌else◌, List, [], ◌∷◌, length, take, drop, Result, Ok, ℤ}
 use Rattle.bg_base.specs.Spelling.{is_text}
 use Rattle.bg_syntax.specs.declared.tree.names.SynNumber.{SynNumber}
 use Rattle.bg_syntax.specs.declared.tree.names.SynNumber.TheVariants as numbers

@@ -1,11 +1,10 @@
-use Rattle.std.proofs.Common.{◌≡◌, ◌+◌, ◌<◌, ◌≤◌, ℕ, ℤ, pos, Bool, true, false, cond, leb, Option, Some, None, sym, ap, ◌∙◌, take, arith, w64}
+use Rattle.std.proofs.Common.{◌≡◌, ◌+◌, ◌<◌, ◌≤◌, ℕ, ℤ, pos, true, false, cond, leb, Option, Some, None, ap, ◌∙◌, take, arith, w64}
 use Rattle.std.proofs.lemmas.List.{take_all}
 use Rattle.std.proofs.lemmas.Int.{to_z_pos}
 use Rattle.std.specs.Str.Parse.{digits_value}
 use Rattle.std.proofs.lemmas.Int.Digits.{digits_value_more}
 use Rattle.std.proofs.lemmas.Str.Parse.{digits_value-take-le}
 use Rattle.bg_text.specs.Tokens.{greatest}
-use Rattle.bg_values.specs.Numbers.{small_value}
 use Rattle.bg_values.proofs.number.value_of.Goals as goal
 
 above : (n : ℕ) → greatest < n → false ≡ leb n greatest

@@ -1,4 +1,4 @@
-use Rattle.std.proofs.Common.{◌≡◌, ◌∷◌, [], Ok, ap, List}
+use Rattle.std.proofs.Common.{◌∷◌, [], Ok, ap, List}
 use Rattle.bg_values.specs.Outcome.{◌>>=◌}
 use Rattle.bg_values.specs.Operands.{Operand}
 use Rattle.bg_values.proofs.Gathering.{codes_more}

@@ -1,4 +1,4 @@
-use Rattle.std.proofs.Common.{◌≡◌, List, drop}
+use Rattle.std.proofs.Common.{List, drop}
 use Rattle.bg_values.specs.Operands.{Operand, AreCodesOf, operands_read, trees_of}
 use Rattle.bg_values.proofs.Gathering.{Gathered}
 use Rattle.bg_values.proofs.operands.add_operands.Given as goal

@@ -1,4 +1,4 @@
-use Rattle.std.proofs.Common.{rules, ◌≡◌, ◌∷◌, subst}
+use Rattle.std.proofs.Common.{rules, ◌∷◌, subst}
 use Rattle.bg_values.specs.Operands as definition
 use Rattle.bg_values.proofs.Gathering.{Evaluated, evaluated_more, evaluation_stops, evaluation_ends}
 use Rattle.bg_values.proofs.operands.numbers_of.Goals as goal

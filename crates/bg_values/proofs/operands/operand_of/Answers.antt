@@ -1,4 +1,4 @@
-use Rattle.std.proofs.Common.{◌≡◌, Ok, ap}
+use Rattle.std.proofs.Common.{Ok, ap}
 use Rattle.bg_values.specs.Outcome.{◌>>=◌}
 use Rattle.bg_values.specs.Reading.{x_read}
 use Rattle.bg_values.proofs.operands.operand_of.Goals as goal

@@ -1,4 +1,4 @@
-use Rattle.std.proofs.Common.{rules, ◌≡◌, ◌++◌, ◌∷◌, [], ap, map}
+use Rattle.std.proofs.Common.{rules, ◌++◌, [], ap, map}
 use Rattle.bg_values.specs.Operands.{AreCodesOf, shown, trees_of}
 use Rattle.bg_values.proofs.Gathering.{all_read, first_stops, others_stop}
 use Rattle.bg_values.proofs.operands.operands_of.Goals as goal

@@ -1,4 +1,4 @@
-use Rattle.std.proofs.Common.{rules, ◌≡◌, ◌∷◌, ap, subst}
+use Rattle.std.proofs.Common.{rules, ◌∷◌, ap, subst}
 use Rattle.bg_base.specs.declared.labels.Value.{Value}
 use Rattle.std.proofs.Common.{List, Result}
 use Rattle.bg_values.specs.Arithmetic.{value}

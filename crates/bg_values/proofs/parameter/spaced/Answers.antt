@@ -1,4 +1,4 @@
-use Rattle.std.proofs.Common.{◌≡◌, Some}
+use Rattle.std.proofs.Common.{Some}
 use Rattle.bg_values.specs.Parameters.{spaced}
 use Rattle.bg_values.proofs.Spaces.{turned, all_turned}
 use Rattle.bg_values.proofs.parameter.spaced.Goals as goal

@@ -1,4 +1,3 @@
-use Rattle.std.proofs.Common.{rules, ◌≡◌, map}
 use Rattle.bg_values.specs.Reading as definition
 use Rattle.bg_values.proofs.Partly.{one_more, along_from}
 use Rattle.bg_values.proofs.reading.+lowering.Goals as goal

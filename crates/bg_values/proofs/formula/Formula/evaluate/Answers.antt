@@ -1,5 +1,4 @@
-use Rattle.std.proofs.Common.{rules, ◌≡◌, subst}
-use Rattle.bg_values.specs.Outcome.{Gives}
+use Rattle.std.proofs.Common.{rules}
 use Rattle.bg_values.proofs.Runs.{when_stopped, when_run}
 use Rattle.bg_values.proofs.formula.Formula.evaluate.Goals as goal
 
