@@ -1,0 +1,5 @@
+mod Runs
+mod Words
+pub mod Partly
+pub mod Gathering
+pub mod Spaces

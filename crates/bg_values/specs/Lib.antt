@@ -1,0 +1,11 @@
+pub mod Stacks
+pub mod Outcome
+pub mod Arithmetic
+pub mod Machine
+pub mod Names
+pub mod Scopes
+pub mod Numbers
+pub mod Reading
+pub mod Lowering
+pub mod Operands
+pub mod Parameters

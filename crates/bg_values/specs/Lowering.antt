@@ -1,0 +1,22 @@
+-- The steps of a formula behind others.
+use Rattle.std.specs.Prelude.{◌≡◌, List, ◌++◌, Result, Ok, Err}
+use Rattle.bg_values.specs.declared.formula.Step.{Step}
+use Rattle.bg_values.specs.declared.formula.Formula.{Formula as Code}
+use Rattle.bg_values.specs.declared.refusal.Refusal.{Refusal}
+use Rattle.bg_values.specs.declared.refusal.Stop.{Stop}
+use Rattle.bg_values.specs.Arithmetic.{Formula}
+use Rattle.bg_values.specs.Machine.{code_of, IsCodeOf}
+use Rattle.bg_values.specs.Outcome.{◌>>=◌, Goes, Stops}
+
+-- the steps of the formula that is read, behind these
+abbrev pub lowered : List Step → Result Formula Refusal → Result (List Step) Refusal
+lowered base read = read >>= λ f. Ok (base ++ code_of f)
+
+-- behind the steps of a formula f come those that make the formula of it that an item says
+abbrev pub Extends : {X : Type 0} → Result X Stop → List Step → List Step → (Formula → Result Formula Refusal) → Type 0
+Extends result old new item = (base : List Step) (f : Formula) → old ≡ base ++ code_of f → Goes result new (lowered base (item f))
+
+-- a call gives the steps of the formula that is read, or stops
+abbrev pub Reads : Result Code Stop → Result Formula Refusal → Type 0
+Reads (Ok code) read = (f : Formula) × (read ≡ Ok f) × IsCodeOf f code
+Reads (Err stop) read = Stops stop read

@@ -1,0 +1,14 @@
+-- The number that some digits spell.
+use Rattle.std.specs.Prelude.{ℕ, ℤ, pos, nat_le, if◌then◌else◌, List, Option, Some, None}
+use Rattle.std.specs.List.{list_all}
+use Rattle.std.specs.Char.{is_ascii_digit}
+use Rattle.std.specs.Str.Parse.{digits_value}
+use Rattle.bg_text.specs.Tokens.{greatest}
+
+-- the number, where it is not above the greatest
+abbrev pub small_value : List ℕ → Option ℤ
+small_value digits = if nat_le (digits_value 10 digits) greatest then Some (pos (digits_value 10 digits)) else None
+
+-- the number that the bytes spell, where they are digits alone
+abbrev pub number_in : List ℕ → Option ℤ
+number_in bytes = if list_all is_ascii_digit bytes then small_value bytes else None

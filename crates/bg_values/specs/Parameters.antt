@@ -1,0 +1,102 @@
+-- The values of a parameter.
+use Rattle.std.specs.Prelude.{ℕ, zero, suc, ℤ, pos, negsuc, ◌+ℤ◌, int_lt, nat_lt, Bool, ◌||◌, if◌then◌else◌, List, [], ◌∷◌, map, length, Option, Some, None, Result, Ok}
+use Rattle.bg_base.specs.declared.labels.Value.{Value}
+use Rattle.bg_base.specs.declared.labels.Value.TheVariants.{Int, Words}
+use Rattle.bg_syntax.specs.declared.tree.arithmetic.SynX.{SynX}
+use Rattle.bg_syntax.specs.declared.tree.arithmetic.SynMoreXItem.{SynMoreXItem}
+use Rattle.bg_syntax.specs.declared.tree.statements.SynParam.{SynParam}
+use Rattle.bg_syntax.specs.declared.tree.statements.SynParam.TheVariants as params
+use Rattle.bg_syntax.specs.declared.tree.statements.SynIntSet.{SynIntSet}
+use Rattle.bg_syntax.specs.declared.tree.statements.SynIntSet.TheVariants as int_sets
+use Rattle.bg_syntax.specs.declared.tree.statements.SynTextSet.{SynTextSet}
+use Rattle.bg_syntax.specs.declared.tree.statements.SynTextSet.TheVariants as text_sets
+use Rattle.bg_syntax.specs.declared.tree.statements.SynMoreTextItem.{SynMoreTextItem}
+use Rattle.bg_values.specs.declared.refusal.LimitWord.TheVariants.{Values}
+use Rattle.bg_values.specs.declared.refusal.Refusal.{Refusal}
+use Rattle.bg_values.specs.declared.refusal.Cause.TheVariants.{TooLarge, EmptyRange}
+use Rattle.bg_values.specs.Arithmetic.{value, number_of}
+use Rattle.bg_values.specs.Operands.{Operand, operand_read, operands_read, trees, numbers}
+use Rattle.bg_values.specs.Outcome.{◌>>=◌, refused}
+use Rattle.bg_values.specs.Reading.{text_at}
+use Rattle.bg_values.specs.Scopes.{ScopeParts}
+
+-- a parameter, whose name is that token, has at most 4,096 values
+abbrev pub few : ℕ → List Value → Result (List Value) Refusal
+few name values = if nat_lt 4096 (length values) then refused (TooLarge Values) name else Ok values
+
+-- the numbers of a list
+abbrev pub listed : ScopeParts → ℕ → SynX → List SynMoreXItem → Result (List Value) Refusal
+listed scope name first more = operands_read scope (trees first more) >>= λ fs. numbers [] fs >>= few name
+
+-- the number, where it is one of 64 bits with sign
+abbrev pub small : ℤ → Option ℤ
+small z = if int_lt z (negsuc 9223372036854775807) || int_lt (pos 9223372036854775807) z then None else Some z
+
+abbrev pub not_above : ℤ → Option ℤ → Option ℤ
+not_above b (Some z) = if int_lt b z then None else Some z
+not_above b None = None
+
+-- the next number of a range, where it is one of 64 bits and not above the end
+abbrev pub next : ℤ → ℤ → ℤ → Option ℤ
+next s b a = not_above b (small (a +ℤ s))
+
+-- the numbers of a range from one on, but no more than so many
+unfoldable pub spaced : ℕ → ℤ → ℤ → Option ℤ → List Value
+spaced zero s b from = []
+spaced (suc most) s b None = []
+spaced (suc most) s b (Some a) = Int a ∷ spaced most s b (next s b a)
+
+-- the step is below 1, or the range begins behind its end
+abbrev pub is_empty : ℤ → ℤ → ℤ → Bool
+is_empty a s b = int_lt s (pos 1) || int_lt b a
+
+-- a, a + s, a + 2s and so on up to b; the bracket is that of the range
+abbrev pub range : ℕ → ℕ → ℤ → ℤ → ℤ → Result (List Value) Refusal
+range name bracket a s b =
+    if is_empty a s b then refused EmptyRange bracket else few name (spaced 4097 s b (Some a))
+
+-- a range from a on, of which these values were found: each is a number; an operand stands behind its first token
+abbrev pub numbered_range : ℕ → ℕ → ℤ → ℕ → Value → ℕ → Value → Result (List Value) Refusal
+numbered_range name bracket a second v third w =
+    number_of second v >>= λ s. number_of third w >>= λ b. range name bracket a s b
+
+abbrev pub evaluated_range : ℕ → ℕ → Operand → Operand → Operand → Result (List Value) Refusal
+evaluated_range name bracket f g h =
+    value [] f.1 >>= λ u. value [] g.1 >>= λ v. value [] h.1 >>= λ w.
+    number_of f.0 u >>= λ a. numbered_range name bracket a g.0 v h.0 w
+
+-- a range: its three parts, what they come to, then that each is a number
+abbrev pub ranged : ScopeParts → ℕ → ℕ → SynX → SynX → SynX → Result (List Value) Refusal
+ranged scope name bracket from step to =
+    operand_read scope from >>= λ f. operand_read scope step >>= λ g. operand_read scope to >>= λ h. evaluated_range name bracket f g h
+
+abbrev pub int_values : ScopeParts → ℕ → SynIntSet → Result (List Value) Refusal
+int_values scope name (int_sets.Way1 bracket first more end) = listed scope name first more.items
+int_values scope name (int_sets.Way2 bracket from colon step colon2 to end) = ranged scope name bracket from step to
+int_values scope name (int_sets.Way3 only) = listed scope name only []
+
+-- the texts of some tokens
+abbrev pub texts_at : ScopeParts → List ℕ → Result (List Value) Refusal
+texts_at scope [] = Ok []
+texts_at scope (token ∷ tokens) = text_at scope token >>= λ text. texts_at scope tokens >>= λ texts. Ok (Words text ∷ texts)
+
+-- the tokens of a list of texts
+abbrev pub tokens_of : List SynMoreTextItem → List ℕ
+tokens_of items = map (λ (item : SynMoreTextItem). item.part2) items
+
+abbrev pub few_texts : ScopeParts → ℕ → ℕ → List ℕ → Result (List Value) Refusal
+few_texts scope name first more = texts_at scope (first ∷ more) >>= few name
+
+abbrev pub text_values : ScopeParts → ℕ → SynTextSet → Result (List Value) Refusal
+text_values scope name (text_sets.Way1 bracket first more end) = few_texts scope name first (tokens_of more.items)
+text_values scope name (text_sets.Way2 only) = texts_at scope (only ∷ [])
+
+-- the name of a parameter
+abbrev pub name_token : SynParam → ℕ
+name_token (params.Way1 word name equals set end) = name
+name_token (params.Way2 word name equals set end) = name
+
+-- the values of a parameter, repeats kept
+abbrev pub parameter_values : ScopeParts → SynParam → Result (List Value) Refusal
+parameter_values scope (params.Way1 word name equals set end) = int_values scope name set
+parameter_values scope (params.Way2 word name equals set end) = text_values scope name set

@@ -1,0 +1,30 @@
+//! Values of the model language: what the arguments of controls and references, and the values of parameters, come to.
+//!
+//! - [`Scope`]: the text of a model, its tokens, and the names that are visible; [`NameTable`]: names in the order of
+//!   their definitions.
+//! - [`formula_of`]: the formula that a tree of arithmetic is, its names numbered; [`Formula::evaluate`]: what it comes to.
+//! - [`Stop`]: why there is no value: a [`Refusal`] with its [`Cause`] and its token, or want of memory.
+#![tactic(auto)]
+
+mod arithmetic;
+mod formula;
+mod names;
+mod number;
+mod operands;
+mod parameter;
+mod reading;
+mod refusal;
+mod scope;
+mod stack;
+
+pub use formula::{Formula, Operator, Step};
+pub use names::NameTable;
+pub use operands::{Operand, numbers_of, operand_of, operands_of, values_of};
+pub use parameter::{parameter_name, parameter_values};
+pub use reading::{formula_of, number_at, number_token, text_at};
+pub use refusal::{Cause, LimitWord, Refusal, Stop};
+pub use scope::Scope;
+pub use stack::Stack;
+
+#[cfg(test)]
+mod tests;

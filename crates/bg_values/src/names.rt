@@ -1,0 +1,69 @@
+//! Tables of names.
+ghost use Rattle.std.specs.Prelude.{◌≡◌, ◌++◌, ◌∷◌, [], IfOk, OnErr, MatchBool, is_none};
+ghost use Rattle.bg_values.specs.Names as definition;
+
+use bg_lists::{Mem, OutOfMemory};
+use indexmap::IndexMap;
+use std::alloc::Global;
+use std::marker::Model;
+
+/// Names, each once, with what they stand for, in the order of their definitions.
+/// A contract sees the list of the names' bytes with what they stand for.
+#[derive(Drop)]
+pub struct NameTable<T> {
+    entries: IndexMap<Vec<u8>, T>,
+}
+
+impl<T> Model for NameTable<T> {
+    ghost use Rattle.std.specs.Prelude.{List, map, length, ◌<◌, ◌-◌, ◌^◌};
+    ghost use Rattle.bg_values.specs.Names.{Entry};
+
+    ghost Value = { List (Entry T) };
+
+    ghost view = { λ table. map (λ e. (e.0.items, e.1)) table.entries.entries };
+
+    ghost invariant = { λ table. length table.entries.entries < 2 ^ 32 - 1 };
+}
+
+impl<T: Drop> NameTable<T> {
+    /// A table without names. Takes no memory.
+    pub fn new(alloc: Global) -> NameTable<T>
+        ensures { result ≡ [] }
+    {
+        NameTable {
+            entries: IndexMap::new(alloc),
+        }
+    }
+
+    /// The number of the name, counted from 0. Takes as long as the name has bytes, on average.
+    pub fn find(&self, word: &[u8]) -> Option<u32>
+        ensures { result ≡ definition.number_of word.now self.now }
+    {
+        match self.entries.get_index_of(word) {
+            Some(number) => Some(number as u32),
+            None => None,
+        }
+    }
+
+    /// Adds a name that stands for `value`, where it is not there yet; says whether it was added.
+    pub fn add(&mut self, alloc: Global, word: &[u8], value: T) -> Mem<bool>
+        ensures added { IfOk result (λ new. MatchBool new
+            (self.new ≡ self.old ++ (word.now, value) ∷ [])
+            (self.new ≡ self.old)) }
+        ensures there { IfOk result (λ new. new ≡ is_none (definition.number_of word.now self.old)) }
+        ensures unchanged { OnErr result (self.new ≡ self.old) }
+    {
+        match self.entries.get_index_of(word) {
+            Some(_) => return Ok(false),
+            None => {}
+        }
+        if self.entries.len() >= 4_294_967_294 {
+            return Err(OutOfMemory);
+        }
+        let key = Vec::from_slice(alloc, word)?;
+        match self.entries.insert(key, value) {
+            Ok(_) => Ok(true),
+            Err(_) => Err(OutOfMemory),
+        }
+    }
+}

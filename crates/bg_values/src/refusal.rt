@@ -1,0 +1,125 @@
+//! Why a model is refused while its values are found.
+ghost use Rattle.std.specs.Prelude.{◌≡◌};
+
+use bg_lists::OutOfMemory;
+use std::alloc::{AllocError, AllocFailed};
+use thiserror::Error;
+
+/// The limits of the profile.
+#[derive(Clone, Copy, Debug, PartialEq, Eq)]
+pub enum LimitWord {
+    Arity,
+    Controls,
+    Values,
+    Nodes,
+    Edges,
+    Places,
+    Terms,
+    Depth,
+    Rules,
+    Preds,
+}
+
+/// Why a model is refused.
+#[derive(Clone, Copy, Debug, PartialEq, Eq)]
+pub enum Cause {
+    /// A composition of bigraphs whose faces differ.
+    FacesDiffer,
+    /// A tensor product of bigraphs with a name in common.
+    NamesMeet,
+    /// A product of bigraphs with an inner name in common.
+    InnerNamesMeet,
+    /// A nesting of bigraphs whose widths differ.
+    WidthsDiffer,
+    /// A nesting in a bigraph with inner names.
+    HasInnerNames,
+    /// A token that cannot stand there.
+    Unexpected,
+    /// No visible definition.
+    UnknownName,
+    /// A name defined twice in one space, or a formal twice.
+    DuplicateName,
+    /// The number of names is not the arity.
+    WrongPorts,
+    /// An atom written on the left of a dot.
+    AtomicHasChild,
+    /// The number of arguments is not the number of formals.
+    WrongArguments,
+    /// A site or an inner name in the first bigraph.
+    NotGround,
+    /// Sides of a rule that differ.
+    SidesDiffer,
+    /// A map of a rule that does not fit.
+    BadMap,
+    /// A pattern of which that clause fails.
+    NotSolid(u8),
+    /// A number out of range.
+    NumberOverflow,
+    /// A division by zero.
+    ZeroDivisor,
+    /// More than that limit allows.
+    TooLarge(LimitWord),
+    /// No block.
+    NoBlock,
+    /// A range without values.
+    EmptyRange,
+    /// A text where a number is needed.
+    WrongKind,
+}
+
+/// A refusal: why, and at which token, counted from 0; the number of tokens stands for the end of input.
+#[derive(Clone, Copy, Debug, PartialEq, Eq)]
+pub struct Refusal {
+    pub cause: Cause,
+    pub token: u32,
+}
+
+/// Why a call gives no value.
+#[derive(Clone, Copy, Debug, PartialEq, Eq, Error)]
+pub enum Stop {
+    /// The model is refused.
+    #[error("the model is refused")]
+    Refused(Refusal),
+    /// There was no memory.
+    #[error("out of memory")]
+    OutOfMemory,
+}
+
+impl Stop {
+    /// The refusal with that cause, at that token.
+    pub fn refuse(cause: Cause, token: u32) -> Stop
+        ensures { result ≡ Stop.Refused (record { cause = cause; token = token }) }
+    {
+        Stop::Refused(Refusal { cause, token })
+    }
+}
+
+impl From<OutOfMemory> for Stop {
+    ghost use Rattle.bg_values.specs.declared.refusal.Stop.TheVariants.{OutOfMemory};
+
+    ghost from_gives = { λ _ stop. stop ≡ OutOfMemory };
+
+    fn from(_: OutOfMemory) -> Stop {
+        Stop::OutOfMemory
+    }
+}
+
+impl From<AllocError> for Stop {
+    ghost use Rattle.bg_values.specs.declared.refusal.Stop.TheVariants.{OutOfMemory};
+
+    ghost from_gives = { λ _ stop. stop ≡ OutOfMemory };
+
+    fn from(_: AllocError) -> Stop {
+        Stop::OutOfMemory
+    }
+}
+
+impl<T: Drop> From<AllocFailed<T>> for Stop {
+    ghost use Rattle.bg_values.specs.declared.refusal.Stop.TheVariants.{OutOfMemory};
+
+    ghost from_gives = { λ _ stop. stop ≡ OutOfMemory };
+
+    fn from(_: AllocFailed<T>) -> Stop {
+        Stop::OutOfMemory
+    }
+}

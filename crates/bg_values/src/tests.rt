@@ -1,0 +1,154 @@
+use super::*;
+use bg_base::Value;
+use bg_syntax::parse;
+use bg_syntax::tree::statements::{SynParam, SynStmt};
+use bg_text::tokens;
+use std::alloc::Global;
+use std::test::*;
+
+/// What a parameter comes to.
+#[derive(Clone, Copy, Debug, PartialEq, Eq)]
+enum Outcome {
+    /// So many values, the first and the last of which are these numbers; 0 for a text.
+    Values(usize, i64, i64),
+    /// The cause, and the token.
+    Refused(Cause, u32),
+    NoMemory,
+    NoParameter,
+}
+
+/// The number that a value is, 0 for a text.
+fn number_or_zero(value: Option<&Value>) -> i64 {
+    match value {
+        Some(Value::Int(number)) => *number,
+        _ => 0,
+    }
+}
+
+fn outcome_of(alloc: Global, scope: &Scope, parameter: &SynParam) -> Outcome {
+    match parameter_values(alloc, scope, parameter) {
+        Ok(values) => Outcome::Values(
+            values.len(),
+            number_or_zero(values.first()),
+            number_or_zero(values.last()),
+        ),
+        Err(Stop::Refused(refusal)) => Outcome::Refused(refusal.cause, refusal.token),
+        Err(Stop::OutOfMemory) => Outcome::NoMemory,
+    }
+}
+
+/// What the first statement of the text comes to, a parameter.
+fn read_parameter(alloc: Global, text: &str) -> Outcome {
+    if text.len() > 10_000 {
+        return Outcome::NoParameter;
+    }
+    let Ok(tokens) = tokens(alloc, text.as_bytes()) else {
+        return Outcome::NoParameter;
+    };
+    if tokens.len() > 10_000 {
+        return Outcome::NoParameter;
+    }
+    let Ok(tree) = parse(alloc, &tokens) else {
+        return Outcome::NoParameter;
+    };
+    let names = NameTable::new(alloc);
+    let scope = Scope {
+        bytes: text.as_bytes(),
+        tokens: tokens.as_slice(),
+        names: &names,
+    };
+    match tree.part1.first() {
+        Some(item) => match &item.part1 {
+            SynStmt::Way6(parameter) => outcome_of(alloc, &scope, parameter),
+            _ => Outcome::NoParameter,
+        },
+        None => Outcome::NoParameter,
+    }
+}
+
+/// Parameters with values: how many, the first and the last.
+const VALUES: [(&str, usize, i64, i64); 12] = [
+    ("int n = 1 + 2 * 3 - 4;", 1, 3, 3),
+    ("int n = -7 / 2;", 1, -3, -3),
+    ("int n = 7 / -2;", 1, -3, -3),
+    ("int n = -(3 - 5) * -2;", 1, -4, -4),
+    (
+        "int n = 9223372036854775807;",
+        1,
+        9223372036854775807,
+        9223372036854775807,
+    ),
+    (
+        "int n = -9223372036854775807 - 1;",
+        1,
+        -9223372036854775808,
+        -9223372036854775808,
+    ),
+    ("int n = {3, 1, 2, 1};", 4, 3, 1),
+    ("int n = [0:3:10];", 4, 0, 9),
+    ("int n = [1:1:4096];", 4096, 1, 4096),
+    (
+        "int n = [9223372036854775806:2:9223372036854775807];",
+        1,
+        9223372036854775806,
+        9223372036854775806,
+    ),
+    (
+        "int n = [-9223372036854775807:9223372036854775807:9223372036854775807];",
+        3,
+        -9223372036854775807,
+        9223372036854775807,
+    ),
+    ("string s = {\"a\", \"\", \"a\"};", 3, 0, 0),
+];
+
+/// Parameters that are refused: the cause and the token.
+const REFUSED: [(&str, Cause, u32); 15] = [
+    ("int n = 9223372036854775807 + 1;", Cause::NumberOverflow, 4),
+    (
+        "int n = -(-9223372036854775807 - 1);",
+        Cause::NumberOverflow,
+        3,
+    ),
+    (
+        "int n = (-9223372036854775807 - 1) / -1;",
+        Cause::NumberOverflow,
+        9,
+    ),
+    ("int n = 1 / 0;", Cause::ZeroDivisor, 4),
+    ("int n = \"a\" + 1 / 0;", Cause::ZeroDivisor, 6),
+    ("int n = \"a\" / 0;", Cause::WrongKind, 3),
+    ("int n = 1 - (\"a\");", Cause::WrongKind, 5),
+    ("int n = \"a\";", Cause::WrongKind, 3),
+    ("int n = {1, \"a\", 1 / 0};", Cause::WrongKind, 6),
+    ("int n = {1 / 0, m};", Cause::UnknownName, 8),
+    ("int n = [3:1:2];", Cause::EmptyRange, 3),
+    ("int n = [1:0:2];", Cause::EmptyRange, 3),
+    ("int n = [1:\"a\":1 / 0];", Cause::ZeroDivisor, 9),
+    ("int n = [1:1:4097];", Cause::TooLarge(LimitWord::Values), 1),
+    (
+        "int n = [-9223372036854775807:1:9223372036854775807];",
+        Cause::TooLarge(LimitWord::Values),
+        1,
+    ),
+];
+
+#[test]
+fn finds_the_values_of_parameters(rt: HostRuntime) {
+    for (text, count, first, last) in VALUES {
+        assert!(rt;
+            read_parameter(rt.alloc(), text) == Outcome::Values(count, first, last),
+            "{text}"
+        );
+    }
+}
+
+#[test]
+fn refuses_a_parameter_with_its_first_cause(rt: HostRuntime) {
+    for (text, cause, token) in REFUSED {
+        assert!(rt;
+            read_parameter(rt.alloc(), text) == Outcome::Refused(cause, token),
+            "{text}"
+        );
+    }
+}
