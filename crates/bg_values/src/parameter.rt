@@ -18,8 +18,10 @@ use std::alloc::Global;
 /// A parameter has at most so many values.
 const MOST_VALUES: usize = 4096;
 
-/// The values of a parameter, repeats kept; a range is counted before a value of it is made. The names of `scope` are
-/// not visible in them, so it has none. Linear in the tree and the values.
+/// The values of a parameter, in order, repeats kept: those of a list, or the numbers of a range, or one value. Refuses with
+/// the first cause: a name, since none is visible in them (`scope` has none); what arithmetic refuses; a text where a number
+/// is needed; a range without values; more than 4,096 values, of a range after 4,097 of them. Linear in the tree and the
+/// values.
 pub fn parameter_values(alloc: Global, scope: &Scope, tree: &SynParam) -> Result<Vec<Value>, Stop>
     ensures { operands.GivesList result (definition.parameter_values scope.now tree.now) }
 {
