@@ -7,18 +7,18 @@ use Rattle.std.proofs.Math.Seq.{take-add, take-append-add}
 use Rattle.std.proofs.lemmas.List.{take-take, take-append-le, length-take-le}
 use borrow.Rule.Slice.PartMut.{put_mid}
 
--- the front of a buffer is what the source has given so far; the counts have not gone astray
+-- the front of a buffer is what the source has given so far; no read failed, and each is counted
 pub record HasFilled (count : ℕ) (buf : List ℕ) (left_before left_now : Option (List ℕ)) (faults_before faults_now reads_before reads_now : ℕ) : Type 0 where
   pub within : count ≤ length buf
   pub given : Consumes left_before left_now (take count buf)
-  pub later : faults_before ≤ faults_now
+  pub same : faults_now ≡ faults_before
   pub reads : reads_now ≤ reads_before + count
 
 -- the front of the bytes is what the sink was given so far
 pub record HasSent (count : ℕ) (bytes : List ℕ) (held_before held_now : Option (List ℕ)) (faults_before faults_now : ℕ) : Type 0 where
   pub within : count ≤ length bytes
   pub sent : Appends held_before held_now (take count bytes)
-  pub later : faults_before ≤ faults_now
+  pub same : faults_now ≡ faults_before
 
 take-put_mid-add : (i n k : ℕ) (xs ys : List ℕ) → i ≤ length xs → n ≤ length ys
     → take (i + n) (put_mid i k xs ys) ≡ take i xs ++ take n ys

@@ -70,9 +70,6 @@ impl Source for MemorySource {
 
         // the counts, and what stays
         ensures count { reads_made self.new ≡ next_count (reads_made self.old) }
-        ensures faults { MatchResult result
-            (λ _. failed_reads self.new ≡ failed_reads self.old)
-            (λ _. failed_reads self.new ≡ next_count (failed_reads self.old)) }
         ensures same_most { most_bytes self.new ≡ most_bytes self.old }
         ensures same_failing { failing_reads self.new ≡ failing_reads self.old }
     {

@@ -19,7 +19,7 @@ pub trait Sink {
 
     /// Appends the first bytes of `piece`, at least one where there is one, and answers how many.
     ///
-    /// `Failed` comes only where the count of faults rises. At a fault what was held stays as it was.
+    /// The count of faults goes on by one exactly where `Failed` comes. At a fault what was held stays as it was.
     fn write(&mut self, piece: &[u8]) -> Result<usize, SinkFault>
         ensures bound { WritesAtMost result piece.now }
         ensures moves { IfOk result (λ n. 0 < length piece.now → 0 < n) }
@@ -28,7 +28,7 @@ pub trait Sink {
 
     /// Passes on all that is held; what is held stays as it was.
     ///
-    /// `Failed` comes only where the count of faults rises.
+    /// The count of faults goes on by one exactly where `Failed` comes.
     fn flush(&mut self) -> Result<(), SinkFault>
         ensures bytes { Keeps (held self.old) (held self.new) }
         ensures flushed { OnOk result (is_flushed self.new) }

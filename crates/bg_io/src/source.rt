@@ -19,8 +19,8 @@ pub trait Source {
 
     /// Moves the next bytes into the front of `buf`, and answers how many.
     ///
-    /// For a `buf` that is not empty, 0 comes exactly where nothing is left. A read fails only where the
-    /// count of faults rises, and then all that was left is still left.
+    /// For a `buf` that is not empty, 0 comes exactly where nothing is left. The count of faults goes on by one
+    /// exactly where a read fails, and then all that was left is still left.
     fn read(&mut self, buf: &mut [u8]) -> Result<usize, Failed>
         ensures bound { ReadsAtMost result buf.new }
         ensures bytes { ReadConsumes (left self.old) (left self.new) result buf.new }

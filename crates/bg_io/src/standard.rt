@@ -6,6 +6,7 @@ ghost use Rattle.bg_io.specs.Faults.{HasCause, HasSinkCause, next_count};
 use crate::fault::{Failed, SinkFault};
 use crate::sink::Sink;
 use crate::source::Source;
+use std::io;
 use std::io::{Read, Write};
 
 /// A source over a reader of std, as the standard input. It tells what is left where the reader does.
@@ -19,7 +20,8 @@ pub struct StdSource<R> {
 }
 
 impl<R: Read> StdSource<R> {
-    ghost use Rattle.std.specs.Prelude.{◌≡◌};
+    ghost use Rattle.std.specs.Prelude.{◌≡◌, Ok, IfOk, OnErr, IsErr};
+    ghost use Rattle.bg_io.specs.Faults.{HasCause};
     ghost use Rattle.bg_io.specs.Standard.{reader_of, reads_made, failed_reads};
 
     /// A source that was not read yet.
@@ -32,6 +34,23 @@ impl<R: Read> StdSource<R> {
             reader,
             calls: 0,
             faults: 0,
+        }
+    }
+
+    /// What a read of the reader came to: how many bytes, or a failure, which is counted.
+    fn told(&mut self, read: io::Result<usize>) -> Result<usize, Failed>
+        ensures given { IfOk read (λ n. result ≡ Ok n) }
+        ensures failed { OnErr read (IsErr result) }
+        ensures cause { HasCause (failed_reads self.old) (failed_reads self.new) result }
+        ensures same_reader { reader_of self.new ≡ reader_of self.old }
+        ensures same_reads { reads_made self.new ≡ reads_made self.old }
+    {
+        match read {
+            Ok(count) => Ok(count),
+            Err(_) => {
+                self.faults = self.faults.saturating_add(1);
+                Err(Failed)
+            }
         }
     }
 }
@@ -51,18 +70,10 @@ impl<R: Read> Source for StdSource<R> {
         ensures bytes { ReadConsumes (R.remaining (reader_of self.old)) (R.remaining (reader_of self.new)) result buf.new }
         ensures cause { HasCause (failed_reads self.old) (failed_reads self.new) result }
         ensures count { reads_made self.new ≡ next_count (reads_made self.old) }
-        ensures faults { MatchResult result
-            (λ _. failed_reads self.new ≡ failed_reads self.old)
-            (λ _. failed_reads self.new ≡ next_count (failed_reads self.old)) }
     {
         self.calls = self.calls.saturating_add(1);
-        match self.reader.read(buf) {
-            Ok(count) => Ok(count),
-            Err(_) => {
-                self.faults = self.faults.saturating_add(1);
-                Err(Failed)
-            }
-        }
+        let read = self.reader.read(buf);
+        self.told(read)
     }
 }
 
@@ -77,7 +88,8 @@ pub struct StdSink<W> {
 }
 
 impl<W: Write> StdSink<W> {
-    ghost use Rattle.std.specs.Prelude.{◌≡◌};
+    ghost use Rattle.std.specs.Prelude.{◌≡◌, ◌<◌, Ok, Err, IfOk, OnErr, IsTrue, IsFalse};
+    ghost use Rattle.bg_io.specs.Faults.{HasSinkCause, next_count};
     ghost use Rattle.bg_io.specs.Standard.{writer_of, failed_writes};
 
     /// A sink that has not failed yet.
@@ -86,6 +98,32 @@ impl<W: Write> StdSink<W> {
         ensures faults { failed_writes result ≡ 0 }
     {
         StdSink { writer, faults: 0 }
+    }
+
+    /// What a write to the writer came to: how many bytes, or a failure, which is counted. Nothing taken is a failure,
+    /// unless there was nothing to take.
+    fn told(&mut self, written: io::Result<usize>, is_nothing: bool) -> Result<usize, SinkFault>
+        ensures taken { IfOk written (λ n. 0 < n → result ≡ Ok n) }
+        ensures nothing { IfOk written (λ n. IsTrue is_nothing → result ≡ Ok n) }
+        ensures none { IfOk written (λ n. IsFalse is_nothing → n ≡ 0 → result ≡ Err SinkFault.Failed) }
+        ensures failed { OnErr written (result ≡ Err SinkFault.Failed) }
+        ensures cause { HasSinkCause (failed_writes self.old) (failed_writes self.new) result }
+        ensures same_writer { writer_of self.new ≡ writer_of self.old }
+    {
+        match written {
+            Ok(count) if count > 0 || is_nothing => Ok(count),
+            _ => Err(self.fail()),
+        }
+    }
+
+    /// Counts a failure.
+    fn fail(&mut self) -> SinkFault
+        ensures fault { result ≡ SinkFault.Failed }
+        ensures counted { failed_writes self.new ≡ next_count (failed_writes self.old) }
+        ensures same_writer { writer_of self.new ≡ writer_of self.old }
+    {
+        self.faults = self.faults.saturating_add(1);
+        SinkFault::Failed
     }
 }
 
@@ -104,17 +142,9 @@ impl<W: Write> Sink for StdSink<W> {
         ensures moves { IfOk result (λ n. 0 < length piece.now → 0 < n) }
         ensures bytes { WriteAppends (W.contents (writer_of self.old)) (W.contents (writer_of self.new)) result piece.now }
         ensures cause { HasSinkCause (failed_writes self.old) (failed_writes self.new) result }
-        ensures faults { MatchResult result
-            (λ _. failed_writes self.new ≡ failed_writes self.old)
-            (λ _. failed_writes self.new ≡ next_count (failed_writes self.old)) }
     {
-        match self.writer.write(piece) {
-            Ok(count) if count > 0 || piece.is_empty() => Ok(count),
-            _ => {
-                self.faults = self.faults.saturating_add(1);
-                Err(SinkFault::Failed)
-            }
-        }
+        let written = self.writer.write(piece);
+        self.told(written, piece.is_empty())
     }
 
     /// Flushes the writer; a flush that fails is counted.
@@ -122,16 +152,10 @@ impl<W: Write> Sink for StdSink<W> {
         ensures bytes { Keeps (W.contents (writer_of self.old)) (W.contents (writer_of self.new)) }
         ensures flushed { OnOk result (Unit {0}) }
         ensures cause { HasSinkCause (failed_writes self.old) (failed_writes self.new) result }
-        ensures faults { MatchResult result
-            (λ _. failed_writes self.new ≡ failed_writes self.old)
-            (λ _. failed_writes self.new ≡ next_count (failed_writes self.old)) }
     {
         match self.writer.flush() {
             Ok(()) => Ok(()),
-            Err(_) => {
-                self.faults = self.faults.saturating_add(1);
-                Err(SinkFault::Failed)
-            }
+            Err(_) => Err(self.fail()),
         }
     }
 }

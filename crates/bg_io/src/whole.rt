@@ -30,12 +30,12 @@ pub fn read_all<S: Source>(
     ensures too_long { IsErrOf result ReadAllFault.TooLong →
         ConsumesExactly (S.left source.old) (S.left source.new) (limit + 1) }
     ensures read_fault { IsErrOf result ReadAllFault.ReadFault → Rose (S.faults source.old) (S.faults source.new) }
+    ensures no_fault { ¬ IsErrOf result ReadAllFault.ReadFault → S.faults source.new ≡ S.faults source.old }
     ensures fault_within { IsErrOf result ReadAllFault.ReadFault →
         ConsumesAtMost (S.left source.old) (S.left source.new) limit }
     ensures memory_first { IsErrOf result ReadAllFault.OutOfMemory → source.new ≡ source.old }
 
-    // the counts
-    ensures later { S.faults source.old ≤ S.faults source.new }
+    // the reads
     ensures reads { S.reads source.new ≤ S.reads source.old + limit + 1 }
 {
     let room = limit as usize + 1;

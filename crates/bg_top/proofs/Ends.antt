@@ -13,7 +13,7 @@ use Rattle.bg_top.specs.declared.command.Command.{Command}
 use Rattle.bg_top.specs.declared.command.Command.TheVariants.{Compose, Check}
 use Rattle.bg_top.specs.declared.refusal.Refusal.{Refusal}
 use Rattle.bg_top.specs.declared.reply.Status.TheVariants.{Refused}
-use Rattle.bg_top.specs.declared.top.TheConstants.{READ_FAILURE, WRITE_FAILURE, NO_MEMORY}
+use Rattle.bg_top.specs.Numbers.{failed_read, failed_write, out_of_memory}
 use Rattle.bg_top.proofs.Texts.{fault_is_no_model}
 use Rattle.bg_top.proofs.Law.{composition_of, composed_of}
 
@@ -88,10 +88,10 @@ written_from most (Some command) left status reads writes flushed old new ended 
     (judged most command input some.0 some.1.2)
 
 -- the call was stopped, or was not
-stops : (status : ℕ) → IsStopped status ⊎ ((status ≢ READ_FAILURE) × (status ≢ WRITE_FAILURE) × (status ≢ NO_MEMORY))
+stops : (status : ℕ) → IsStopped status ⊎ ((status ≢ failed_read) × (status ≢ failed_write) × (status ≢ out_of_memory))
 stops status =
     ⊎_elim (λ a. inl (inl a.1)) (λ a. ⊎_elim (λ b. inl (inr (inl b.1))) (λ b. ⊎_elim (λ d. inl (inr (inr d.1))) (λ d. inr (a.1, b.1, d.1))
-    (eqb_tells status NO_MEMORY)) (eqb_tells status WRITE_FAILURE)) (eqb_tells status READ_FAILURE)
+    (eqb_tells status out_of_memory)) (eqb_tells status failed_write)) (eqb_tells status failed_read)
 
 abbrev IsFewRefused : ℕ → Command → List ℕ → Type 0
 IsFewRefused most command input = (length input ≤ most) × IsRefused command input
@@ -139,7 +139,7 @@ refused_from most asked (Some input) status reads writes flushed old new ended =
 
 pub complete_from : (most : ℕ) (asked : Option Command) (left : Option (List ℕ)) (status : ℕ) (reads writes flushed : Type 0) (old new : Option (List ℕ))
     → Ended (IsRight most asked left) status reads writes flushed old new → IsAccepted most asked left → ¬ reads → ¬ writes
-    → (status ≡ 0) ⊎ (status ≡ NO_MEMORY)
+    → (status ≡ 0) ⊎ (status ≡ out_of_memory)
 complete_from most None left status reads writes flushed old new ended accepted no_read no_write = absurd accepted
 complete_from most (Some command) None status reads writes flushed old new ended accepted no_read no_write = absurd accepted
 complete_from most (Some command) (Some input) status reads writes flushed old new ended accepted no_read no_write =
@@ -153,4 +153,4 @@ complete_from most (Some command) (Some input) status reads writes flushed old n
     (λ turned. absurd (turned.refused here.1))
     short.verdict)
     (judged most command some.1.0 some.0 some.1.2))
-    (eqb_tells status NO_MEMORY)
+    (eqb_tells status out_of_memory)

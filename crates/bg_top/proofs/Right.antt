@@ -12,7 +12,7 @@ use Rattle.bg_top.specs.declared.command.Command.{Command}
 pub ended_under : (right wider : Answer → Type 0) (status : ℕ) (reads fails writes flushed : Type 0) (old new : Option (List ℕ))
     → ((answer : Answer) → right answer → wider answer) → (reads → fails)
     → Ended right status reads writes flushed old new → Ended wider status fails writes flushed old new
-ended_under right wider status reads fails writes old new widen failed ended =
+ended_under right wider status reads fails writes flushed old new widen failed ended =
     record {
       read_failure = λ is. let was = ended.read_failure is in (failed was.0, was.1);
       write_failure = λ is. let was = ended.write_failure is in (was.0, widened was.1);
@@ -47,5 +47,5 @@ right_too_long most asked command left after is given =
 -- a call that wrote a right answer, or failed in writing it
 pub ended_with : (right : Answer → Type 0) (answer : Answer) (status : ℕ) (fails writes flushed : Type 0) (old new : Option (List ℕ))
     → right answer → Ended (λ a. a ≡ answer) status ⊥ writes flushed old new → Ended right status fails writes flushed old new
-ended_with right answer status fails writes old new holds ended =
+ended_with right answer status fails writes flushed old new holds ended =
     ended_under (λ a. a ≡ answer) right status ⊥ fails writes flushed old new (λ a is. subst right (sym is) holds) (λ never. absurd never) ended

@@ -5,7 +5,7 @@ use Rattle.std.specs.Io.KnownBytes.{Appends, Keeps}
 use Rattle.bg_io.specs.Transfers.{AppendsPrefix}
 use Rattle.bg_top.specs.Answer.{Answer, number}
 use Rattle.bg_top.specs.declared.reply.Status.{Status}
-use Rattle.bg_top.specs.declared.top.TheConstants.{READ_FAILURE, WRITE_FAILURE, NO_MEMORY}
+use Rattle.bg_top.specs.Numbers.{failed_read, failed_write, out_of_memory}
 
 -- some right answer of which P holds
 abbrev pub SomeAnswer : (Answer → Type 0) → (Answer → Type 0) → Type 0
@@ -14,16 +14,16 @@ SomeAnswer right P = (answer : Answer) × right answer × P answer
 -- a call ended with this status; what the sink holds went from old to new; `flushed` says that the sink has passed it on
 pub record Ended (right : Answer → Type 0) (status : ℕ) (read_failed write_failed flushed : Type 0) (old new : Option (List ℕ)) : Type 0 where
   -- after a failed read nothing is written
-  pub read_failure : status ≡ READ_FAILURE → read_failed × Keeps old new
+  pub read_failure : status ≡ failed_read → read_failed × Keeps old new
   -- after a failed write the start of a right text is written
-  pub write_failure : status ≡ WRITE_FAILURE → write_failed × SomeAnswer right (λ answer. AppendsPrefix old new answer.text)
+  pub write_failure : status ≡ failed_write → write_failed × SomeAnswer right (λ answer. AppendsPrefix old new answer.text)
   -- for want of memory nothing is written, or the start of a right text
-  pub no_memory : status ≡ NO_MEMORY → Keeps old new ⊎ SomeAnswer right (λ answer. AppendsPrefix old new answer.text)
+  pub no_memory : status ≡ out_of_memory → Keeps old new ⊎ SomeAnswer right (λ answer. AppendsPrefix old new answer.text)
   -- any other status is that of a right answer, whose text is written whole
-  pub answered : status ≢ READ_FAILURE → status ≢ WRITE_FAILURE → status ≢ NO_MEMORY
+  pub answered : status ≢ failed_read → status ≢ failed_write → status ≢ out_of_memory
       → SomeAnswer right (λ answer. (status ≡ number answer.status) × Appends old new answer.text)
   -- and the sink has passed it on
-  pub passed_on : status ≢ READ_FAILURE → status ≢ WRITE_FAILURE → status ≢ NO_MEMORY → flushed
+  pub passed_on : status ≢ failed_read → status ≢ failed_write → status ≢ out_of_memory → flushed
 
 -- some text of which P holds was written whole
 abbrev pub Writes : (List ℕ → Type 0) → Option (List ℕ) → Option (List ℕ) → Type 0
@@ -31,7 +31,7 @@ Writes P old new = (text : List ℕ) × P text × Appends old new text
 
 -- a read or a write failed, or there was no memory
 abbrev pub IsStopped : ℕ → Type 0
-IsStopped result = (result ≡ READ_FAILURE) ⊎ (result ≡ WRITE_FAILURE) ⊎ (result ≡ NO_MEMORY)
+IsStopped result = (result ≡ failed_read) ⊎ (result ≡ failed_write) ⊎ (result ≡ out_of_memory)
 
 -- the result is that of the status exactly where P holds, but for calls that were stopped
 pub record ComesWhere (result : ℕ) (status : Status) (P : Type 0) : Type 0 where

@@ -6,3 +6,4 @@ pub mod Failure
 pub mod Refusal
 pub mod Right
 pub mod Words
+pub mod Numbers

@@ -1,6 +1,7 @@
 ghost use Rattle.std.specs.Prelude.{◌≡◌, ◌≢◌, ◌≤◌, ◌<◌, ◌+◌, ◌⊎◌, None, length, IfOk, IfSome, IsErrOf};
 ghost use Rattle.std.specs.Option.{IsSomeAnd};
 ghost use Rattle.bg_io.specs.Faults.{Rose};
+ghost use Rattle.bg_top.specs.Numbers.{failed_read, failed_write, out_of_memory, most_bytes};
 ghost use Rattle.bg_top.specs.Words.{asked};
 ghost use Rattle.bg_top.specs.Answer.{number, answer_of};
 ghost use Rattle.bg_top.specs.Right.{IsReply, IsRight, Answers, IsRefused, IsAccepted};
@@ -36,8 +37,8 @@ pub const NO_MEMORY: u8 = 5;
 /// | 0 | the command's text | all else |
 /// | 1 | a line `refused ..` | exactly where the input is refused |
 /// | 2 | `words` | exactly where the words are refused; the source is not read |
-/// | 3 | nothing | only where the source's count of faults rose |
-/// | 4 | a prefix of the text | only where the sink's count of faults rose |
+/// | 3 | nothing | exactly where the source's count of faults rose |
+/// | 4 | a prefix of the text | exactly where the sink's count of faults rose |
 /// | 5 | a prefix of the text | want of memory |
 /// | 8 | `too long` | exactly where the source gave `MOST + 1` bytes |
 ///
@@ -49,40 +50,46 @@ pub fn engine<S: Source, K: Sink>(
     sink: &mut K,
 ) -> u8
     // every status, and what is written with it
-    ensures ended { Ended (IsRight MOST (asked words.now) (S.left source.old)) result
+    ensures ended { Ended (IsRight most_bytes (asked words.now) (S.left source.old)) result
         (Rose (S.faults source.old) (S.faults source.new)) (Rose (K.faults sink.old) (K.faults sink.new))
         (K.is_flushed sink.new) (K.held sink.old) (K.held sink.new) }
 
+    // the counts of faults rise with these two statuses alone
+    ensures source_faults { result ≢ failed_read → S.faults source.new ≡ S.faults source.old }
+    ensures sink_faults { result ≢ failed_write → K.faults sink.new ≡ K.faults sink.old }
+
     // refused words
     ensures wrong_words { ComesWhere result Status.WrongWords (asked words.now ≡ None) }
-    ensures unread { asked words.now ≡ None → (source.new ≡ source.old) × (result ≢ READ_FAILURE) }
+    ensures unread { asked words.now ≡ None → (source.new ≡ source.old) × (result ≢ failed_read) }
 
     // the source is read until its end, or just past the most
-    ensures few_reads { S.reads source.new ≤ S.reads source.old + MOST + 1 }
+    ensures few_reads { S.reads source.new ≤ S.reads source.old + most_bytes + 1 }
 
     // refused inputs
     ensures too_long { IfSome (S.left source.old) (λ input.
-        ComesWhere result Status.TooLong (IsSomeAnd (asked words.now) (λ command. MOST < length input))) }
+        ComesWhere result Status.TooLong (IsSomeAnd (asked words.now) (λ command. most_bytes < length input))) }
     ensures refused { IfSome (S.left source.old) (λ input.
-        ComesWhere result Status.Refused (IsSomeAnd (asked words.now) (λ command. (length input ≤ MOST) × IsRefused command input))) }
+        ComesWhere result Status.Refused (IsSomeAnd (asked words.now) (λ command. (length input ≤ most_bytes) × IsRefused command input))) }
 
     // an input that is accepted is answered, and the text that the command makes of it is written
     ensures written { result ≡ number Status.Done →
         IsSomeAnd (asked words.now) (λ command. Answers command (S.left source.old) (K.held sink.old) (K.held sink.new)) }
-    ensures complete { IsAccepted MOST (asked words.now) (S.left source.old)
+    ensures complete { IsAccepted most_bytes (asked words.now) (S.left source.old)
         → ¬ Rose (S.faults source.old) (S.faults source.new) → ¬ Rose (K.faults sink.old) (K.faults sink.new)
-        → (result ≡ number Status.Done) ⊎ (result ≡ NO_MEMORY) }
+        → (result ≡ number Status.Done) ⊎ (result ≡ out_of_memory) }
 {
     run(alloc, words, source, sink)
 }
 
 /// The body of `engine`, whose other clauses follow from this one.
 fn run<S: Source, K: Sink>(alloc: Global, words: &[String], source: &mut S, sink: &mut K) -> u8
-    ensures ended { Ended (IsRight MOST (asked words.now) (S.left source.old)) result
+    ensures ended { Ended (IsRight most_bytes (asked words.now) (S.left source.old)) result
         (Rose (S.faults source.old) (S.faults source.new)) (Rose (K.faults sink.old) (K.faults sink.new))
         (K.is_flushed sink.new) (K.held sink.old) (K.held sink.new) }
-    ensures unread { asked words.now ≡ None → (source.new ≡ source.old) × (result ≢ READ_FAILURE) }
-    ensures few_reads { S.reads source.new ≤ S.reads source.old + MOST + 1 }
+    ensures unread { asked words.now ≡ None → (source.new ≡ source.old) × (result ≢ failed_read) }
+    ensures few_reads { S.reads source.new ≤ S.reads source.old + most_bytes + 1 }
+    ensures source_faults { result ≢ failed_read → S.faults source.new ≡ S.faults source.old }
+    ensures sink_faults { result ≢ failed_write → K.faults sink.new ≡ K.faults sink.old }
 {
     let Some(command) = command_of(words) else {
         return respond(sink, Status::WrongWords, b"words\n");
@@ -98,9 +105,10 @@ fn run<S: Source, K: Sink>(alloc: Global, words: &[String], source: &mut S, sink
 
 /// Makes the answer of a command to its input, and writes it.
 fn answer<K: Sink>(alloc: Global, command: Command, input: &[u8], sink: &mut K) -> u8
-    requires { length input.now ≤ MOST }
-    ensures { Ended (IsReply command input.now) result
+    requires { length input.now ≤ most_bytes }
+    ensures ended { Ended (IsReply command input.now) result
         ⊥ (Rose (K.faults sink.old) (K.faults sink.new)) (K.is_flushed sink.new) (K.held sink.old) (K.held sink.new) }
+    ensures sink_faults { result ≢ failed_write → K.faults sink.new ≡ K.faults sink.old }
 {
     match reply_to(alloc, command, input) {
         Ok(reply) => respond(sink, reply.status, reply.text.as_slice()),
@@ -110,7 +118,7 @@ fn answer<K: Sink>(alloc: Global, command: Command, input: &[u8], sink: &mut K) 
 
 /// The answer of a command to its input.
 fn reply_to(alloc: Global, command: Command, input: &[u8]) -> Result<Reply, AllocError>
-    requires { length input.now ≤ MOST }
+    requires { length input.now ≤ most_bytes }
     ensures { IfOk result (λ reply. IsReply command input.now (answer_of reply)) }
 {
     match command {
@@ -121,8 +129,9 @@ fn reply_to(alloc: Global, command: Command, input: &[u8]) -> Result<Reply, Allo
 
 /// Writes an answer, and gives the status with which the program ends.
 fn respond<K: Sink>(sink: &mut K, status: Status, text: &[u8]) -> u8
-    ensures { Ended (λ answer. answer ≡ record { status = status; text = text.now }) result
+    ensures ended { Ended (λ answer. answer ≡ record { status = status; text = text.now }) result
         ⊥ (Rose (K.faults sink.old) (K.faults sink.new)) (K.is_flushed sink.new) (K.held sink.old) (K.held sink.new) }
+    ensures sink_faults { result ≢ failed_write → K.faults sink.new ≡ K.faults sink.old }
 {
     match write_all(sink, text) {
         Ok(()) => status.number(),

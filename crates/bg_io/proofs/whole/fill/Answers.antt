@@ -9,6 +9,6 @@ loop-count-preserved g c =
       within = search rules;
       given = Consumes-turn _ _ _ c.loop-count.count c.in_ok-given.given _ c.loop-count.buf c.read.new.buf before.within
           c.in_ok-given.ensures.bound.0 before.given c.in_ok-given.ensures.bytes.0;
-      later = omega arith;
+      same = omega (arith, before.same, c.in_ok-given.ensures.cause.stays);
       reads = omega arith;
     }

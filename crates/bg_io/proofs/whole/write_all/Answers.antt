@@ -8,5 +8,5 @@ loop-count-preserved g c =
     record {
       within = search rules;
       sent = Appends-turn _ _ _ c.loop-count.count c.in_ok-count.field-0 c.args.bytes.now (search rules) before.sent c.in_ok-count.ensures.bytes;
-      later = omega (arith, before.later, c.write.ensures.cause.later);
+      same = omega (arith, before.same, c.in_ok-count.ensures.cause.stays (λ e. cc));
     }

@@ -2,7 +2,7 @@ use Rattle.std.proofs.Common.{◌≡◌, ◌+◌, Some, rules}
 use Rattle.bg_io.specs.Transfers.{ConsumesExactly}
 use Rattle.bg_top.specs.Answer.{too_long}
 use Rattle.bg_top.specs.Words.{asked}
-use Rattle.bg_top.specs.declared.top.TheConstants.{MOST}
+use Rattle.bg_top.specs.Numbers.{most_bytes}
 use Rattle.bg_top.proofs.Right.{ended_with, right_too_long}
 use Rattle.bg_top.proofs.top.run.Goals as goal
 
@@ -12,6 +12,6 @@ returns-in-Err-TooLong-clause-ended g c =
     let before = left c.args.source.now in
     let after = left c.read_all.new.source in
     let is : asked c.args.words.now ≡ Some c.in-Some.command = search rules in
-    let given : ConsumesExactly before after (MOST + 1) = search rules in
-    ended_with _ too_long _ _ _ _ _ _ (right_too_long MOST (asked c.args.words.now) c.in-Some.command before after is given)
-    c.respond-in-Err-TooLong.ensures
+    let given : ConsumesExactly before after (most_bytes + 1) = search rules in
+    ended_with _ too_long _ _ _ _ _ _ (right_too_long most_bytes (asked c.args.words.now) c.in-Some.command before after is given)
+    c.respond-in-Err-TooLong.ensures.ended
