@@ -1,0 +1,4 @@
+mod Examples
+mod Numbers
+mod Numbered
+mod References

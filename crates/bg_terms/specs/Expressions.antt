@@ -1,0 +1,35 @@
+-- Expressions of the model language, with their names looked up: a control and a definition are numbers, an argument is a
+-- formula. The first number of a form is its token: the first one, or the operator.
+use Rattle.std.specs.Prelude.{ℕ, Bool, List}
+use Rattle.bg_values.specs.Operands.{Operand}
+
+-- the products of two bigraphs
+pub data Product : Type 0 where
+  composition : Product
+  tensor_product : Product
+  parallel_product : Product
+  merge_product : Product
+
+pub data Expression : Type 0 where
+  -- `K(..){a,b}`: a node of the control with that number, its arguments, and the names of its ports
+  node : ℕ → ℕ → List Operand → List (List ℕ) → Expression
+  -- `b(..)`: the definition with that number, and its arguments
+  reference : ℕ → ℕ → List Operand → Expression
+  -- `{x,y}`
+  names : ℕ → List (List ℕ) → Expression
+  -- `id(n,{x,y})`
+  identity_of : ℕ → ℕ → List (List ℕ) → Expression
+  -- `merge(n)`
+  merger_of : ℕ → ℕ → Expression
+  -- `1`, `0`
+  one : ℕ → Expression
+  nothing : ℕ → Expression
+  -- `(F)`
+  brackets : ℕ → Expression → Expression
+  -- a form of which another `.` or `/x` may stand before: it is one deeper
+  deeper : ℕ → Expression → Expression
+  -- `/x F`
+  closure : ℕ → List ℕ → Expression → Expression
+  -- `F.G`, and whether F is written as an atom
+  nesting : ℕ → Bool → Expression → Expression → Expression
+  product : Product → ℕ → Expression → Expression → Expression

@@ -1,0 +1,5 @@
+pub mod Expressions
+pub mod Terms
+pub mod Expansion
+pub mod Values
+pub mod Numbering

@@ -1,0 +1,28 @@
+-- How the nodes of a value are numbered.
+use Rattle.std.specs.Prelude.{◌≡◌, ℕ, ◌+◌}
+use Rattle.bg_base.specs.declared.big.Big.{Big}
+use Rattle.bg_base.specs.Elementary.{counted}
+use Rattle.bg_base.specs.Translation.{node_numbers}
+use Rattle.bg_terms.specs.Terms as terms
+use Rattle.bg_terms.specs.Terms.{Term}
+use Rattle.bg_terms.specs.Values.{Reached}
+
+-- how many control symbols a term has
+abbrev pub symbols : Term → ℕ
+symbols (terms.refusal r) = 0
+symbols (terms.node at control words) = 1
+symbols (terms.names at words) = 0
+symbols (terms.identity_of at width words) = 0
+symbols (terms.merger_of at width) = 0
+symbols (terms.one at) = 0
+symbols (terms.nothing at) = 0
+symbols (terms.counted at t) = symbols t
+symbols (terms.deeper at t) = symbols t
+symbols (terms.closure at word t) = symbols t
+symbols (terms.nesting at is_atom t u) = symbols t + symbols u
+symbols (terms.product kind at t u) = symbols t + symbols u
+
+-- the nodes have so many numbers in a row, from that one on, and the next is free
+pub record AreNumbered (from count : ℕ) (big : Big) (after : Reached) : Type 0 where
+  pub numbers : node_numbers big.nodes ≡ counted from count
+  pub next : after.nodes ≡ from + count

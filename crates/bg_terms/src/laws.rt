@@ -1,0 +1,22 @@
+//! Laws of expressions. A call does nothing.
+ghost use Rattle.std.specs.Prelude.{◌≡◌, ℕ, List, Ok};
+ghost use Rattle.bg_base.specs.declared.big.Big.{Big};
+ghost use Rattle.bg_base.specs.declared.labels.Value.{Value};
+ghost use Rattle.bg_terms.specs.Expressions.{Expression};
+ghost use Rattle.bg_terms.specs.Expansion.{Shape, Meaning, expand, HasNoReference};
+ghost use Rattle.bg_terms.specs.Terms.{Term};
+ghost use Rattle.bg_terms.specs.Values.{Reached, value};
+ghost use Rattle.bg_terms.specs.Numbering.{symbols, AreNumbered};
+
+/// The nodes of what a term comes to are numbered one after the other, from the first number that is free, as many as the
+/// term has control symbols.
+pub fn nodes_are_numbered_in_order()
+    ensures { (depth : ℕ) (term : Term) (before after : Reached) (big : Big) → value depth term before ≡ Ok (big, after)
+        → AreNumbered before.nodes (symbols term) big after }
+{}
+
+/// An expression without references expands to one term, whatever is defined.
+pub fn expressions_without_references_stand_alone()
+    ensures { (shapes : List Shape) (meanings others : List Meaning) (env : List Value) (expression : Expression)
+        → HasNoReference expression → expand shapes meanings env expression ≡ expand shapes others env expression }
+{}

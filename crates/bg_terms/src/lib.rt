@@ -1,0 +1,9 @@
+//! Expressions of the model language: their definition, what they expand to, and the bigraph that they come to. No call
+//! here evaluates one yet.
+//!
+//! - `specs/Expressions`: an expression, its names looked up; `specs/Terms`: a term, each reference replaced by its
+//!   definition and each argument by its value.
+//! - `specs/Expansion`: [`laws`] of `expand`; `specs/Values`: `value`, the bigraph of a term or its first refusal.
+#![tactic(auto)]
+
+pub mod laws;
