@@ -2,3 +2,6 @@ mod Examples
 mod Numbers
 mod Numbered
 mod References
+mod Edges
+mod Closures
+mod Valid

@@ -23,27 +23,27 @@ use Rattle.bg_terms.proofs.Numbers.{tensor_numbers, parallel_numbers, merge_numb
 
 -- ---- what an Ok says of its parts
 
-ok_same : {A : Type 0} {x y : A} → ◌≡◌ {A = Result A Refusal} (Ok x) (Ok y) → x ≡ y
+pub ok_same : {A : Type 0} {x y : A} → ◌≡◌ {A = Result A Refusal} (Ok x) (Ok y) → x ≡ y
 ok_same is = cc
 
-record Bound {A B : Type 0} (r : Result A Refusal) (f : A → Result B Refusal) (y : B) : Type 0 where
-  found : A
-  is : r ≡ Ok found
-  goes_on : f found ≡ Ok y
+pub record Bound {A B : Type 0} (r : Result A Refusal) (f : A → Result B Refusal) (y : B) : Type 0 where
+  pub found : A
+  pub is : r ≡ Ok found
+  pub goes_on : f found ≡ Ok y
 
-bound : {A B : Type 0} (r : Result A Refusal) (f : A → Result B Refusal) (y : B) → r >>= f ≡ Ok y → Bound r f y
+pub bound : {A B : Type 0} (r : Result A Refusal) (f : A → Result B Refusal) (y : B) → r >>= f ≡ Ok y → Bound r f y
 bound (Ok x) f y made = record { found = x; is = refl; goes_on = made }
 bound (Err e) f y made = absurd cc
 
-tested : {A : Type 0} (b : Bool) (r : Result A Refusal) (e : Refusal) (y : A) → (if b then r else Err e) ≡ Ok y → r ≡ Ok y
+pub tested : {A : Type 0} (b : Bool) (r : Result A Refusal) (e : Refusal) (y : A) → (if b then r else Err e) ≡ Ok y → r ≡ Ok y
 tested true r e y is = is
 tested false r e y is = absurd cc
 
-untested : {A : Type 0} (b : Bool) (r : Result A Refusal) (e : Refusal) (y : A) → (if b then Err e else r) ≡ Ok y → r ≡ Ok y
+pub untested : {A : Type 0} (b : Bool) (r : Result A Refusal) (e : Refusal) (y : A) → (if b then Err e else r) ≡ Ok y → r ≡ Ok y
 untested true r e y is = absurd cc
 untested false r e y is = is
 
-chain : {A : Type 0} (x y z : Bool) (e f g : Refusal) (r : Result A Refusal) (made : A)
+pub chain : {A : Type 0} (x y z : Bool) (e f g : Refusal) (r : Result A Refusal) (made : A)
     → (if x then Err e else (if y then Err f else (if z then Err g else r))) ≡ Ok made → r ≡ Ok made
 chain x y z e f g r made is = untested z r g made (untested y (if z then Err g else r) f made (untested x (if y then Err f else (if z then Err g else r)) e made is))
 
@@ -52,11 +52,11 @@ limited_same at big made is =
     sym (ok_same (chain (nat_lt 65536 (length big.nodes)) (nat_lt 65536 (length big.edges)) (nat_lt 65536 big.regions || nat_lt 65536 (length big.sites))
     _ _ _ (Ok big) made is))
 
-record Same (big made : Big) (c d : Reached) : Type 0 where
-  big_is : made ≡ big
-  reached_is : d ≡ c
+pub record Same (big made : Big) (c d : Reached) : Type 0 where
+  pub big_is : made ≡ big
+  pub reached_is : d ≡ c
 
-within_same : (at : ℕ) (big made : Big) (c d : Reached) → within at big c ≡ Ok (made, d) → Same big made c d
+pub within_same : (at : ℕ) (big made : Big) (c d : Reached) → within at big c ≡ Ok (made, d) → Same big made c d
 within_same at big made c d is =
     let b = bound (limited at big) (λ b. Ok (b, c)) (made, d) is in
     let pair : (b.found, c) ≡ (made, d) = ok_same b.goes_on in
@@ -94,7 +94,7 @@ closed_numbers edge name big = by (is_some (outer_of big.outer name))
     by true = close_numbers big name edge
     by false = refl
 
-nested_same : (at : ℕ) (is_atom : Bool) (f g whole : Big) → nested at is_atom f g ≡ Ok whole → nest f g ≡ whole
+pub nested_same : (at : ℕ) (is_atom : Bool) (f g whole : Big) → nested at is_atom f g ≡ Ok whole → nest f g ≡ whole
 nested_same at is_atom f g whole is =
     ok_same (chain is_atom (not (length f.inner == 0)) (not (g.regions == length f.sites)) _ _ _ (Ok (nest f g)) whole is)
 

@@ -1,5 +1,6 @@
--- How the nodes of a value are numbered.
-use Rattle.std.specs.Prelude.{◌≡◌, ℕ, ◌+◌}
+-- How the nodes and the edges of a value are numbered.
+use Rattle.std.specs.Prelude.{◌≡◌, ℕ, ◌+◌, ◌<◌, ◌≤◌}
+use Rattle.bg_lists.specs.Lists.{Mem}
 use Rattle.bg_base.specs.declared.big.Big.{Big}
 use Rattle.bg_base.specs.Elementary.{counted}
 use Rattle.bg_base.specs.Translation.{node_numbers}
@@ -26,3 +27,25 @@ symbols (terms.product kind at t u) = symbols t + symbols u
 pub record AreNumbered (from count : ℕ) (big : Big) (after : Reached) : Type 0 where
   pub numbers : node_numbers big.nodes ≡ counted from count
   pub next : after.nodes ≡ from + count
+
+-- how many closures a term has
+abbrev pub closures : Term → ℕ
+closures (terms.refusal r) = 0
+closures (terms.node at control words) = 0
+closures (terms.names at words) = 0
+closures (terms.identity_of at width words) = 0
+closures (terms.merger_of at width) = 0
+closures (terms.one at) = 0
+closures (terms.nothing at) = 0
+closures (terms.counted at t) = closures t
+closures (terms.deeper at t) = closures t
+closures (terms.closure at word t) = 1 + closures t
+closures (terms.nesting at is_atom t u) = closures t + closures u
+closures (terms.product kind at t u) = closures t + closures u
+
+-- the edges have numbers from that one on, below the next, which lies so many further; a closure of a name that is not
+-- there leaves its number out
+pub record AreEdgesWithin (from count : ℕ) (big : Big) (after : Reached) : Type 0 where
+  pub from_there : (edge : ℕ) → Mem edge big.edges → from ≤ edge
+  pub below : (edge : ℕ) → Mem edge big.edges → edge < from + count
+  pub next : after.edges ≡ from + count

@@ -2,17 +2,30 @@
 ghost use Rattle.std.specs.Prelude.{◌≡◌, ℕ, List, Ok};
 ghost use Rattle.bg_base.specs.declared.big.Big.{Big};
 ghost use Rattle.bg_base.specs.declared.labels.Value.{Value};
+ghost use Rattle.bg_base.specs.Bigraph.{IsValid};
 ghost use Rattle.bg_terms.specs.Expressions.{Expression};
 ghost use Rattle.bg_terms.specs.Expansion.{Shape, Meaning, expand, HasNoReference};
 ghost use Rattle.bg_terms.specs.Terms.{Term};
 ghost use Rattle.bg_terms.specs.Values.{Reached, value};
-ghost use Rattle.bg_terms.specs.Numbering.{symbols, AreNumbered};
+ghost use Rattle.bg_terms.specs.Numbering.{symbols, closures, AreNumbered, AreEdgesWithin};
 
 /// The nodes of what a term comes to are numbered one after the other, from the first number that is free, as many as the
 /// term has control symbols.
 pub fn nodes_are_numbered_in_order()
     ensures { (depth : ℕ) (term : Term) (before after : Reached) (big : Big) → value depth term before ≡ Ok (big, after)
         → AreNumbered before.nodes (symbols term) big after }
+{}
+
+/// The edges of what a term comes to are numbered in the order of the closures that make them, from the first number that
+/// is free: the number of the n-th closure is n further, and a closure of a name that is not there leaves its number out.
+pub fn edges_are_numbered_by_closures()
+    ensures { (depth : ℕ) (term : Term) (before after : Reached) (big : Big) → value depth term before ≡ Ok (big, after)
+        → AreEdgesWithin before.edges (closures term) big after }
+{}
+
+/// What a term comes to is a valid bigraph.
+pub fn values_are_valid()
+    ensures { (depth : ℕ) (term : Term) (before after : Reached) (big : Big) → value depth term before ≡ Ok (big, after) → IsValid big }
 {}
 
 /// An expression without references expands to one term, whatever is defined.
