@@ -3,3 +3,4 @@ pub mod Terms
 pub mod Expansion
 pub mod Values
 pub mod Numbering
+pub mod Trees

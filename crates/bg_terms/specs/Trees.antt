@@ -1,0 +1,216 @@
+-- What expression a tree of the grammar is, where some controls, bigraphs and formals are visible.
+use Rattle.std.specs.Prelude.{ℕ, Bool, true, false, not, ◌==◌, if◌then◌else◌, List, [], ◌∷◌, map, length, slice_get, option_map, Option, Some, None, Result, Ok, nat_abs}
+use Rattle.bg_base.specs.Spelling.{is_ident}
+use Rattle.bg_base.specs.declared.signature.Kind.{Kind}
+use Rattle.bg_base.specs.declared.signature.Kind.TheVariants.{Normal, Atomic}
+use Rattle.bg_syntax.specs.declared.tree.arithmetic.SynX.{SynX}
+use Rattle.bg_syntax.specs.declared.tree.names.SynNumber.{SynNumber}
+use Rattle.bg_syntax.specs.declared.tree.names.SynMoreLowItem.{SynMoreLowItem}
+use Rattle.bg_syntax.specs.declared.tree.names.SynNameList.{SynNameList}
+use Rattle.bg_syntax.specs.declared.tree.names.SynNameList.TheVariants as name_lists
+use Rattle.bg_syntax.specs.declared.tree.names.SynNames.{SynNames}
+use Rattle.bg_syntax.specs.declared.tree.names.SynNames.TheVariants as port_names
+use Rattle.bg_syntax.specs.declared.tree.expressions.SynArgs.{SynArgs}
+use Rattle.bg_syntax.specs.declared.tree.expressions.SynArgs.TheVariants as args_ways
+use Rattle.bg_syntax.specs.declared.tree.expressions.SynIdNames.{SynIdNames}
+use Rattle.bg_syntax.specs.declared.tree.expressions.SynIdNames.TheVariants as id_names_ways
+use Rattle.bg_syntax.specs.declared.tree.expressions.SynIdTail.{SynIdTail}
+use Rattle.bg_syntax.specs.declared.tree.expressions.SynIdTail.TheVariants as id_tail_ways
+use Rattle.bg_syntax.specs.declared.tree.expressions.SynA.TheOpen.{SynA-F, SynK-F, SynN1-F, SynC-F, SynC1Item-F, SynE-F, SynE1Item-F, SynM-F, SynM1Item-F, SynN-F, SynP-F, SynP1Item-F}
+use Rattle.bg_syntax.specs.declared.tree.expressions.SynA.TheOpen.SynA-F.{SynA::Way1 as a_1, SynA::Way2 as a_2, Way3 as a_3, Way4 as a_4, Way5 as a_5, Way6 as a_6, Way7 as a_7, Way8 as a_8}
+use Rattle.bg_syntax.specs.declared.tree.expressions.SynA.TheOpen.SynK-F.{SynK::Way1 as k_1, SynK::Way2 as k_2}
+use Rattle.bg_syntax.specs.declared.tree.expressions.SynA.TheOpen.SynN1-F.{SynN1::Way1 as n1_1, SynN1::Way2 as n1_2}
+use Rattle.bg_syntax.specs.declared.tree.expressions.SynA.TheFolds.{fold-SynE}
+use Rattle.bg_syntax.specs.declared.tree.expressions.SynE.{SynE}
+use Rattle.bg_values.specs.declared.refusal.Refusal.{Refusal}
+use Rattle.bg_values.specs.declared.refusal.Cause.TheVariants.{Unexpected, UnknownName, WrongArguments, WrongPorts}
+use Rattle.bg_values.specs.Names.{Entry, number_of}
+use Rattle.bg_values.specs.Operands.{operands_read, trees}
+use Rattle.bg_values.specs.Outcome.{◌>>=◌, refused, there_or}
+use Rattle.bg_values.specs.Reading.{number_at, number_token}
+use Rattle.bg_values.specs.Scopes.{ScopeParts, spelling}
+use Rattle.bg_terms.specs.Expansion.{Shape}
+use Rattle.bg_terms.specs.Expressions.{Product, composition, tensor_product, parallel_product, merge_product, Expression, node, reference, names, identity_of, merger_of, one, nothing, brackets, deeper, closure, nesting, product}
+
+-- a control that is visible: how many formals it has, and its shape
+pub record ControlEntry : Type 0 where
+  pub formals : ℕ
+  pub shape : Shape
+
+-- what is visible: the text with its tokens and the formals, the controls, and the bigraphs with how many formals each has
+pub record Visible : Type 0 where
+  pub scope : ScopeParts
+  pub controls : List (Entry ControlEntry)
+  pub bigraphs : List (Entry ℕ)
+
+module _ {T : Type 0} where
+  -- the number of an entry, and what it stands for
+  abbrev pub entry_at : List (Entry T) → Option ℕ → Option (ℕ × T)
+  entry_at entries (Some number) = option_map (λ (e : Entry T). (number, e.1)) (slice_get entries number)
+  entry_at entries None = None
+
+  abbrev pub look_up : List ℕ → List (Entry T) → Option (ℕ × T)
+  look_up word entries = entry_at entries (number_of word entries)
+
+-- ---- the small parts
+
+abbrev pub arguments : SynArgs → List SynX
+arguments (args_ways.Way1 bracket first more end) = trees first more.items
+arguments args_ways.Way2 = []
+
+abbrev pub listed_tokens : SynNameList → List ℕ
+listed_tokens (name_lists.Way1 first more) = first ∷ map (λ (item : SynMoreLowItem). item.part2) more.items
+listed_tokens name_lists.Way2 = []
+
+-- the identifier that a token spells
+abbrev pub word_at : Visible → ℕ → Result (List ℕ) Refusal
+word_at visible token = if is_ident (spelling visible.scope token) then Ok (spelling visible.scope token) else refused Unexpected token
+
+abbrev pub words_at : Visible → List ℕ → Result (List (List ℕ)) Refusal
+words_at visible [] = Ok []
+words_at visible (token ∷ tokens) = word_at visible token >>= λ word. words_at visible tokens >>= λ words. Ok (word ∷ words)
+
+abbrev pub ports_of : SynNames → List ℕ
+ports_of (port_names.Way1 bracket list end) = listed_tokens list
+ports_of port_names.Way2 = []
+
+-- a number of places
+abbrev pub width_at : Visible → SynNumber → Result ℕ Refusal
+width_at visible number = number_at visible.scope (number_token number) >>= λ z. Ok (nat_abs z)
+
+-- ---- forms: names are looked up, and numbers of arguments and of ports judged, before the names inside arguments
+
+abbrev pub node_of : Visible → ℕ → List SynX → List ℕ → ℕ × ControlEntry → Result Expression Refusal
+node_of visible at args ports found =
+    if not (length args == found.1.formals) then refused WrongArguments at else (
+    if not (length ports == found.1.shape.arity) then refused WrongPorts at else
+    (operands_read visible.scope args >>= λ fs. words_at visible ports >>= λ words. Ok (node at found.0 fs words)))
+
+abbrev pub node_read : ℕ → List SynX → List ℕ → Visible → Result Expression Refusal
+node_read at args ports visible =
+    there_or UnknownName at (look_up (spelling visible.scope at) visible.controls) >>= node_of visible at args ports
+
+abbrev pub reference_of : Visible → ℕ → List SynX → ℕ × ℕ → Result Expression Refusal
+reference_of visible at args found =
+    if not (length args == found.1) then refused WrongArguments at else
+    (operands_read visible.scope args >>= λ fs. Ok (reference at found.0 fs))
+
+abbrev pub reference_read : ℕ → List SynX → Visible → Result Expression Refusal
+reference_read at args visible = there_or UnknownName at (look_up (spelling visible.scope at) visible.bigraphs) >>= reference_of visible at args
+
+abbrev pub id_names : SynIdNames → List ℕ
+id_names (id_names_ways.Way1 comma bracket list end) = listed_tokens list
+id_names id_names_ways.Way2 = []
+
+abbrev pub id_read : ℕ → SynIdTail → Visible → Result Expression Refusal
+id_read at (id_tail_ways.Way1 bracket number list end) visible =
+    width_at visible number >>= λ width. words_at visible (id_names list) >>= λ words. Ok (identity_of at width words)
+id_read at (id_tail_ways.Way2 bracket list end) visible = words_at visible (listed_tokens list) >>= λ words. Ok (identity_of at 0 words)
+id_read at id_tail_ways.Way3 visible = Ok (identity_of at 1 [])
+
+-- the control of that token is atomic
+abbrev pub is_atomic_kind : Kind → Bool
+is_atomic_kind Normal = false
+is_atomic_kind Atomic = true
+
+abbrev pub is_atomic_entry : Option (ℕ × ControlEntry) → Bool
+is_atomic_entry (Some found) = is_atomic_kind found.1.shape.kind
+is_atomic_entry None = false
+
+abbrev pub names_atom : ℕ → Visible → Bool
+names_atom at visible = is_atomic_entry (look_up (spelling visible.scope at) visible.controls)
+
+abbrev pub no_atom : Visible → Bool
+no_atom visible = false
+
+-- ---- the layers of a tree, with what their parts say in place of the parts
+
+-- the first token of a tree, and what the tree says
+abbrev pub Reading : Type 0
+Reading = ℕ × (Visible → Result Expression Refusal)
+
+-- the same, and whether it is written as an atom
+abbrev pub Form : Type 0
+Form = ℕ × (Visible → Result Expression Refusal) × (Visible → Bool)
+
+-- what an item of a list says, behind the expression on its left
+abbrev pub Onward : Type 0
+Onward = Visible → Expression → Result Expression Refusal
+
+-- a dot and what stands behind it, or nothing
+abbrev pub Behind : Type 0
+Behind = Option (ℕ × Reading)
+
+-- A = upper Args Names | Ref | "{" NameList "}" | id IdTail | merge "(" Number ")" | zero | one | "(" E ")"
+abbrev pub a_layer : SynA-F Form Reading Behind Reading Onward Reading Onward Reading Onward Reading Reading Onward → Form
+a_layer (a_1 upper args ports) = (upper, node_read upper (arguments args) (ports_of ports), names_atom upper)
+a_layer (a_2 ref) = (ref.part1, reference_read ref.part1 (arguments ref.part2), no_atom)
+a_layer (a_3 bracket list end) = (bracket, λ visible. words_at visible (listed_tokens list) >>= λ words. Ok (names bracket words), no_atom)
+a_layer (a_4 at tail) = (at, id_read at tail, no_atom)
+a_layer (a_5 at bracket number end) = (at, λ visible. width_at visible number >>= λ width. Ok (merger_of at width), no_atom)
+a_layer (a_6 at) = (at, λ visible. Ok (nothing at), no_atom)
+a_layer (a_7 at) = (at, λ visible. Ok (one at), no_atom)
+a_layer (a_8 bracket e end) = (bracket, λ visible. e.value.1 visible >>= λ x. Ok (brackets bracket x), no_atom)
+
+-- K = "/" lower K | N
+abbrev pub k_layer : SynK-F Form Reading Behind Reading Onward Reading Onward Reading Onward Reading Reading Onward → Reading
+k_layer (k_1 slash lower k) =
+    (slash, λ visible. word_at visible lower >>= λ word. k.value.1 visible >>= λ e. Ok (deeper slash (closure slash word e)))
+k_layer (k_2 n) = (n.value.0, λ visible. n.value.1 visible >>= λ e. Ok (deeper n.value.0 e))
+
+-- N1 = "." K | none
+abbrev pub n1_layer : SynN1-F Form Reading Behind Reading Onward Reading Onward Reading Onward Reading Reading Onward → Behind
+n1_layer (n1_1 dot k) = Some (dot, k.value)
+n1_layer n1_2 = None
+
+abbrev pub nested_read : Bool → Behind → Visible → Expression → Result Expression Refusal
+nested_read is_atom (Some behind) visible e = behind.1.1 visible >>= λ d. Ok (nesting behind.0 is_atom e d)
+nested_read is_atom None visible e = Ok e
+
+-- N = A N1
+abbrev pub n_layer : SynN-F Form Reading Behind Reading Onward Reading Onward Reading Onward Reading Reading Onward → Reading
+n_layer n =
+    (n.part1.value.0, λ visible. n.part1.value.1 visible >>= nested_read (n.part1.value.2 visible) n.part2.value visible)
+
+-- the expression with the first item, and so on
+abbrev pub along : List Onward → Onward
+along [] visible e = Ok e
+along (item ∷ items) visible e = item visible e >>= along items visible
+
+-- a product with what the tree behind the operator says
+abbrev pub joined : Product → ℕ → Reading → Onward
+joined kind at right visible e = right.1 visible >>= λ d. Ok (product kind at e d)
+
+-- C = K C1, C1 = "*" K C1 | none
+abbrev pub c1_item_layer : SynC1Item-F Form Reading Behind Reading Onward Reading Onward Reading Onward Reading Reading Onward → Onward
+c1_item_layer x = joined composition x.part1 x.part2.value
+
+abbrev pub c_layer : SynC-F Form Reading Behind Reading Onward Reading Onward Reading Onward Reading Reading Onward → Reading
+c_layer x = (x.part1.value.0, λ visible. x.part1.value.1 visible >>= along x.part2.items visible)
+
+-- M = C M1, M1 = "|" C M1 | none
+abbrev pub m1_item_layer : SynM1Item-F Form Reading Behind Reading Onward Reading Onward Reading Onward Reading Reading Onward → Onward
+m1_item_layer x = joined merge_product x.part1 x.part2.value
+
+abbrev pub m_layer : SynM-F Form Reading Behind Reading Onward Reading Onward Reading Onward Reading Reading Onward → Reading
+m_layer x = (x.part1.value.0, λ visible. x.part1.value.1 visible >>= along x.part2.items visible)
+
+-- P = M P1, P1 = "||" M P1 | none
+abbrev pub p1_item_layer : SynP1Item-F Form Reading Behind Reading Onward Reading Onward Reading Onward Reading Reading Onward → Onward
+p1_item_layer x = joined parallel_product x.part1 x.part2.value
+
+abbrev pub p_layer : SynP-F Form Reading Behind Reading Onward Reading Onward Reading Onward Reading Reading Onward → Reading
+p_layer x = (x.part1.value.0, λ visible. x.part1.value.1 visible >>= along x.part2.items visible)
+
+-- E = P E1, E1 = "+" P E1 | none
+abbrev pub e1_item_layer : SynE1Item-F Form Reading Behind Reading Onward Reading Onward Reading Onward Reading Reading Onward → Onward
+e1_item_layer x = joined tensor_product x.part1 x.part2.value
+
+abbrev pub e_layer : SynE-F Form Reading Behind Reading Onward Reading Onward Reading Onward Reading Reading Onward → Reading
+e_layer x = (x.part1.value.0, λ visible. x.part1.value.1 visible >>= along x.part2.items visible)
+
+-- the first token of an expression, and what it says
+unfoldable pub e_read : SynE → Reading
+e_read =
+    fold-SynE Form Reading Behind Reading Onward Reading Onward Reading Onward Reading Reading Onward
+    a_layer k_layer n1_layer c_layer c1_item_layer e_layer e1_item_layer m_layer m1_item_layer n_layer p_layer p1_item_layer
