@@ -1,7 +1,7 @@
 use super::*;
 use bg_base::Value;
 use bg_syntax::parse;
-use bg_syntax::tree::statements::{SynParam, SynStmt};
+use bg_syntax::tree::statements::{SynIntSet, SynParam, SynStmt};
 use bg_text::tokens;
 use std::alloc::Global;
 use std::test::*;
@@ -37,8 +37,38 @@ fn outcome_of(alloc: Global, scope: &Scope, parameter: &SynParam) -> Outcome {
     }
 }
 
-/// What the first statement of the text comes to, a parameter.
-fn read_parameter(alloc: Global, text: &str) -> Outcome {
+/// What the formulas of a list come to, where the names have these values.
+fn values_in(alloc: Global, scope: &Scope, set: &SynIntSet, env: &[Value]) -> Outcome {
+    match set {
+        SynIntSet::Way1(_, first, more, _) => match operands_of(
+            alloc,
+            scope,
+            first,
+            more.as_slice(),
+        ) {
+            Ok(operands) => match values_of(alloc, operands.as_slice(), env) {
+                Ok(values) => Outcome::Values(
+                    values.len(),
+                    number_or_zero(values.first()),
+                    number_or_zero(values.last()),
+                ),
+                Err(stop) => stopped(stop),
+            },
+            Err(stop) => stopped(stop),
+        },
+        _ => Outcome::NoParameter,
+    }
+}
+
+fn stopped(stop: Stop) -> Outcome {
+    match stop {
+        Stop::Refused(refusal) => Outcome::Refused(refusal.cause, refusal.token),
+        Stop::OutOfMemory => Outcome::NoMemory,
+    }
+}
+
+/// What the first statement of the text comes to, a parameter; or a list in which the names have these values.
+fn read_parameter(alloc: Global, text: &str, names: &NameTable<()>, env: &[Value]) -> Outcome {
     if text.len() > 10_000 {
         return Outcome::NoParameter;
     }
@@ -51,14 +81,16 @@ fn read_parameter(alloc: Global, text: &str) -> Outcome {
     let Ok(tree) = parse(alloc, &tokens) else {
         return Outcome::NoParameter;
     };
-    let names = NameTable::new(alloc);
     let scope = Scope {
         bytes: text.as_bytes(),
         tokens: tokens.as_slice(),
-        names: &names,
+        names,
     };
     match tree.part1.first() {
         Some(item) => match &item.part1 {
+            SynStmt::Way6(SynParam::Way1(_, _, _, set, _)) if !env.is_empty() => {
+                values_in(alloc, &scope, set, env)
+            }
             SynStmt::Way6(parameter) => outcome_of(alloc, &scope, parameter),
             _ => Outcome::NoParameter,
         },
@@ -135,9 +167,10 @@ const REFUSED: [(&str, Cause, u32); 15] = [
 
 #[test]
 fn finds_the_values_of_parameters(rt: HostRuntime) {
+    let names = NameTable::new(rt.alloc());
     for (text, count, first, last) in VALUES {
         assert!(rt;
-            read_parameter(rt.alloc(), text) == Outcome::Values(count, first, last),
+            read_parameter(rt.alloc(), text, &names, &[]) == Outcome::Values(count, first, last),
             "{text}"
         );
     }
@@ -145,10 +178,31 @@ fn finds_the_values_of_parameters(rt: HostRuntime) {
 
 #[test]
 fn refuses_a_parameter_with_its_first_cause(rt: HostRuntime) {
+    let names = NameTable::new(rt.alloc());
     for (text, cause, token) in REFUSED {
         assert!(rt;
-            read_parameter(rt.alloc(), text) == Outcome::Refused(cause, token),
+            read_parameter(rt.alloc(), text, &names, &[]) == Outcome::Refused(cause, token),
             "{text}"
         );
     }
+}
+
+#[test]
+fn finds_values_where_names_are_visible(rt: HostRuntime) {
+    let mut names = NameTable::new(rt.alloc());
+    assert!(rt; names.add(rt.alloc(), b"x", ()) == Ok(true));
+    assert!(rt; names.add(rt.alloc(), b"y'", ()) == Ok(true));
+    assert!(rt; names.add(rt.alloc(), b"x", ()) == Ok(false));
+    assert!(rt; names.find(b"y'") == Some(1));
+    let env = [Value::Int(3), Value::Int(5)];
+    let text = "int n = {x * (y' - 1), -x};";
+    assert!(rt;
+        read_parameter(rt.alloc(), text, &names, &env) == Outcome::Values(2, 12, -3),
+        "{text}"
+    );
+    let text = "int n = {x / (x - x), z};";
+    assert!(rt;
+        read_parameter(rt.alloc(), text, &names, &env) == Outcome::Refused(Cause::UnknownName, 12),
+        "{text}"
+    );
 }
