@@ -1,4 +1,4 @@
--- The nodes of a value are numbered in the order of the control symbols.
+-- The nodes of a value have numbers in a row, as many as the term has control symbols.
 use Rattle.std.proofs.Common.{◌≡◌, ◌+◌, ◌∷◌, [], ◌||◌, ℕ, Bool, true, false, not, ◌==◌, List, length, Result, Ok, Err, refl, sym, ap, subst, ◌∙◌, arith}
 use Rattle.std.specs.Prelude.{if◌then◌else◌, nat_lt, is_some}
 use Rattle.bg_lists.specs.Orders.{set_of}

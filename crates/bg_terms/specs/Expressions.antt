@@ -26,7 +26,7 @@ pub data Expression : Type 0 where
   nothing : ℕ → Expression
   -- `(F)`
   brackets : ℕ → Expression → Expression
-  -- a form of which another `.` or `/x` may stand before: it is one deeper
+  -- a `K` of the grammar: it is one deeper than the `K` that it stands in
   deeper : ℕ → Expression → Expression
   -- `/x F`
   closure : ℕ → List ℕ → Expression → Expression

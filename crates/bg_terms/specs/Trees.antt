@@ -1,8 +1,7 @@
 -- What expression a tree of the grammar is, where some controls, bigraphs and formals are visible.
-use Rattle.std.specs.Prelude.{ℕ, Bool, true, false, not, ◌==◌, if◌then◌else◌, List, [], ◌∷◌, map, length, slice_get, option_map, Option, Some, None, Result, Ok, nat_abs}
+use Rattle.std.specs.Prelude.{ℕ, Bool, false, not, ◌==◌, if◌then◌else◌, List, [], ◌∷◌, map, length, slice_get, option_map, Option, Some, None, Result, Ok, nat_abs}
+use Rattle.bg_base.specs.Bigraph.{is_atomic_kind}
 use Rattle.bg_base.specs.Spelling.{is_ident}
-use Rattle.bg_base.specs.declared.signature.Kind.{Kind}
-use Rattle.bg_base.specs.declared.signature.Kind.TheVariants.{Normal, Atomic}
 use Rattle.bg_syntax.specs.declared.tree.arithmetic.SynX.{SynX}
 use Rattle.bg_syntax.specs.declared.tree.names.SynNumber.{SynNumber}
 use Rattle.bg_syntax.specs.declared.tree.names.SynMoreLowItem.{SynMoreLowItem}
@@ -108,11 +107,7 @@ id_read at (id_tail_ways.Way1 bracket number list end) visible =
 id_read at (id_tail_ways.Way2 bracket list end) visible = words_at visible (listed_tokens list) >>= λ words. Ok (identity_of at 0 words)
 id_read at id_tail_ways.Way3 visible = Ok (identity_of at 1 [])
 
--- the control of that token is atomic
-abbrev pub is_atomic_kind : Kind → Bool
-is_atomic_kind Normal = false
-is_atomic_kind Atomic = true
-
+-- the control that was found is atomic
 abbrev pub is_atomic_entry : Option (ℕ × ControlEntry) → Bool
 is_atomic_entry (Some found) = is_atomic_kind found.1.shape.kind
 is_atomic_entry None = false

@@ -66,7 +66,7 @@ abbrev pub single : Kind → ℕ → ℕ → List Name → Big
 single Normal control number names = ion control number names
 single Atomic control number names = atom control number names
 
--- the identity of a width, where that is within the limits; it is refused before it is made
+-- the bigraph of that width, where that is within the limits; it is refused before it is made
 abbrev pub wide : ℕ → ℕ → Big → Result Big Refusal
 wide at width big = if nat_lt 65536 width then refused (TooLarge Places) at else Ok big
 
@@ -95,7 +95,7 @@ nested at is_atom f g =
 abbrev pub closed : ℕ → Name → Big → Big
 closed edge name big = if is_some (outer_of big.outer name) then close big name edge else big
 
--- what a term comes to, so many forms deep, from there on
+-- what a term comes to, in which so many `K` of the grammar are open, from there on
 abbrev pub value : ℕ → Term → Reached → Come
 value depth (terms.refusal r) c = Err r
 value depth (terms.node at control words) c =

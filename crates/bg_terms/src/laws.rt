@@ -9,16 +9,16 @@ ghost use Rattle.bg_terms.specs.Terms.{Term};
 ghost use Rattle.bg_terms.specs.Values.{Reached, value};
 ghost use Rattle.bg_terms.specs.Numbering.{symbols, closures, AreNumbered, AreEdgesWithin};
 
-/// The nodes of what a term comes to are numbered one after the other, from the first number that is free, as many as the
-/// term has control symbols.
-pub fn nodes_are_numbered_in_order()
+/// The nodes of what a term comes to have the numbers in a row from the first that is free, as many as the term has control
+/// symbols.
+pub fn nodes_are_numbered_in_a_row()
     ensures { (depth : ℕ) (term : Term) (before after : Reached) (big : Big) → value depth term before ≡ Ok (big, after)
         → AreNumbered before.nodes (symbols term) big after }
 {}
 
-/// The edges of what a term comes to are numbered in the order of the closures that make them, from the first number that
-/// is free: the number of the n-th closure is n further, and a closure of a name that is not there leaves its number out.
-pub fn edges_are_numbered_by_closures()
+/// The edges of what a term comes to have numbers from the first that is free on, below the one that lies as many further
+/// as the term has closures, and that one is free next: a closure of a name that is not there leaves its number out.
+pub fn edges_lie_within_the_closures()
     ensures { (depth : ℕ) (term : Term) (before after : Reached) (big : Big) → value depth term before ≡ Ok (big, after)
         → AreEdgesWithin before.edges (closures term) big after }
 {}
@@ -28,7 +28,7 @@ pub fn values_are_valid()
     ensures { (depth : ℕ) (term : Term) (before after : Reached) (big : Big) → value depth term before ≡ Ok (big, after) → IsValid big }
 {}
 
-/// An expression without references expands to one term, whatever is defined.
+/// An expression without references expands to one term, whatever bigraphs are defined.
 pub fn expressions_without_references_stand_alone()
     ensures { (shapes : List Shape) (meanings others : List Meaning) (env : List Value) (expression : Expression)
         → HasNoReference expression → expand shapes meanings env expression ≡ expand shapes others env expression }

@@ -1,6 +1,5 @@
 -- What the loops over the operands of a list have made so far.
-use Rattle.std.proofs.Common.{◌≡◌, ◌+◌, ◌<◌, ◌++◌, ◌∷◌, [], ℕ, suc, List, Result, Ok, Err, map, drop, length, get_or, refl, sym, ap, subst, ◌∙◌, arith}
-use Rattle.std.proofs.Math.Seq.{drop-cons}
+use Rattle.std.proofs.Common.{◌≡◌, ◌+◌, ◌<◌, ◌++◌, ◌∷◌, [], ℕ, List, Result, Ok, Err, map, drop, length, get_or, refl, sym, ap, subst, ◌∙◌, arith}
 use Rattle.std.proofs.lemmas.List.{map-append, append_assoc, append-nil}
 use Rattle.bg_base.specs.declared.labels.Value.{Value}
 use Rattle.bg_syntax.specs.declared.tree.arithmetic.SynX.{SynX}
@@ -12,6 +11,7 @@ use Rattle.bg_values.specs.declared.refusal.Stop.TheVariants as stops
 use Rattle.bg_values.specs.Outcome.{◌>>=◌, Stops}
 use Rattle.bg_values.specs.Operands.{Operand, operand_read, operands_read, trees_of, shown, coded, AreCodesOf, each}
 use Rattle.bg_values.specs.Scopes.{ScopeParts}
+use Rattle.bg_values.proofs.Items.{item_and_others}
 
 ok_same : {A : Type 0} {x y : A} → ◌≡◌ {A = Result A Refusal} (Ok x) (Ok y) → x ≡ y
 ok_same is = cc
@@ -51,10 +51,7 @@ behind_go (Err e) more fs = refl
 item_from : (items : List SynMoreXItem) (index : ℕ) (item : SynMoreXItem) → index < length items → item ≡ get_or items index item
     → trees_of (drop index items) ≡ item.part2 ∷ trees_of (drop (index + 1) items)
 item_from items index item within is =
-    ap trees_of (drop-cons items index item within ∙ ap (λ k. get_or items index item ∷ drop k items) after ∙ ap (λ x. x ∷ drop (index + 1) items) (sym is))
-  where
-    after : suc index ≡ index + 1
-    after = omega arith
+    ap trees_of (item_and_others items index item within is)
 
 pub gathered_more : (scope : ScopeParts) (done : List Operand) (codes next : List Code) (wanted : Result (List Operand) Refusal)
     (items : List SynMoreXItem) (index : ℕ) (item : SynMoreXItem) → index < length items → item ≡ get_or items index item

@@ -1,6 +1,5 @@
 -- What a loop over the items of a tree has made so far.
-use Rattle.std.proofs.Common.{◌≡◌, ◌+◌, ◌<◌, ◌++◌, ◌∷◌, ℕ, suc, arith, List, Result, Ok, Err, map, drop, length, get_or, refl, sym, ap, ◌∙◌}
-use Rattle.std.proofs.Math.Seq.{drop-cons}
+use Rattle.std.proofs.Common.{◌≡◌, ◌+◌, ◌<◌, ◌++◌, ℕ, List, Result, Ok, Err, map, drop, length, get_or, refl, ap, ◌∙◌}
 use Rattle.bg_values.specs.declared.formula.Step.{Step}
 use Rattle.bg_values.specs.declared.refusal.Refusal.{Refusal}
 use Rattle.bg_values.specs.Arithmetic.{Formula}
@@ -9,6 +8,7 @@ use Rattle.bg_values.specs.Outcome.{◌>>=◌}
 use Rattle.bg_values.specs.Lowering.{lowered}
 use Rattle.bg_values.specs.Reading.{Onward, along}
 use Rattle.bg_values.specs.Scopes.{ScopeParts}
+use Rattle.bg_values.proofs.Items.{item_and_others}
 
 -- behind the base stand the steps of a formula, from which the other items lead to what is wanted
 pub record Partly (base code : List Step) (wanted : Result Formula Refusal) (others : Formula → Result Formula Refusal) : Type 0 where
@@ -32,8 +32,4 @@ pub along_from : {X : Type 0} (read : X → Onward) (items : List X) (index : �
     → (scope : ScopeParts) (first : ℕ) (f : Formula)
     → along (map read (drop index items)) scope first f ≡ read item scope first f >>= along (map read (drop (index + 1) items)) scope first
 along_from read items index item within is scope first f =
-    ap (λ xs. along (map read xs) scope first f)
-    (drop-cons items index item within ∙ ap (λ k. get_or items index item ∷ drop k items) after ∙ ap (λ x. x ∷ drop (index + 1) items) (sym is))
-  where
-    after : suc index ≡ index + 1
-    after = omega arith
+    ap (λ xs. along (map read xs) scope first f) (item_and_others items index item within is)

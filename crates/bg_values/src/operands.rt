@@ -61,7 +61,7 @@ fn add_operand(
     Ok(())
 }
 
-/// The formula of a tree, with its first token.
+/// The formula of a tree, with its first token, or the first name that is not visible. Linear in the tree.
 pub fn operand_of(alloc: Global, scope: &Scope, tree: &SynX) -> Result<Operand, Stop>
     ensures { definition.ReadsOne result (definition.operand_read scope.now tree.now) }
 {

@@ -45,7 +45,7 @@ pub enum Cause {
     AtomicHasChild,
     /// The number of arguments is not the number of formals.
     WrongArguments,
-    /// A site or an inner name in the first bigraph.
+    /// A site or an inner name in the bigraph of `init`.
     NotGround,
     /// Sides of a rule that differ.
     SidesDiffer,
@@ -61,7 +61,7 @@ pub enum Cause {
     TooLarge(LimitWord),
     /// No block.
     NoBlock,
-    /// A range without values.
+    /// A range whose step is below 1, or that begins behind its end.
     EmptyRange,
     /// A text where a number is needed.
     WrongKind,
