@@ -5,3 +5,5 @@ mod References
 mod Edges
 mod Closures
 mod Valid
+mod Labels
+mod Ordered

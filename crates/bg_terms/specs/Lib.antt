@@ -4,3 +4,4 @@ pub mod Expansion
 pub mod Values
 pub mod Numbering
 pub mod Trees
+pub mod Order

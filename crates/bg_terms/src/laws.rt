@@ -7,6 +7,7 @@ ghost use Rattle.bg_terms.specs.Expressions.{Expression};
 ghost use Rattle.bg_terms.specs.Expansion.{Shape, Meaning, expand, HasNoReference};
 ghost use Rattle.bg_terms.specs.Terms.{Term};
 ghost use Rattle.bg_terms.specs.Values.{Reached, value};
+ghost use Rattle.bg_terms.specs.Order.{controls_of, AreInOrder};
 ghost use Rattle.bg_terms.specs.Numbering.{symbols, closures, AreNumbered, AreEdgesWithin};
 
 /// The nodes of what a term comes to have the numbers in a row from the first that is free, as many as the term has control
@@ -21,6 +22,13 @@ pub fn nodes_are_numbered_in_a_row()
 pub fn edges_lie_within_the_closures()
     ensures { (depth : ℕ) (term : Term) (before after : Reached) (big : Big) → value depth term before ≡ Ok (big, after)
         → AreEdgesWithin before.edges (closures term) big after }
+{}
+
+/// The nodes of what a term comes to stand in the order of its control symbols: looked up in the signature reached, their
+/// labels are, row by row, those of the symbols. That signature begins with the one before.
+pub fn nodes_stand_in_the_order_of_the_text()
+    ensures { (depth : ℕ) (term : Term) (before after : Reached) (big : Big) → value depth term before ≡ Ok (big, after)
+        → AreInOrder before.signature (controls_of term) big after.signature }
 {}
 
 /// What a term comes to is a valid bigraph.
