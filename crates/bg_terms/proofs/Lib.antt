@@ -7,3 +7,4 @@ mod Closures
 mod Valid
 mod Labels
 mod Ordered
+mod Fitting

@@ -219,10 +219,10 @@ kept : (before controls after : List Control) (numbers others : List ℕ) (last 
 kept before controls after numbers others last so same reached =
     record { entered = so.entered; goes_on = reached ∙ so.goes_on; labels = ap (λ s. labels_at s others) reached ∙ ap (labels_at after) same ∙ so.labels }
 
-tallied_signature : (at : ℕ) (c d : Reached) → tallied at c ≡ Ok d → d.signature ≡ c.signature
+pub tallied_signature : (at : ℕ) (c d : Reached) → tallied at c ≡ Ok d → d.signature ≡ c.signature
 tallied_signature at c d is = sym (ap (λ (r : Reached). r.signature) (ok_same (tested _ _ _ _ is)))
 
-wide_same : (at width : ℕ) (big found : Big) → wide at width big ≡ Ok found → found ≡ big
+pub wide_same : (at width : ℕ) (big found : Big) → wide at width big ≡ Ok found → found ≡ big
 wide_same at width big found is = sym (ok_same (untested (nat_lt 65536 width) (Ok big) _ found is))
 
 -- a form without nodes: the bigraph is kept, and the signature too

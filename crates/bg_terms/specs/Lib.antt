@@ -5,3 +5,4 @@ pub mod Values
 pub mod Numbering
 pub mod Trees
 pub mod Order
+pub mod Arities

@@ -1,8 +1,10 @@
 //! Laws of expressions. A call does nothing.
-ghost use Rattle.std.specs.Prelude.{◌≡◌, ℕ, List, Ok};
+ghost use Rattle.std.specs.Prelude.{◌≡◌, ◌++◌, ℕ, List, Ok};
 ghost use Rattle.bg_base.specs.declared.big.Big.{Big};
 ghost use Rattle.bg_base.specs.declared.labels.Value.{Value};
-ghost use Rattle.bg_base.specs.Bigraph.{IsValid};
+ghost use Rattle.bg_base.specs.Bigraph.{IsValid, IsValidUnder};
+ghost use Rattle.bg_base.specs.Signatures.{IsSignature};
+ghost use Rattle.bg_terms.specs.Arities.{HaveArities, AreOneByLabel};
 ghost use Rattle.bg_terms.specs.Expressions.{Expression};
 ghost use Rattle.bg_terms.specs.Expansion.{Shape, Meaning, expand, HasNoReference};
 ghost use Rattle.bg_terms.specs.Terms.{Term};
@@ -34,6 +36,16 @@ pub fn nodes_stand_in_the_order_of_the_text()
 /// What a term comes to is a valid bigraph.
 pub fn values_are_valid()
     ensures { (depth : ℕ) (term : Term) (before after : Reached) (big : Big) → value depth term before ≡ Ok (big, after) → IsValid big }
+{}
+
+/// Where each control symbol has as many names as its control has ports, at most 16, and controls with the same label are
+/// the same control, in the signature before and in the term: what the term comes to is valid under the signature reached,
+/// which is a signature where the one before is.
+pub fn values_fit_the_signature_reached()
+    ensures fits { (depth : ℕ) (term : Term) (before after : Reached) (big : Big) → value depth term before ≡ Ok (big, after)
+        → IsSignature before.signature → HaveArities term → AreOneByLabel (before.signature ++ controls_of term) → IsValidUnder after.signature big }
+    ensures signature { (depth : ℕ) (term : Term) (before after : Reached) (big : Big) → value depth term before ≡ Ok (big, after)
+        → IsSignature before.signature → HaveArities term → AreOneByLabel (before.signature ++ controls_of term) → IsSignature after.signature }
 {}
 
 /// An expression without references expands to one term, whatever bigraphs are defined.
