@@ -114,10 +114,10 @@ entry_last : (all : List Control) (control : Control) (old : List Control) (numb
     → last_where b old control r ≡ Ok (number, after) → Entry all control number after
 entry_last all control old number after kept small inside member new false room r e = absurd cc
 entry_last all control old number after kept small inside member new true room r e =
+    let below : length old < 4096 = grind (arith, room) in
     let pair : (length old, old ++ control ∷ []) ≡ (number, after) = ok_same e in
     let number_is : length old ≡ number = ap (λ (p : ℕ × List Control). p.0) pair in
     let same : old ++ control ∷ [] ≡ after = ap (λ (p : ℕ × List Control). p.1) pair in
-    let below : length old < 4096 = grind (arith, room) in
     record {
       is_there = ap (λ s. slice_get s number) (sym same) ∙ ap (slice_get (old ++ control ∷ [])) (sym number_is) ∙ last_there old control;
       kept = subst IsSignature same (one_more_control old control kept new small below);

@@ -8,3 +8,4 @@ mod Valid
 mod Labels
 mod Ordered
 mod Fitting
+mod Placed

@@ -6,3 +6,4 @@ pub mod Numbering
 pub mod Trees
 pub mod Order
 pub mod Arities
+pub mod Closures

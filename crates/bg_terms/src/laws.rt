@@ -1,5 +1,5 @@
 //! Laws of expressions. A call does nothing.
-ghost use Rattle.std.specs.Prelude.{◌≡◌, ◌++◌, ℕ, List, Ok};
+ghost use Rattle.std.specs.Prelude.{◌≡◌, ◌+◌, ◌++◌, ℕ, List, Ok};
 ghost use Rattle.bg_base.specs.declared.big.Big.{Big};
 ghost use Rattle.bg_base.specs.declared.labels.Value.{Value};
 ghost use Rattle.bg_base.specs.Bigraph.{IsValid, IsValidUnder};
@@ -7,6 +7,8 @@ ghost use Rattle.bg_base.specs.Signatures.{IsSignature};
 ghost use Rattle.bg_terms.specs.Arities.{HaveArities, AreOneByLabel};
 ghost use Rattle.bg_terms.specs.Expressions.{Expression};
 ghost use Rattle.bg_terms.specs.Expansion.{Shape, Meaning, expand, HasNoReference};
+ghost use Rattle.bg_terms.specs.Closures.{StandsBehind, IsEvaluatedAt};
+ghost use Rattle.bg_terms.specs.Terms as terms;
 ghost use Rattle.bg_terms.specs.Terms.{Term};
 ghost use Rattle.bg_terms.specs.Values.{Reached, value};
 ghost use Rattle.bg_terms.specs.Order.{controls_of, AreInOrder};
@@ -31,6 +33,14 @@ pub fn edges_lie_within_the_closures()
 pub fn nodes_stand_in_the_order_of_the_text()
     ensures { (depth : ℕ) (term : Term) (before after : Reached) (big : Big) → value depth term before ≡ Ok (big, after)
         → AreInOrder before.signature (controls_of term) big after.signature }
+{}
+
+/// A closure before which `count` others begin in the order of the text takes the edge number that lies so many behind the
+/// first that is free: there it is evaluated, and `value` gives a closure the first free number.
+pub fn closures_take_edge_numbers_in_the_order_of_the_text()
+    ensures { (depth : ℕ) (term : Term) (before after : Reached) (big : Big) → value depth term before ≡ Ok (big, after)
+        → (count at : ℕ) (word : List ℕ) (inside : Term) → StandsBehind (terms.closure at word inside) count term
+        → IsEvaluatedAt (terms.closure at word inside) (before.edges + count) }
 {}
 
 /// What a term comes to is a valid bigraph.
