@@ -28,7 +28,7 @@ const MOST_VALUES: usize = 4096;
 pub fn parameter_values(alloc: Global, scope: &Scope, tree: &SynParam) -> Result<Vec<Value>, Stop>
     ensures { operands.GivesList result (definition.parameter_values scope.now tree.now) }
 {
-    let nothing = NameTable::new(alloc);
+    let nothing: NameTable<()> = NameTable::new(alloc);
     let closed = Scope {
         bytes: scope.bytes,
         tokens: scope.tokens,
