@@ -233,62 +233,62 @@ e_layer x = (x.part1.value.0, λ visible. x.part1.value.1 visible >>= along x.pa
 
 -- what the trees say
 
-abbrev pub a_read : SynA → Form
+unfoldable pub a_read : SynA → Form
 a_read =
     fold-SynA Form Reading Behind Reading Onward Reading Onward Reading Onward Reading Reading Onward
     a_layer k_layer n1_layer c_layer c1_item_layer e_layer e1_item_layer m_layer m1_item_layer n_layer p_layer p1_item_layer
 
-abbrev pub k_read : SynK → Reading
+unfoldable pub k_read : SynK → Reading
 k_read =
     fold-SynK Form Reading Behind Reading Onward Reading Onward Reading Onward Reading Reading Onward
     a_layer k_layer n1_layer c_layer c1_item_layer e_layer e1_item_layer m_layer m1_item_layer n_layer p_layer p1_item_layer
 
-abbrev pub n1_read : SynN1 → Behind
+unfoldable pub n1_read : SynN1 → Behind
 n1_read =
     fold-SynN1 Form Reading Behind Reading Onward Reading Onward Reading Onward Reading Reading Onward
     a_layer k_layer n1_layer c_layer c1_item_layer e_layer e1_item_layer m_layer m1_item_layer n_layer p_layer p1_item_layer
 
-abbrev pub n_read : SynN → Reading
+unfoldable pub n_read : SynN → Reading
 n_read =
     fold-SynN Form Reading Behind Reading Onward Reading Onward Reading Onward Reading Reading Onward
     a_layer k_layer n1_layer c_layer c1_item_layer e_layer e1_item_layer m_layer m1_item_layer n_layer p_layer p1_item_layer
 
-abbrev pub c_read : SynC → Reading
+unfoldable pub c_read : SynC → Reading
 c_read =
     fold-SynC Form Reading Behind Reading Onward Reading Onward Reading Onward Reading Reading Onward
     a_layer k_layer n1_layer c_layer c1_item_layer e_layer e1_item_layer m_layer m1_item_layer n_layer p_layer p1_item_layer
 
-abbrev pub c1_item_read : SynC1Item → Onward
+unfoldable pub c1_item_read : SynC1Item → Onward
 c1_item_read =
     fold-SynC1Item Form Reading Behind Reading Onward Reading Onward Reading Onward Reading Reading Onward
     a_layer k_layer n1_layer c_layer c1_item_layer e_layer e1_item_layer m_layer m1_item_layer n_layer p_layer p1_item_layer
 
-abbrev pub m_read : SynM → Reading
+unfoldable pub m_read : SynM → Reading
 m_read =
     fold-SynM Form Reading Behind Reading Onward Reading Onward Reading Onward Reading Reading Onward
     a_layer k_layer n1_layer c_layer c1_item_layer e_layer e1_item_layer m_layer m1_item_layer n_layer p_layer p1_item_layer
 
-abbrev pub m1_item_read : SynM1Item → Onward
+unfoldable pub m1_item_read : SynM1Item → Onward
 m1_item_read =
     fold-SynM1Item Form Reading Behind Reading Onward Reading Onward Reading Onward Reading Reading Onward
     a_layer k_layer n1_layer c_layer c1_item_layer e_layer e1_item_layer m_layer m1_item_layer n_layer p_layer p1_item_layer
 
-abbrev pub p_read : SynP → Reading
+unfoldable pub p_read : SynP → Reading
 p_read =
     fold-SynP Form Reading Behind Reading Onward Reading Onward Reading Onward Reading Reading Onward
     a_layer k_layer n1_layer c_layer c1_item_layer e_layer e1_item_layer m_layer m1_item_layer n_layer p_layer p1_item_layer
 
-abbrev pub p1_item_read : SynP1Item → Onward
+unfoldable pub p1_item_read : SynP1Item → Onward
 p1_item_read =
     fold-SynP1Item Form Reading Behind Reading Onward Reading Onward Reading Onward Reading Reading Onward
     a_layer k_layer n1_layer c_layer c1_item_layer e_layer e1_item_layer m_layer m1_item_layer n_layer p_layer p1_item_layer
 
-abbrev pub e_read : SynE → Reading
+unfoldable pub e_read : SynE → Reading
 e_read =
     fold-SynE Form Reading Behind Reading Onward Reading Onward Reading Onward Reading Reading Onward
     a_layer k_layer n1_layer c_layer c1_item_layer e_layer e1_item_layer m_layer m1_item_layer n_layer p_layer p1_item_layer
 
-abbrev pub e1_item_read : SynE1Item → Onward
+unfoldable pub e1_item_read : SynE1Item → Onward
 e1_item_read =
     fold-SynE1Item Form Reading Behind Reading Onward Reading Onward Reading Onward Reading Reading Onward
     a_layer k_layer n1_layer c_layer c1_item_layer e_layer e1_item_layer m_layer m1_item_layer n_layer p_layer p1_item_layer
