@@ -1,8 +1,7 @@
 -- Arguments as codes come to what they come to as formulas.
-use Rattle.std.proofs.Common.{◌≡◌, Result, Ok, Err, refl, sym, ap, ◌∙◌, List, [], ◌∷◌, map}
+use Rattle.std.proofs.Common.{◌≡◌, Ok, refl, ap, ◌∙◌, List, [], ◌∷◌, map}
 use Rattle.bg_base.specs.declared.labels.Value.{Value}
 use Rattle.bg_machine.specs.Machine.{values_of}
-use Rattle.bg_machine.proofs.Bindings.{bind_same}
 use Rattle.bg_values.specs.Arithmetic.{value}
 use Rattle.bg_values.specs.Operands.{Operand, coded, values}
 use Rattle.bg_values.specs.Outcome.{◌>>=◌}

@@ -1,5 +1,5 @@
 -- Results that go on.
-use Rattle.std.proofs.Common.{◌≡◌, Result, Ok, Err, refl, sym, ap, ◌∙◌, List, [], ◌∷◌, ◌++◌}
+use Rattle.std.proofs.Common.{◌≡◌, Result, Ok, Err, refl, sym, ◌∙◌, List, [], ◌∷◌, ◌++◌}
 use Rattle.bg_base.specs.declared.labels.Value.{Value}
 use Rattle.bg_code.specs.declared.operation.Operation.{Operation}
 use Rattle.bg_machine.specs.States.{State}

@@ -1,5 +1,5 @@
 -- The code of an expression comes to the value of its term.
-use Rattle.std.proofs.Common.{◌≡◌, ℕ, zero, suc, ◌+◌, ◌-◌, nat_lt, Bool, true, false, cond, arith, List, [], ◌∷◌, ◌++◌, map, Option, Some, None, Result, Ok, Err, refl, sym, ap, ◌∙◌, slice_get}
+use Rattle.std.proofs.Common.{◌≡◌, ℕ, zero, suc, ◌+◌, ◌-◌, nat_lt, Bool, true, false, cond, arith, List, [], ◌∷◌, ◌++◌, map, Result, Ok, Err, refl, ap, ◌∙◌, slice_get}
 use Rattle.bg_base.specs.declared.big.Big.{Big}
 use Rattle.bg_base.specs.declared.labels.Value.{Value}
 use Rattle.bg_base.specs.declared.names.Name.TheVariants.{Plain}
@@ -7,7 +7,7 @@ use Rattle.bg_code.specs.declared.operation.Operation.{Operation}
 use Rattle.bg_code.specs.declared.operation.Operation.TheVariants as operations
 use Rattle.bg_code.specs.Code.{code_of}
 use Rattle.bg_machine.specs.States.{State, pushed, gone_on}
-use Rattle.bg_machine.specs.Machine.{Running, values_of, comes_to, called, joined, closing, step, run, running_after, running_of}
+use Rattle.bg_machine.specs.Machine.{Running, comes_to, called, joined, step, run, running_after, running_of}
 use Rattle.bg_machine.proofs.Arguments.{coded_values}
 use Rattle.bg_machine.proofs.Bindings.{bind_same, run_append, run_none}
 use Rattle.bg_terms.specs.declared.shape.Shape.{Shape}

@@ -1,7 +1,6 @@
 -- States of the machine that evaluates expressions.
 use Rattle.std.specs.Prelude.{ℕ, List, ◌∷◌, Result, Ok}
 use Rattle.bg_base.specs.declared.big.Big.{Big}
-use Rattle.bg_base.specs.declared.signature.Control.{Control}
 use Rattle.bg_values.specs.declared.refusal.Refusal.{Refusal}
 use Rattle.bg_values.specs.Outcome.{◌>>=◌}
 use Rattle.bg_terms.specs.Values.{Reached, Come}

@@ -1,5 +1,5 @@
 -- What expression a tree of the grammar is, where some controls, bigraphs and formals are visible.
-use Rattle.std.specs.Prelude.{ℕ, Bool, false, not, ◌==◌, if◌then◌else◌, List, [], ◌∷◌, map, length, slice_get, option_map, Option, Some, None, Result, Ok, nat_abs}
+use Rattle.std.specs.Prelude.{ℕ, Bool, false, not, ◌==◌, if◌then◌else◌, List, [], ◌∷◌, map, length, Option, Some, None, Result, Ok, nat_abs}
 use Rattle.bg_base.specs.Bigraph.{is_atomic_kind}
 use Rattle.bg_base.specs.Spelling.{is_ident}
 use Rattle.bg_syntax.specs.declared.tree.arithmetic.SynX.{SynX}
