@@ -1,8 +1,7 @@
 -- Laws of the rows of ports: look-up and order.
 use Rattle.std.proofs.Common.{◌≡◌, ℕ, ◌==◌, List, length, map, get_or, nat_cmp, Some, None, Result, MatchResult}
-use Rattle.std.specs.Cmp.{IsTotalOrder}
 use Rattle.std.specs.List.Sorted.{IsSearchInRange, IsBinarySearchResult, IsStrictlySortedBy}
-use Rattle.std.proofs.lemmas.Cmp.{on_total, nat_cmp_total}
+use Rattle.std.proofs.lemmas.Cmp.{nat_cmp_total}
 use Rattle.bg_lists.proofs.Searches.{find-search}
 use Rattle.bg_lists.proofs.Comparisons.{eqb-nat_cmp}
 use Rattle.bg_lists.proofs.Ascents.{Ascending-from_sorted, sorted_from_Ascending, Ascending-map}
@@ -12,9 +11,6 @@ use Rattle.bg_base.specs.Bigraph.{node_cmp}
 use Rattle.bg_link.specs.declared.graph.PortRow.{PortRow}
 use Rattle.bg_link.specs.Links.{port_row, row_of, ports_through}
 use Rattle.bg_link.specs.Rows.{port_cmp}
-
-pub port_cmp_total : IsTotalOrder port_cmp
-port_cmp_total = on_total (λ (row : PortRow). row.node) nat_cmp_total
 
 -- what a binary search of ascending rows answers
 pub row-search : (rows : List PortRow) (node : ℕ) → IsStrictlySortedBy port_cmp rows → (r : Result ℕ ℕ)

@@ -1,8 +1,7 @@
 -- Laws of the rows of places: look-up, order, the rows of two bigraphs.
 use Rattle.std.proofs.Common.{◌≡◌, ℕ, ◌==◌, List, ◌++◌, length, map, get_or, nat_cmp, Some, None, Result, Ok, Err, MatchResult, refl, sym, ap, ◌∙◌}
-use Rattle.std.specs.Cmp.{IsTotalOrder}
 use Rattle.std.specs.List.Sorted.{IsSearchInRange, IsBinarySearchResult, IsStrictlySortedBy}
-use Rattle.std.proofs.lemmas.Cmp.{on_total, nat_cmp_total}
+use Rattle.std.proofs.lemmas.Cmp.{nat_cmp_total}
 use Rattle.std.proofs.lemmas.List.{map-append}
 use Rattle.bg_lists.specs.Lists.{sort}
 use Rattle.bg_lists.specs.Orders.{before}
@@ -22,9 +21,6 @@ use Rattle.bg_base.specs.Products.{row_beside, tensor, parallel}
 use Rattle.bg_place.specs.declared.graph.ParentRow.{ParentRow}
 use Rattle.bg_place.specs.Places.{parent_row, places_of, row_of, moved_row, joined_parents, parents_beside}
 use Rattle.bg_place.specs.Rows.{parent_cmp, IsRowAt}
-
-pub parent_cmp_total : IsTotalOrder parent_cmp
-parent_cmp_total = on_total (λ (row : ParentRow). row.node) nat_cmp_total
 
 -- what a binary search of ascending rows answers
 found_by : (rows : List ParentRow) (node : ℕ) → IsStrictlySortedBy parent_cmp rows → (r : Result ℕ ℕ)
