@@ -1,8 +1,6 @@
 -- Laws of putting the halves together: those of one bigraph give that bigraph.
 use Rattle.std.proofs.Common.{◌≡◌, ℕ, ◌+◌, ◌<◌, List, [], ◌∷◌, ◌++◌, map, length, drop, get_or, refl, sym, ap, subst, ◌∙◌, Contains}
-use Rattle.std.specs.Cmp.{IsTotalOrder}
 use Rattle.std.specs.List.Sorted.{IsStrictlySortedBy}
-use Rattle.std.proofs.lemmas.Cmp.{on_total, nat_cmp_total}
 use Rattle.std.proofs.lemmas.List.{map-append, drop_more, length-map}
 use Rattle.bg_lists.specs.Lists.{sort, here, there}
 use Rattle.bg_lists.specs.Orders.{before}
@@ -24,9 +22,6 @@ use Rattle.bg_link.specs.declared.graph.Links.{Links}
 use Rattle.bg_link.specs.Links.{port_row, links_of}
 use Rattle.bg_algebra.specs.declared.halves.ControlRow.{ControlRow}
 use Rattle.bg_algebra.specs.Halves.{control_row, control_cmp, joined_row, joined_rows, joined, parent_in_one, places_in_one}
-
-pub control_cmp_total : IsTotalOrder control_cmp
-control_cmp_total = on_total (λ (row : ControlRow). row.node) nat_cmp_total
 
 joined_rows-parts : (rows : List NodeRow) → joined_rows (map parent_row rows) (map port_row rows) (map control_row rows) ≡ rows
 joined_rows-parts [] = refl
