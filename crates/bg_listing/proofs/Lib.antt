@@ -10,3 +10,4 @@ pub mod SixParts
 pub mod Rooms
 pub mod Passes
 pub mod Longest
+pub mod RefusalLaws

@@ -1,0 +1,26 @@
+//! What acceptance and refusal of a listing mean of the whole text. A call does nothing.
+ghost use Rattle.std.specs.Prelude.{◌≡◌, ◌↔◌, ◌++◌, List, ℕ, Ok, Err, drop};
+ghost use Rattle.bg_base.specs.declared.signature.Control.{Control};
+ghost use Rattle.bg_base.specs.declared.big.Big.{Big};
+ghost use Rattle.bg_base.specs.Signatures.{IsSignature};
+ghost use Rattle.bg_listing.specs.declared.cursor.Cursor.{Cursor};
+ghost use Rattle.bg_listing.specs.Spelling.{signature_text, big_text};
+ghost use Rattle.bg_listing.specs.Limits.{IsReadableSignature, IsReadableBig};
+ghost use Rattle.bg_listing.specs.Verdict.{Refusal, signature_verdict, big_verdict};
+
+/// The verdict on a text is a value exactly where the listing of that value, a signature or a bigraph within the limits,
+/// stands at the cursor with this rest behind it.
+pub fn accepted_texts_are_the_listings()
+    ensures signatures { (bytes : List ℕ) (at : Cursor) (controls : List Control) (rest : List ℕ)
+        → (signature_verdict bytes at ≡ Ok (controls, rest)) ↔ (IsReadableSignature controls × (drop at.offset bytes ≡ signature_text controls ++ rest)) }
+    ensures bigraphs { (signature : List Control) → IsSignature signature → (bytes : List ℕ) (at : Cursor) (big : Big) (rest : List ℕ)
+        → (big_verdict signature bytes at ≡ Ok (big, rest)) ↔ (IsReadableBig signature big × (drop at.offset bytes ≡ big_text signature big ++ rest)) }
+{}
+
+/// Where a text is refused, whatever the code and the line, no listing stands at the cursor, whatever follows it.
+pub fn refused_texts_are_no_listings()
+    ensures signatures { (bytes : List ℕ) (at : Cursor) (refusal : Refusal) → signature_verdict bytes at ≡ Err refusal
+        → (controls : List Control) (rest : List ℕ) → IsReadableSignature controls → ¬ (drop at.offset bytes ≡ signature_text controls ++ rest) }
+    ensures bigraphs { (signature : List Control) → IsSignature signature → (bytes : List ℕ) (at : Cursor) (refusal : Refusal) → big_verdict signature bytes at ≡ Err refusal
+        → (big : Big) (rest : List ℕ) → IsReadableBig signature big → ¬ (drop at.offset bytes ≡ big_text signature big ++ rest) }
+{}
