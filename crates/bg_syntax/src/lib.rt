@@ -5,6 +5,7 @@
 #![tactic(auto)]
 
 mod fault;
+mod laws;
 mod parsing;
 mod read;
 mod reader;
@@ -13,6 +14,7 @@ mod table;
 pub mod tree;
 
 pub use fault::{SyntaxFault, TOO_DEEP, UNEXPECTED};
+pub use laws::{models_are_derivation_trees, steps_determine_models, tokens_have_one_tree};
 pub use parsing::parse;
 pub use symbol::Symbol;
 pub use tree::Tree;
