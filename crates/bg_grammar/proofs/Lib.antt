@@ -4,3 +4,4 @@ pub mod Stops
 pub mod Faults
 pub mod Solid
 pub mod Trees
+pub mod Examples
