@@ -20,7 +20,7 @@ use Rattle.bg_terms.specs.Numbering.{closures, AreEdgesWithin}
 use Rattle.bg_terms.proofs.Edges.{tensor_edges, parallel_edges, merge_edges, compose_edges, nest_edges, closed_edges}
 use Rattle.bg_terms.proofs.Numbered.{ok_same, bound, tested, untested, Same, within_same, nested_same}
 
-tallied_edges : (at : ℕ) (c d : Reached) → tallied at c ≡ Ok d → d.edges ≡ c.edges
+pub tallied_edges : (at : ℕ) (c d : Reached) → tallied at c ≡ Ok d → d.edges ≡ c.edges
 tallied_edges at c d is = sym (ap (λ (r : Reached). r.edges) (ok_same (tested _ _ _ _ is)))
 
 -- an operation of operands whose edges lie one behind the other

@@ -69,3 +69,21 @@ closed_twice : value 0 (terms.closure 0 (120 ∷ []) (terms.closure 2 (121 ∷ [
 )
 unfolding close atom set_of put start line put_once
 closed_twice = refl
+
+-- in `/a Agent{a}` the agent is node 0 and its port is tied to edge 0
+tied : Control
+tied = record { label = record { name = 65 ∷ 103 ∷ 101 ∷ 110 ∷ 116 ∷ []; args = [] }; arity = 1; kind = Atomic }
+
+closed_agent : value 0 (terms.closure 0 (97 ∷ []) (terms.node 2 tied ((97 ∷ []) ∷ []))) start ≡ Ok (
+  record {
+    nodes = record { id = 0; control = 0; parent = Region 0; links = Edge 0 ∷ [] } ∷ [];
+    edges = 0 ∷ [];
+    sites = [];
+    inner = [];
+    regions = 1;
+    outer = [];
+  },
+  record { signature = tied ∷ []; nodes = 1; edges = 1; terms = 1 },
+)
+unfolding close atom set_of put start tied put_once
+closed_agent = refl

@@ -5,3 +5,7 @@ mod References
 mod Edges
 mod Closures
 mod Valid
+mod Labels
+mod Ordered
+mod Fitting
+mod Placed

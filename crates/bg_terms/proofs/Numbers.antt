@@ -21,10 +21,10 @@ use Rattle.bg_base.specs.Translation.{node_numbers}
 plus : (first count : ℕ) → suc first + count ≡ first + suc count
 plus first count = omega arith
 
-none_more : (first : ℕ) → first + 0 ≡ first
+pub none_more : (first : ℕ) → first + 0 ≡ first
 none_more first = omega arith
 
-nothing_before : (more : ℕ) → more ≡ 0 + more
+pub nothing_before : (more : ℕ) → more ≡ 0 + more
 nothing_before more = omega arith
 
 one_before : (count more : ℕ) → suc (count + more) ≡ suc count + more
@@ -56,7 +56,7 @@ sort_counted first (suc count) =
 numbers_sorted : (rows : List NodeRow) → node_numbers (sort (before node_cmp) rows) ≡ sort (before nat_cmp) (node_numbers rows)
 numbers_sorted rows = map-sort (before node_cmp) (before nat_cmp) (λ (row : NodeRow). row.id) (λ x y. refl) rows
 
-numbers_kept : (f : NodeRow → NodeRow) → ((row : NodeRow) → (f row).id ≡ row.id) → (rows : List NodeRow) → node_numbers (map f rows) ≡ node_numbers rows
+pub numbers_kept : (f : NodeRow → NodeRow) → ((row : NodeRow) → (f row).id ≡ row.id) → (rows : List NodeRow) → node_numbers (map f rows) ≡ node_numbers rows
 numbers_kept f keeps [] = refl
 numbers_kept f keeps (row ∷ rows) = ap (λ n. n ∷ node_numbers (map f rows)) (keeps row) ∙ ap (λ ns. row.id ∷ ns) (numbers_kept f keeps rows)
 
@@ -96,7 +96,7 @@ pub compose_numbers : (g f : Big) (from count more : ℕ) → node_numbers g.nod
 unfolding compose
 compose_numbers g f from count more = in_a_row (row_through g) (λ row. refl) g.nodes f.nodes from count more
 
-wider_numbers : (f : Big) (names : List Name) (from count : ℕ) → node_numbers f.nodes ≡ counted from count
+pub wider_numbers : (f : Big) (names : List Name) (from count : ℕ) → node_numbers f.nodes ≡ counted from count
     → node_numbers (parallel (identity 0 names) f).nodes ≡ counted from count
 unfolding parallel identity counted
 wider_numbers f names from count is =

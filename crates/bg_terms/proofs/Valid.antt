@@ -55,21 +55,21 @@ no_any test (y ∷ ys) none x (there m) = no_any test ys (second (test y) (list_
     second true b e = absurd cc
     second false b e = e
 
-inner_apart : (f g : Big) → inner_meets f g ≡ false → InnerApart f g
+pub inner_apart : (f g : Big) → inner_meets f g ≡ false → InnerApart f g
 inner_apart f g none =
     record {
       inner_apart = All-from_members (λ (row : InnerRow). is_some (inner_of f.inner row.name) ≡ false) g.inner
           (no_any (λ (row : InnerRow). is_some (inner_of f.inner row.name)) g.inner none);
     }
 
-outer_apart : (f g : Big) → outer_meets f g ≡ false → OuterApart f g
+pub outer_apart : (f g : Big) → outer_meets f g ≡ false → OuterApart f g
 outer_apart f g none =
     record {
       outer_apart = All-from_members (λ (name : Name). is_some (outer_of f.outer name) ≡ false) g.outer
           (no_any (λ (name : Name). is_some (outer_of f.outer name)) g.outer none);
     }
 
-set_up : (names : List Name) → IsStrictlySortedBy name_cmp (set_of name_cmp names)
+pub set_up : (names : List Name) → IsStrictlySortedBy name_cmp (set_of name_cmp names)
 set_up names = sorted_from_Ascending (set_of name_cmp names) (Ascending-set_of name_cmp_total same_name names)
 
 -- ---- numbers that are apart
@@ -111,12 +111,12 @@ wide_valid : (at width : ℕ) (big found : Big) → wide at width big ≡ Ok fou
 wide_valid at width big found is valid = subst IsValid (ok_same (untested (nat_lt 65536 width) (Ok big) _ found is)) valid
 
 -- what an Ok of a nesting says
-record Nests (f g whole : Big) : Type 0 where
-  no_inner : f.inner ≡ []
-  widths : g.regions ≡ length f.sites
-  is : nest f g ≡ whole
+pub record Nests (f g whole : Big) : Type 0 where
+  pub no_inner : f.inner ≡ []
+  pub widths : g.regions ≡ length f.sites
+  pub is : nest f g ≡ whole
 
-nests : (at : ℕ) (is_atom : Bool) (f g whole : Big) → nested at is_atom f g ≡ Ok whole → Nests f g whole
+pub nests : (at : ℕ) (is_atom : Bool) (f g whole : Big) → nested at is_atom f g ≡ Ok whole → Nests f g whole
 nests at is_atom f g whole made =
     by _ _ _ is_atom (length f.inner == 0) (g.regions == length f.sites) refl refl made
   where
@@ -156,7 +156,7 @@ product_valid merge_product at f g whole made f_valid g_valid apart = by _ (inne
     by r false ae is = subst IsValid (ok_same is) (merge_valid f g f_valid g_valid apart (inner_apart f g ae))
 
 -- the values of two operands, one after the other, have no node and no edge in common
-apart_values : (depth : ℕ) (t u : Term) (c after last : Reached) (f g : Big) → value depth t c ≡ Ok (f, after) → value depth u after ≡ Ok (g, last)
+pub apart_values : (depth : ℕ) (t u : Term) (c after last : Reached) (f g : Big) → value depth t c ≡ Ok (f, after) → value depth u after ≡ Ok (g, last)
     → SupportsApart f g
 apart_values depth t u c after last f g first second =
     let f_nodes = numbered depth t c after f first in

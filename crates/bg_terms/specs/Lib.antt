@@ -4,3 +4,6 @@ pub mod Expansion
 pub mod Values
 pub mod Numbering
 pub mod Trees
+pub mod Order
+pub mod Arities
+pub mod Closures

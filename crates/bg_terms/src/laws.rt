@@ -1,12 +1,17 @@
 //! Laws of expressions. A call does nothing.
-ghost use Rattle.std.specs.Prelude.{◌≡◌, ℕ, List, Ok};
+ghost use Rattle.std.specs.Prelude.{◌≡◌, ◌+◌, ◌++◌, ℕ, List, Ok};
 ghost use Rattle.bg_base.specs.declared.big.Big.{Big};
 ghost use Rattle.bg_base.specs.declared.labels.Value.{Value};
-ghost use Rattle.bg_base.specs.Bigraph.{IsValid};
+ghost use Rattle.bg_base.specs.Bigraph.{IsValid, IsValidUnder};
+ghost use Rattle.bg_base.specs.Signatures.{IsSignature};
+ghost use Rattle.bg_terms.specs.Arities.{HaveArities, AreOneByLabel};
 ghost use Rattle.bg_terms.specs.Expressions.{Expression};
 ghost use Rattle.bg_terms.specs.Expansion.{Shape, Meaning, expand, HasNoReference};
+ghost use Rattle.bg_terms.specs.Closures.{StandsBehind, IsEvaluatedAt};
+ghost use Rattle.bg_terms.specs.Terms as terms;
 ghost use Rattle.bg_terms.specs.Terms.{Term};
 ghost use Rattle.bg_terms.specs.Values.{Reached, value};
+ghost use Rattle.bg_terms.specs.Order.{controls_of, AreInOrder};
 ghost use Rattle.bg_terms.specs.Numbering.{symbols, closures, AreNumbered, AreEdgesWithin};
 
 /// The nodes of what a term comes to have the numbers in a row from the first that is free, as many as the term has control
@@ -23,9 +28,34 @@ pub fn edges_lie_within_the_closures()
         → AreEdgesWithin before.edges (closures term) big after }
 {}
 
+/// The nodes of what a term comes to stand in the order of its control symbols: looked up in the signature reached, their
+/// labels are, row by row, those of the symbols. That signature begins with the one before.
+pub fn nodes_stand_in_the_order_of_the_text()
+    ensures { (depth : ℕ) (term : Term) (before after : Reached) (big : Big) → value depth term before ≡ Ok (big, after)
+        → AreInOrder before.signature (controls_of term) big after.signature }
+{}
+
+/// A closure before which `count` others begin in the order of the text takes the edge number that lies so many behind the
+/// first that is free: there it is evaluated, and `value` gives a closure the first free number.
+pub fn closures_take_edge_numbers_in_the_order_of_the_text()
+    ensures { (depth : ℕ) (term : Term) (before after : Reached) (big : Big) → value depth term before ≡ Ok (big, after)
+        → (count at : ℕ) (word : List ℕ) (inside : Term) → StandsBehind (terms.closure at word inside) count term
+        → IsEvaluatedAt (terms.closure at word inside) (before.edges + count) }
+{}
+
 /// What a term comes to is a valid bigraph.
 pub fn values_are_valid()
     ensures { (depth : ℕ) (term : Term) (before after : Reached) (big : Big) → value depth term before ≡ Ok (big, after) → IsValid big }
+{}
+
+/// Where each control symbol has as many names as its control has ports, at most 16, and controls with the same label are
+/// the same control, in the signature before and in the term: what the term comes to is valid under the signature reached,
+/// which is a signature where the one before is.
+pub fn values_fit_the_signature_reached()
+    ensures fits { (depth : ℕ) (term : Term) (before after : Reached) (big : Big) → value depth term before ≡ Ok (big, after)
+        → IsSignature before.signature → HaveArities term → AreOneByLabel (before.signature ++ controls_of term) → IsValidUnder after.signature big }
+    ensures signature { (depth : ℕ) (term : Term) (before after : Reached) (big : Big) → value depth term before ≡ Ok (big, after)
+        → IsSignature before.signature → HaveArities term → AreOneByLabel (before.signature ++ controls_of term) → IsSignature after.signature }
 {}
 
 /// An expression without references expands to one term, whatever bigraphs are defined.

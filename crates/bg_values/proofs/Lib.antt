@@ -3,4 +3,5 @@ mod Words
 mod Items
 pub mod Partly
 pub mod Gathering
-pub mod Spaces
+pub mod Ranges
+mod Told

@@ -8,7 +8,7 @@ use Rattle.bg_values.specs.declared.formula.Step.TheVariants as steps
 use Rattle.bg_values.specs.declared.refusal.Refusal.{Refusal}
 use Rattle.bg_values.specs.declared.refusal.Stop.{Stop}
 use Rattle.bg_values.specs.declared.refusal.Cause.TheVariants.{UnknownName}
-use Rattle.bg_values.specs.Arithmetic.{Formula, whole, words, name, negation, operation, value, number_of, negated, applied}
+use Rattle.bg_values.specs.Arithmetic.{Formula, whole, words, name, negation, operation, value, whole_of, negated, applied}
 use Rattle.bg_values.specs.Machine.{code_of, run, step, top, put}
 use Rattle.bg_values.specs.declared.refusal.Stop.TheVariants as refusals
 use Rattle.bg_values.specs.Outcome.{◌>>=◌, there_or, Stops}
@@ -51,8 +51,8 @@ negated_go env at (Err e) stack = refl
 
 negation_go : (env : List Value) (at operand : ℕ) (r : Result Value Refusal) (stack : List Value)
     → onto r stack >>= run env (steps.Negate at operand ∷ [])
-    ≡ onto (r >>= λ v. number_of operand v >>= λ x. negated at x >>= λ z. Ok (Int z)) stack
-negation_go env at operand (Ok v) stack = negated_go env at (number_of operand v) stack
+    ≡ onto (r >>= λ v. whole_of operand v >>= λ x. negated at x >>= λ z. Ok (Int z)) stack
+negation_go env at operand (Ok v) stack = negated_go env at (whole_of operand v) stack
 negation_go env at operand (Err e) stack = refl
 
 second_go : (env : List Value) (operator : Operator) (at : ℕ) (x : ℤ) (n : Result ℤ Refusal) (stack : List Value)
@@ -70,11 +70,11 @@ first_go env operator at (Err e) n stack = refl
 -- what an operation of these two values comes to
 abbrev outcome : Operator → ℕ → ℕ → ℕ → Value → Value → Result Value Refusal
 outcome operator at left right v w =
-    number_of left v >>= λ x. number_of right w >>= λ y. applied operator at x y >>= λ z. Ok (Int z)
+    whole_of left v >>= λ x. whole_of right w >>= λ y. applied operator at x y >>= λ z. Ok (Int z)
 
 right_go : (env : List Value) (operator : Operator) (at left right : ℕ) (v : Value) (s : Result Value Refusal) (stack : List Value)
     → onto s (v ∷ stack) >>= run env (steps.Apply operator at left right ∷ []) ≡ onto (s >>= outcome operator at left right v) stack
-right_go env operator at left right v (Ok w) stack = first_go env operator at (number_of left v) (number_of right w) stack
+right_go env operator at left right v (Ok w) stack = first_go env operator at (whole_of left v) (whole_of right w) stack
 right_go env operator at left right v (Err e) stack = refl
 
 left_go : (env : List Value) (operator : Operator) (at left right : ℕ) (r s : Result Value Refusal) (code : List Step) (stack : List Value)

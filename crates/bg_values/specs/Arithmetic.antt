@@ -32,10 +32,10 @@ applied Subtract at x y = ranged at (x -ℤ y)
 applied Multiply at x y = ranged at (x *ℤ y)
 applied Divide at x y = if int_eq y (pos 0) then refused ZeroDivisor at else ranged at (int_div x y)
 
--- the number that an operand is, whose first token stands there
-abbrev pub number_of : ℕ → Value → Result ℤ Refusal
-number_of first (Int z) = Ok z
-number_of first (Words text) = refused WrongKind first
+-- the whole number that an operand is, whose first token stands there
+abbrev pub whole_of : ℕ → Value → Result ℤ Refusal
+whole_of first (Int z) = Ok z
+whole_of first (Words text) = refused WrongKind first
 
 -- what a formula comes to, where the visible names have these values; operands go from left to right, then the operator
 abbrev pub value : List Value → Formula → Result Value Refusal
@@ -43,7 +43,7 @@ value env (whole z) = Ok (Int z)
 value env (words text) = Ok (Words text)
 value env (name at number) = there_or UnknownName at (slice_get env number)
 value env (negation at first f) =
-    value env f >>= λ v. number_of first v >>= λ x. negated at x >>= λ z. Ok (Int z)
+    value env f >>= λ v. whole_of first v >>= λ x. negated at x >>= λ z. Ok (Int z)
 value env (operation operator at first f second g) =
-    value env f >>= λ v. value env g >>= λ w. number_of first v >>= λ x. number_of second w >>= λ y.
+    value env f >>= λ v. value env g >>= λ w. whole_of first v >>= λ x. whole_of second w >>= λ y.
     applied operator at x y >>= λ z. Ok (Int z)

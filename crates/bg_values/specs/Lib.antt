@@ -1,5 +1,6 @@
 pub mod Stacks
 pub mod Outcome
+pub mod Codes
 pub mod Arithmetic
 pub mod Machine
 pub mod Names

@@ -8,7 +8,7 @@ use Rattle.bg_values.specs.declared.formula.Step.TheVariants.{Whole, Words, Name
 use Rattle.bg_values.specs.declared.formula.Formula.{Formula as Code}
 use Rattle.bg_values.specs.declared.refusal.Refusal.{Refusal}
 use Rattle.bg_values.specs.declared.refusal.Cause.TheVariants.{Unexpected, UnknownName}
-use Rattle.bg_values.specs.Arithmetic.{Formula, whole, words, name, negation, operation, number_of, negated, applied}
+use Rattle.bg_values.specs.Arithmetic.{Formula, whole, words, name, negation, operation, whole_of, negated, applied}
 use Rattle.bg_values.specs.Outcome.{◌>>=◌, there_or}
 use Rattle.bg_values.specs.Stacks.{first, rest}
 
@@ -41,11 +41,11 @@ put_name env at number stack = named env at number >>= λ v. put v stack
 
 abbrev pub negate : ℕ → ℕ → List Value → Result (List Value) Refusal
 negate at operand stack =
-    top stack >>= λ v. number_of operand v >>= λ x. negated at x >>= λ z. put (values.Int z) (below stack)
+    top stack >>= λ v. whole_of operand v >>= λ x. negated at x >>= λ z. put (values.Int z) (below stack)
 
 abbrev pub apply : Operator → ℕ → ℕ → ℕ → List Value → Result (List Value) Refusal
 apply operator at left right stack =
-    top stack >>= λ w. top (below stack) >>= λ v. number_of left v >>= λ x. number_of right w >>= λ y.
+    top stack >>= λ w. top (below stack) >>= λ v. whole_of left v >>= λ x. whole_of right w >>= λ y.
     applied operator at x y >>= λ z. put (values.Int z) (below (below stack))
 
 abbrev pub step : List Value → Step → List Value → Result (List Value) Refusal

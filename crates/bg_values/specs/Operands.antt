@@ -10,7 +10,7 @@ use Rattle.bg_values.specs.declared.formula.Step.{Step}
 use Rattle.bg_values.specs.declared.operands.Operand.{Operand as Code}
 use Rattle.bg_values.specs.declared.refusal.Refusal.{Refusal}
 use Rattle.bg_values.specs.declared.refusal.Stop.{Stop}
-use Rattle.bg_values.specs.Arithmetic.{Formula, value, number_of}
+use Rattle.bg_values.specs.Arithmetic.{Formula, value, whole_of}
 use Rattle.bg_values.specs.Machine.{code_of}
 use Rattle.bg_values.specs.Outcome.{◌>>=◌, Stops}
 use Rattle.bg_values.specs.Reading.{x_read}
@@ -46,7 +46,7 @@ values env = each (λ f. value env f.1)
 
 -- the number that a formula comes to
 abbrev pub number : List Value → Operand → Result Value Refusal
-number env f = value env f.1 >>= λ v. number_of f.0 v >>= λ z. Ok (Int z)
+number env f = value env f.1 >>= λ v. whole_of f.0 v >>= λ z. Ok (Int z)
 
 -- the numbers that the formulas come to
 abbrev pub numbers : List Value → List Operand → Result (List Value) Refusal

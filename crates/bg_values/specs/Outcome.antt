@@ -20,6 +20,11 @@ abbrev pub there_or : {A : Type 0} → Cause → ℕ → Option A → Result A R
 there_or cause token (Some x) = Ok x
 there_or cause token None = refused cause token
 
+-- the value or the refusal, as a call tells it that takes no memory
+abbrev pub told : {A : Type 0} → Result A Refusal → Result A Stop
+told (Ok x) = Ok x
+told (Err refusal) = Err (Refused refusal)
+
 -- a call that stopped was to refuse so, or found no memory
 abbrev pub Stops : {A : Type 0} → Stop → Result A Refusal → Type 0
 Stops (Refused refusal) wanted = wanted ≡ Err refusal

@@ -1,5 +1,6 @@
 -- The values of a parameter.
-use Rattle.std.specs.Prelude.{ℕ, zero, suc, ℤ, pos, negsuc, ◌+ℤ◌, int_lt, nat_lt, Bool, ◌||◌, if◌then◌else◌, List, [], ◌∷◌, map, length, Option, Some, None, Result, Ok}
+use Rattle.std.specs.Prelude.{ℕ, suc, ℤ, pos, ◌+ℤ◌, ◌-ℤ◌, ◌*ℤ◌, int_div, nat_abs, int_lt, nat_lt, Bool, ◌||◌, if◌then◌else◌, List, [], ◌∷◌, map, length, Result, Ok}
+use Rattle.bg_base.specs.Elementary.{counted}
 use Rattle.bg_base.specs.declared.labels.Value.{Value}
 use Rattle.bg_base.specs.declared.labels.Value.TheVariants.{Int, Words}
 use Rattle.bg_syntax.specs.declared.tree.arithmetic.SynX.{SynX}
@@ -14,7 +15,7 @@ use Rattle.bg_syntax.specs.declared.tree.statements.SynMoreTextItem.{SynMoreText
 use Rattle.bg_values.specs.declared.refusal.LimitWord.TheVariants.{Values}
 use Rattle.bg_values.specs.declared.refusal.Refusal.{Refusal}
 use Rattle.bg_values.specs.declared.refusal.Cause.TheVariants.{TooLarge, EmptyRange}
-use Rattle.bg_values.specs.Arithmetic.{value, number_of}
+use Rattle.bg_values.specs.Arithmetic.{value, whole_of}
 use Rattle.bg_values.specs.Operands.{Operand, operand_read, operands_read, trees, numbers}
 use Rattle.bg_values.specs.Outcome.{◌>>=◌, refused}
 use Rattle.bg_values.specs.Reading.{text_at}
@@ -28,42 +29,38 @@ few name values = if nat_lt 4096 (length values) then refused (TooLarge Values) 
 abbrev pub listed : ScopeParts → ℕ → SynX → List SynMoreXItem → Result (List Value) Refusal
 listed scope name first more = operands_read scope (trees first more) >>= λ fs. numbers [] fs >>= few name
 
--- the number, where it is one of 64 bits with sign
-abbrev pub small : ℤ → Option ℤ
-small z = if int_lt z (negsuc 9223372036854775807) || int_lt (pos 9223372036854775807) z then None else Some z
-
-abbrev pub not_above : ℤ → Option ℤ → Option ℤ
-not_above b (Some z) = if int_lt b z then None else Some z
-not_above b None = None
-
--- the next number of a range, where it is one of 64 bits and not above the end
-abbrev pub next : ℤ → ℤ → ℤ → Option ℤ
-next s b a = not_above b (small (a +ℤ s))
-
--- the numbers of a range from one on, but no more than so many
-unfoldable pub spaced : ℕ → ℤ → ℤ → Option ℤ → List Value
-spaced zero s b from = []
-spaced (suc most) s b None = []
-spaced (suc most) s b (Some a) = Int a ∷ spaced most s b (next s b a)
-
 -- the step is below 1, or the range begins behind its end
 abbrev pub is_empty : ℤ → ℤ → ℤ → Bool
 is_empty a s b = int_lt s (pos 1) || int_lt b a
 
--- a, a + s, a + 2s and so on up to b; the bracket is that of the range
+-- how many steps go from a towards b and not beyond
+abbrev pub steps : ℤ → ℤ → ℤ → ℕ
+steps a s b = nat_abs (int_div (b -ℤ a) s)
+
+-- how many numbers a range has that is not empty
+abbrev pub count : ℤ → ℤ → ℤ → ℕ
+count a s b = suc (steps a s b)
+
+-- the number after so many steps
+abbrev pub number_after : ℤ → ℤ → ℕ → Value
+number_after a s i = Int (a +ℤ (pos i *ℤ s))
+
+-- a, a + s, a + 2s and so on up to b, counted before any is made; the bracket is that of the range
 abbrev pub range : ℕ → ℕ → ℤ → ℤ → ℤ → Result (List Value) Refusal
 range name bracket a s b =
-    if is_empty a s b then refused EmptyRange bracket else few name (spaced 4097 s b (Some a))
+    if is_empty a s b then refused EmptyRange bracket
+    else if nat_lt 4096 (count a s b) then refused (TooLarge Values) name
+    else Ok (map (number_after a s) (counted 0 (count a s b)))
 
 -- a range from a on, of which these values were found: each is a number; an operand stands behind its first token
 abbrev pub numbered_range : ℕ → ℕ → ℤ → ℕ → Value → ℕ → Value → Result (List Value) Refusal
 numbered_range name bracket a second v third w =
-    number_of second v >>= λ s. number_of third w >>= λ b. range name bracket a s b
+    whole_of second v >>= λ s. whole_of third w >>= λ b. range name bracket a s b
 
 abbrev pub evaluated_range : ℕ → ℕ → Operand → Operand → Operand → Result (List Value) Refusal
 evaluated_range name bracket f g h =
     value [] f.1 >>= λ u. value [] g.1 >>= λ v. value [] h.1 >>= λ w.
-    number_of f.0 u >>= λ a. numbered_range name bracket a g.0 v h.0 w
+    whole_of f.0 u >>= λ a. numbered_range name bracket a g.0 v h.0 w
 
 -- a range: its three parts, what they come to, then that each is a number
 abbrev pub ranged : ScopeParts → ℕ → ℕ → SynX → SynX → SynX → Result (List Value) Refusal
@@ -96,7 +93,15 @@ abbrev pub name_token : SynParam → ℕ
 name_token (params.Way1 word name equals set end) = name
 name_token (params.Way2 word name equals set end) = name
 
--- the values of a parameter, repeats kept
+-- the values that a parameter says in a scope, repeats kept
+abbrev pub values_read : ScopeParts → SynParam → Result (List Value) Refusal
+values_read scope (params.Way1 word name equals set end) = int_values scope name set
+values_read scope (params.Way2 word name equals set end) = text_values scope name set
+
+-- the same text and tokens, where no name is visible
+abbrev pub without_names : ScopeParts → ScopeParts
+without_names scope = record { bytes = scope.bytes; tokens = scope.tokens; names = [] }
+
+-- the values of a parameter; no name is visible in them
 abbrev pub parameter_values : ScopeParts → SynParam → Result (List Value) Refusal
-parameter_values scope (params.Way1 word name equals set end) = int_values scope name set
-parameter_values scope (params.Way2 word name equals set end) = text_values scope name set
+parameter_values scope parameter = values_read (without_names scope) parameter

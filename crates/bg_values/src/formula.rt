@@ -3,7 +3,7 @@ ghost use Rattle.std.specs.Prelude.{◌≡◌, slice_get};
 ghost use Rattle.std.specs.Option.{option_copied};
 ghost use Rattle.bg_values.specs.Arithmetic as definition;
 ghost use Rattle.bg_values.specs.Machine as machine;
-ghost use Rattle.bg_values.specs.Outcome.{Gives, Goes};
+ghost use Rattle.bg_values.specs.Outcome.{Gives, Goes, told};
 
 use crate::arithmetic;
 use crate::refusal::{Cause, Stop};
@@ -158,7 +158,7 @@ fn negate(stack: &mut Stack<Value>, at: u32, operand: u32) -> Result<(), Stop>
     ensures { Goes result stack.new (machine.negate at operand stack.old) }
 {
     let value = top(stack)?;
-    let number = arithmetic::negate(at, number_of(operand, &value)?)?;
+    let number = arithmetic::negate(at, whole_of(operand, &value)?)?;
     put(stack, Value::Int(number))
 }
 
@@ -173,15 +173,15 @@ fn apply(
 {
     let second = top(stack)?;
     let first = top(stack)?;
-    let x = number_of(left, &first)?;
-    let y = number_of(right, &second)?;
+    let x = whole_of(left, &first)?;
+    let y = whole_of(right, &second)?;
     let number = arithmetic::apply(operator, at, x, y)?;
     put(stack, Value::Int(number))
 }
 
-/// The number that the value is, the first token of whose formula stands there.
-pub(crate) fn number_of(token: u32, value: &Value) -> Result<i64, Stop>
-    ensures { Gives result (definition.number_of token value.now) }
+/// The whole number that the value is, the first token of whose formula stands there.
+pub(crate) fn whole_of(token: u32, value: &Value) -> Result<i64, Stop>
+    ensures { result ≡ told (definition.whole_of token value.now) }
 {
     match value {
         Value::Int(number) => Ok(*number),

@@ -3,7 +3,7 @@ ghost use Rattle.std.specs.Prelude.{◌≡◌, ◌∷◌, [], List, map};
 ghost use Rattle.bg_values.specs.Operands as definition;
 ghost use Rattle.bg_values.specs.Outcome.{Gives};
 
-use crate::formula::{Formula, number_of};
+use crate::formula::{Formula, whole_of};
 use crate::reading::{first_of_x, formula_of};
 use crate::refusal::Stop;
 use crate::scope::Scope;
@@ -103,6 +103,6 @@ fn evaluate_number(alloc: Global, operand: &Operand, env: &[Value]) -> Result<Va
     ensures { (f : definition.Operand) → definition.shown operand.now ≡ definition.coded f → Gives result (definition.number env.now f) }
 {
     let value = operand.formula.evaluate(alloc, env)?;
-    let number = number_of(operand.first, &value)?;
+    let number = whole_of(operand.first, &value)?;
     Ok(Value::Int(number))
 }

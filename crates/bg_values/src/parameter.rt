@@ -1,10 +1,12 @@
 //! The values of a parameter.
-ghost use Rattle.std.specs.Prelude.{◌≡◌, [], ◌∷◌, ◌++◌, ℕ, suc, IfOk, OnOk, Some};
+ghost use Rattle.std.specs.Prelude.{◌≡◌, ◌<◌, ◌∷◌, pos, ◌+ℤ◌, ◌-ℤ◌, ◌*ℤ◌, false, map, IfOk};
+ghost use Rattle.bg_base.specs.Elementary.{counted};
 ghost use Rattle.bg_values.specs.Operands as operands;
 ghost use Rattle.bg_values.specs.Outcome.{Gives};
 ghost use Rattle.bg_values.specs.Parameters as definition;
 
-use crate::formula::number_of;
+use crate::formula::whole_of;
+use crate::names::NameTable;
 use crate::operands::{Operand, numbers_of, operand_of, operands_of};
 use crate::reading::text_at;
 use crate::refusal::{Cause, LimitWord, Stop};
@@ -19,12 +21,25 @@ use std::alloc::Global;
 const MOST_VALUES: usize = 4096;
 
 /// The values of a parameter, in order, repeats kept: those of a list, or the numbers of a range, or one value. Refuses with
-/// the first cause: a name, since none is visible in them (`scope` has none); then item by item of a list what arithmetic
-/// refuses or a text for a number, and of a range the values of its three parts, a text for a number, a step below 1 or a
-/// range that begins behind its end; last more than 4,096 values. Linear in the tree and the values; a range costs 4,097
-/// turns, however long it is.
+/// the first cause: a name, since none is visible in them, whatever names `scope` has; then item by item of a list what
+/// arithmetic refuses or a text for a number, and of a range the values of its three parts, a text for a number, a step
+/// below 1 or a range that begins behind its end; last more than 4,096 values. Linear in the tree and the values; the
+/// numbers of a range are counted before any is made.
 pub fn parameter_values(alloc: Global, scope: &Scope, tree: &SynParam) -> Result<Vec<Value>, Stop>
     ensures { operands.GivesList result (definition.parameter_values scope.now tree.now) }
+{
+    let nothing: NameTable<()> = NameTable::new(alloc);
+    let closed = Scope {
+        bytes: scope.bytes,
+        tokens: scope.tokens,
+        names: &nothing,
+    };
+    values_read(alloc, &closed, tree)
+}
+
+/// The values that a parameter says in the scope.
+fn values_read(alloc: Global, scope: &Scope, tree: &SynParam) -> Result<Vec<Value>, Stop>
+    ensures { operands.GivesList result (definition.values_read scope.now tree.now) }
 {
     match tree {
         SynParam::Way1(_, name, _, set, _) => int_values(alloc, scope, *name, set),
@@ -112,7 +127,7 @@ fn evaluated_range(
     let first = from.formula.evaluate(alloc, &[])?;
     let second = step.formula.evaluate(alloc, &[])?;
     let third = to.formula.evaluate(alloc, &[])?;
-    let a = number_of(from.first, &first)?;
+    let a = whole_of(from.first, &first)?;
     numbered_range(
         alloc, name, bracket, a, step.first, &second, to.first, &third,
     )
@@ -130,31 +145,29 @@ fn numbered_range(
 ) -> Result<Vec<Value>, Stop>
     ensures { operands.GivesList result (definition.numbered_range name bracket a second step.now third to.now) }
 {
-    let s = number_of(second, step)?;
-    let b = number_of(third, to)?;
+    let s = whole_of(second, step)?;
+    let b = whole_of(third, to)?;
     range(alloc, name, bracket, a, s, b)
 }
 
-/// The numbers a, a + s, a + 2s and so on up to b.
+/// The numbers a, a + s, a + 2s and so on up to b. They are counted before any is made.
 fn range(alloc: Global, name: u32, bracket: u32, a: i64, s: i64, b: i64) -> Result<Vec<Value>, Stop>
     ensures { operands.GivesList result (definition.range name bracket a s b) }
 {
     if is_empty(a, s, b) {
         return Err(Stop::refuse(Cause::EmptyRange, bracket));
     }
-    few_spaced(alloc, name, a, s, b)
-}
-
-fn few_spaced(alloc: Global, name: u32, a: i64, s: i64, b: i64) -> Result<Vec<Value>, Stop>
-    ensures { operands.GivesList result (definition.few name (definition.spaced 4097 s b (Some a))) }
-{
     let bounds = Bounds {
         first: a,
         step: s,
         end: b,
     };
-    let values = spaced(alloc, &bounds)?;
-    few(name, values)
+    let steps = steps_of(&bounds);
+    if steps >= MOST_VALUES as u128 {
+        return Err(Stop::refuse(Cause::TooLarge(LimitWord::Values), name));
+    }
+    let numbers = numbers_along(alloc, &bounds, steps as u32 + 1)?;
+    Ok(numbers)
 }
 
 /// Whether the step is below 1, or the range begins behind its end.
@@ -172,75 +185,50 @@ struct Bounds {
     end: i64,
 }
 
-/// The numbers of a range, but no more than one past the most.
-fn spaced(alloc: Global, bounds: &Bounds) -> Mem<Vec<Value>>
-    ensures { IfOk result (λ values. values.items ≡ definition.spaced 4097 bounds.now.step bounds.now.end (Some bounds.now.first)) }
+/// How many steps go from the first number towards the end and not beyond.
+fn steps_of(bounds: &Bounds) -> u128
+    requires { definition.is_empty bounds.now.first bounds.now.step bounds.now.end ≡ false }
+    ensures { result ≡ definition.steps bounds.now.first bounds.now.step bounds.now.end }
 {
-    let mut values = Vec::new(alloc);
-    let mut following = Some(bounds.first);
-    for turn in 0..4097u32 {
-        take_turn(bounds, &mut following, &mut values)?;
+    difference_of(bounds).unsigned_abs() / u128::from(bounds.step.unsigned_abs())
+}
+
+/// How far the end lies above the first number.
+fn difference_of(bounds: &Bounds) -> i128
+    ensures { result ≡ bounds.now.end -ℤ bounds.now.first }
+{
+    i128::from(bounds.end) - i128::from(bounds.first)
+}
+
+/// The numbers of a range that has so many.
+fn numbers_along(alloc: Global, bounds: &Bounds, count: u32) -> Mem<Vec<Value>>
+    requires filled { definition.is_empty bounds.now.first bounds.now.step bounds.now.end ≡ false }
+    requires counted { count ≡ definition.count bounds.now.first bounds.now.step bounds.now.end }
+    ensures { IfOk result (λ numbers. numbers.items ≡ map (definition.number_after bounds.now.first bounds.now.step) (counted 0 count)) }
+{
+    let mut numbers = Vec::new(alloc);
+    for steps in 0..count {
+        numbers.push(Value::Int(number_after(bounds, steps)))?;
     }
-    Ok(values)
+    Ok(numbers)
 }
 
-/// Adds the number that follows, where there is one, and finds the next.
-fn take_turn(bounds: &Bounds, following: &mut Option<i64>, values: &mut Vec<Value>) -> Mem<()>
-    ensures { OnOk result ((most : ℕ)
-        → values.old.items ++ definition.spaced (suc most) bounds.now.step bounds.now.end following.old
-        ≡ values.new.items ++ definition.spaced most bounds.now.step bounds.now.end following.new) }
+/// The number after so many steps, few enough not to go beyond the end.
+fn number_after(bounds: &Bounds, steps: u32) -> i64
+    requires filled { definition.is_empty bounds.now.first bounds.now.step bounds.now.end ≡ false }
+    requires within { steps < definition.count bounds.now.first bounds.now.step bounds.now.end }
+    ensures { Value.Int result ≡ definition.number_after bounds.now.first bounds.now.step steps }
 {
-    match &*following {
-        Some(value) => {
-            add(values, value)?;
-            *following = next(bounds, value);
-            Ok(())
-        }
-        None => Ok(()),
-    }
+    // The ends are read, so that the proof knows that 64 bits hold them and what lies between.
+    let _ends = (bounds.first, bounds.end);
+    number_beyond(bounds, steps) as i64
 }
 
-fn add(values: &mut Vec<Value>, number: &i64) -> Mem<()>
-    ensures { OnOk result (values.new.items ≡ values.old.items ++ Value.Int number.now ∷ []) }
+/// The number after so many steps, wherever it lies.
+fn number_beyond(bounds: &Bounds, steps: u32) -> i128
+    ensures { result ≡ bounds.now.first +ℤ (pos steps *ℤ bounds.now.step) }
 {
-    values.push(Value::Int(*number))?;
-    Ok(())
-}
-
-/// The next number of a range, where it is not above the end.
-fn next(bounds: &Bounds, value: &i64) -> Option<i64>
-    ensures { result ≡ definition.next bounds.now.step bounds.now.end value.now }
-{
-    let number = *value;
-    let step = bounds.step;
-    let end = bounds.end;
-    next_number(step, end, number)
-}
-
-fn next_number(step: i64, end: i64, value: i64) -> Option<i64>
-    ensures { result ≡ definition.next step end value }
-{
-    not_above(end, small(i128::from(value) + i128::from(step)))
-}
-
-fn not_above(b: i64, value: Option<i64>) -> Option<i64>
-    ensures { result ≡ definition.not_above b value }
-{
-    match value {
-        Some(value) => { if value > b { None } else { Some(value) } }
-        None => None,
-    }
-}
-
-/// The number, where 64 bits with sign hold it.
-fn small(value: i128) -> Option<i64>
-    ensures { result ≡ definition.small value }
-{
-    if value < i128::from(i64::MIN) || value > i128::from(i64::MAX) {
-        None
-    } else {
-        Some(value as i64)
-    }
+    i128::from(bounds.first) + i128::from(steps) * i128::from(bounds.step)
 }
 
 fn text_values(

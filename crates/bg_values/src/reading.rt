@@ -1,6 +1,6 @@
 //! From a tree of arithmetic to the steps of its formula.
 ghost use Rattle.std.specs.Prelude.{◌≡◌, map};
-ghost use Rattle.bg_values.specs.Outcome.{Gives, Goes};
+ghost use Rattle.bg_values.specs.Outcome.{Gives, Goes, told};
 ghost use Rattle.bg_values.specs.Reading as definition;
 ghost use Rattle.bg_values.specs.Lowering.{lowered, Extends, Reads};
 
@@ -25,7 +25,7 @@ pub fn formula_of(alloc: Global, scope: &Scope, tree: &SynX) -> Result<Formula, 
 
 /// The number that the token spells; 31 where it spells none. Linear in the token.
 pub fn number_at(scope: &Scope, token: u32) -> Result<i64, Stop>
-    ensures { Gives result (definition.number_at scope.now token) }
+    ensures { result ≡ told (definition.number_at scope.now token) }
 {
     match number_in(scope.spelling(token)) {
         Some(number) => Ok(number),
@@ -68,7 +68,7 @@ fn between(bytes: &[u8]) -> &[u8]
 
 /// The number of the visible name that the token spells.
 fn name_at(scope: &Scope, token: u32) -> Result<u32, Stop>
-    ensures { Gives result (definition.name_at scope.now token) }
+    ensures { result ≡ told (definition.name_at scope.now token) }
 {
     match scope.names.find(scope.spelling(token)) {
         Some(number) => Ok(number),

@@ -67,6 +67,40 @@ pub enum Cause {
     WrongKind,
 }
 
+impl Cause {
+    ghost use Rattle.std.specs.Prelude.{◌≡◌};
+    ghost use Rattle.bg_values.specs.Codes as codes;
+
+    /// The number of the cause, as commands write it.
+    pub fn code(self) -> u8
+        ensures { result ≡ codes.code self }
+    {
+        match self {
+            Cause::FacesDiffer => 11,
+            Cause::NamesMeet => 13,
+            Cause::InnerNamesMeet => 14,
+            Cause::WidthsDiffer => 15,
+            Cause::HasInnerNames => 17,
+            Cause::Unexpected => 31,
+            Cause::UnknownName => 41,
+            Cause::DuplicateName => 42,
+            Cause::WrongPorts => 43,
+            Cause::AtomicHasChild => 44,
+            Cause::WrongArguments => 45,
+            Cause::NotGround => 46,
+            Cause::SidesDiffer => 47,
+            Cause::BadMap => 48,
+            Cause::NotSolid(_) => 49,
+            Cause::NumberOverflow => 50,
+            Cause::ZeroDivisor => 51,
+            Cause::TooLarge(_) => 52,
+            Cause::NoBlock => 53,
+            Cause::EmptyRange => 54,
+            Cause::WrongKind => 55,
+        }
+    }
+}
+
 /// A refusal: why, and at which token, counted from 0; the number of tokens stands for the end of input.
 #[derive(Clone, Copy, Debug, PartialEq, Eq)]
 pub struct Refusal {

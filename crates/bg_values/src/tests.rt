@@ -235,3 +235,35 @@ fn finds_the_names_of_parameters(rt: HostRuntime) {
     assert_eq!(rt; name_tokens(rt.alloc(), text), Some((1, 10)));
     assert_eq!(rt; name_tokens(rt.alloc(), "int n = 1; ctrl K = 0;"), None);
 }
+
+#[test]
+fn no_name_is_visible_in_a_parameter(rt: HostRuntime) {
+    let mut names = NameTable::new(rt.alloc());
+    assert!(rt; names.add(rt.alloc(), b"x", ()) == Ok(true));
+    let text = "int n = x;";
+    assert!(rt;
+        read_parameter(rt.alloc(), text, &names, &[]) == Outcome::Refused(Cause::UnknownName, 3),
+        "{text}"
+    );
+}
+
+#[test]
+fn no_digits_spell_no_number(rt: HostRuntime) {
+    assert!(rt; crate::number::number_in(b"") == None);
+    assert!(rt; crate::number::number_in(b"007") == Some(7));
+    let names = NameTable::new(rt.alloc());
+    let scope = Scope {
+        bytes: b"",
+        tokens: &[],
+        names: &names,
+    };
+    assert!(rt; number_at(&scope, 0) == Err(Stop::refuse(Cause::Unexpected, 0)));
+}
+
+#[test]
+fn causes_have_numbers(rt: HostRuntime) {
+    assert!(rt; Cause::FacesDiffer.code() == 11);
+    assert!(rt; Cause::UnknownName.code() == 41);
+    assert!(rt; Cause::TooLarge(LimitWord::Values).code() == 52);
+    assert!(rt; Cause::WrongKind.code() == 55);
+}
