@@ -12,7 +12,8 @@ use Rattle.bg_base.specs.Order.{name_cmp}
 use Rattle.bg_base.specs.Composition.{compose, faces_agree}
 use Rattle.bg_base.specs.Elementary.{identity, merger, idle, barren, empty, ion, atom}
 use Rattle.bg_base.specs.Products.{tensor, parallel, merge}
-use Rattle.bg_terms.specs.Expressions.{Product, composition, tensor_product, parallel_product, merge_product}
+use Rattle.bg_terms.specs.declared.shape.Product.{Product}
+use Rattle.bg_terms.specs.declared.shape.Product.TheVariants.{Composition, Tensor, Parallel, Merge}
 use Rattle.bg_terms.specs.Terms as terms
 use Rattle.bg_terms.specs.Terms.{Term}
 use Rattle.bg_terms.specs.Values.{Reached, value, tallied, entered, within, single, wide, plain_names, nested, product_of, closed, inner_meets, outer_meets}
@@ -60,13 +61,13 @@ joined f g whole from count more after last first second cases edge m =
 
 product_edges : (kind : Product) (at : ℕ) (f g whole : Big) → product_of kind at f g ≡ Ok whole
     → (edge : ℕ) → Mem edge whole.edges → Mem edge f.edges ⊎ Mem edge g.edges
-product_edges composition at f g whole is edge m =
+product_edges Composition at f g whole is edge m =
     compose_edges f g edge (subst (λ (b : Big). Mem edge b.edges) (sym (ok_same (tested (faces_agree f g) (Ok (compose f g)) _ whole is))) m)
-product_edges tensor_product at f g whole is edge m =
+product_edges Tensor at f g whole is edge m =
     tensor_edges f g edge (subst (λ (b : Big). Mem edge b.edges) (sym (ok_same (untested (inner_meets f g || outer_meets f g) (Ok (tensor f g)) _ whole is))) m)
-product_edges parallel_product at f g whole is edge m =
+product_edges Parallel at f g whole is edge m =
     parallel_edges f g edge (subst (λ (b : Big). Mem edge b.edges) (sym (ok_same (untested (inner_meets f g) (Ok (parallel f g)) _ whole is))) m)
-product_edges merge_product at f g whole is edge m =
+product_edges Merge at f g whole is edge m =
     merge_edges f g edge (subst (λ (b : Big). Mem edge b.edges) (sym (ok_same (untested (inner_meets f g) (Ok (merge f g)) _ whole is))) m)
 
 pub within_closures : (depth : ℕ) (t : Term) (c d : Reached) (big : Big) → value depth t c ≡ Ok (big, d) → AreEdgesWithin c.edges (closures t) big d

@@ -10,7 +10,7 @@ use Rattle.bg_base.specs.Elementary.{barren, ion, atom}
 use Rattle.bg_base.specs.Products.{parallel, merge, close}
 use Rattle.bg_values.specs.declared.refusal.Cause.TheVariants.{AtomicHasChild, WidthsDiffer}
 use Rattle.bg_values.specs.Outcome.{refused}
-use Rattle.bg_terms.specs.Expressions.{merge_product}
+use Rattle.bg_terms.specs.declared.shape.Product.TheVariants.{Merge}
 use Rattle.bg_terms.specs.Terms as terms
 use Rattle.bg_terms.specs.Terms.{Term}
 use Rattle.bg_terms.specs.Values.{Come, Reached, value}
@@ -39,7 +39,7 @@ brackets_dot = refl
 
 -- `A | R`: node 0 is an agent and node 1 a room with a site, both in one region
 beside_each_other : Come
-beside_each_other = value 0 (terms.product merge_product 1 (terms.node 0 agent []) (terms.node 2 room [])) start
+beside_each_other = value 0 (terms.product Merge 1 (terms.node 0 agent []) (terms.node 2 room [])) start
 
 beside_is : beside_each_other ≡ Ok (
   record {

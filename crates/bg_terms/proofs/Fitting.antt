@@ -33,7 +33,8 @@ use Rattle.bg_algebra.proofs.Merged.{merge_valid_under}
 use Rattle.bg_algebra.proofs.Nested.{identity_valid_under, idle_valid_under, merger_valid_under, barren_valid_under, empty_valid_under, ion_valid_under, atom_valid_under, nest_valid_under}
 use Rattle.bg_values.specs.declared.refusal.Refusal.{Refusal}
 use Rattle.bg_terms.specs.Arities.{HaveArities, AreOneByLabel}
-use Rattle.bg_terms.specs.Expressions.{Product, composition, tensor_product, parallel_product, merge_product}
+use Rattle.bg_terms.specs.declared.shape.Product.{Product}
+use Rattle.bg_terms.specs.declared.shape.Product.TheVariants.{Composition, Tensor, Parallel, Merge}
 use Rattle.bg_terms.specs.Order.{controls_of}
 use Rattle.bg_terms.specs.Terms as terms
 use Rattle.bg_terms.specs.Terms.{Term}
@@ -169,14 +170,14 @@ single_fits signature control number node words is ports = by control.kind refl
 
 product_fits : (signature : List Control) (kind : Product) (at : ℕ) (f g whole : Big) → product_of kind at f g ≡ Ok whole
     → IsValidUnder signature f → IsValidUnder signature g → SupportsApart f g → IsValidUnder signature whole
-product_fits signature composition at f g whole made f_fits g_fits apart = by _ (faces_agree f g) refl made
+product_fits signature Composition at f g whole made f_fits g_fits apart = by _ (faces_agree f g) refl made
   where
     by : (r : Refusal) (b : Bool) → faces_agree f g ≡ b → (if b then Ok (compose f g) else Err r) ≡ Ok whole → IsValidUnder signature whole
     by r true e is =
         subst (IsValidUnder signature) (ok_same is)
         (compose_valid_under f g (FacesAgree-from_test f g e) apart f_fits.valid g_fits.valid signature f_fits g_fits)
     by r false e is = absurd cc
-product_fits signature tensor_product at f g whole made f_fits g_fits apart = by _ (inner_meets f g) (outer_meets f g) refl refl made
+product_fits signature Tensor at f g whole made f_fits g_fits apart = by _ (inner_meets f g) (outer_meets f g) refl refl made
   where
     by : (r : Refusal) (a b : Bool) → inner_meets f g ≡ a → outer_meets f g ≡ b → (if a || b then Err r else Ok (tensor f g)) ≡ Ok whole
         → IsValidUnder signature whole
@@ -185,14 +186,14 @@ product_fits signature tensor_product at f g whole made f_fits g_fits apart = by
     by r false false ae be is =
         subst (IsValidUnder signature) (ok_same is)
         (tensor_valid_under f g f_fits.valid g_fits.valid apart (inner_apart f g ae) (outer_apart f g be) signature f_fits g_fits)
-product_fits signature parallel_product at f g whole made f_fits g_fits apart = by _ (inner_meets f g) refl made
+product_fits signature Parallel at f g whole made f_fits g_fits apart = by _ (inner_meets f g) refl made
   where
     by : (r : Refusal) (a : Bool) → inner_meets f g ≡ a → (if a then Err r else Ok (parallel f g)) ≡ Ok whole → IsValidUnder signature whole
     by r true ae is = absurd cc
     by r false ae is =
         subst (IsValidUnder signature) (ok_same is)
         (parallel_valid_under f g f_fits.valid g_fits.valid apart (inner_apart f g ae) signature f_fits g_fits)
-product_fits signature merge_product at f g whole made f_fits g_fits apart = by _ (inner_meets f g) refl made
+product_fits signature Merge at f g whole made f_fits g_fits apart = by _ (inner_meets f g) refl made
   where
     by : (r : Refusal) (a : Bool) → inner_meets f g ≡ a → (if a then Err r else Ok (merge f g)) ≡ Ok whole → IsValidUnder signature whole
     by r true ae is = absurd cc

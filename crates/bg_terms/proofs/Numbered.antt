@@ -14,7 +14,8 @@ use Rattle.bg_base.specs.Products.{nest, close}
 use Rattle.bg_base.specs.Translation.{node_numbers}
 use Rattle.bg_values.specs.declared.refusal.Refusal.{Refusal}
 use Rattle.bg_values.specs.Outcome.{◌>>=◌}
-use Rattle.bg_terms.specs.Expressions.{Product, composition, tensor_product, parallel_product, merge_product}
+use Rattle.bg_terms.specs.declared.shape.Product.{Product}
+use Rattle.bg_terms.specs.declared.shape.Product.TheVariants.{Composition, Tensor, Parallel, Merge}
 use Rattle.bg_terms.specs.Terms as terms
 use Rattle.bg_terms.specs.Terms.{Term}
 use Rattle.bg_terms.specs.Values.{Reached, value, tallied, entered, limited, within, single, wide, plain_names, nested, product_of, closed}
@@ -105,13 +106,13 @@ wide_numbers at width big found is none =
 product_numbers : (kind : Product) (at : ℕ) (f g whole : Big) (from count more : ℕ) → product_of kind at f g ≡ Ok whole
     → node_numbers f.nodes ≡ counted from count → node_numbers g.nodes ≡ counted (from + count) more
     → node_numbers whole.nodes ≡ counted from (count + more)
-product_numbers composition at f g whole from count more is first second =
+product_numbers Composition at f g whole from count more is first second =
     ap (λ (b : Big). node_numbers b.nodes) (sym (ok_same (tested _ _ _ _ is))) ∙ compose_numbers f g from count more first second
-product_numbers tensor_product at f g whole from count more is first second =
+product_numbers Tensor at f g whole from count more is first second =
     ap (λ (b : Big). node_numbers b.nodes) (sym (ok_same (untested _ _ _ _ is))) ∙ tensor_numbers f g from count more first second
-product_numbers parallel_product at f g whole from count more is first second =
+product_numbers Parallel at f g whole from count more is first second =
     ap (λ (b : Big). node_numbers b.nodes) (sym (ok_same (untested _ _ _ _ is))) ∙ parallel_numbers f g from count more first second
-product_numbers merge_product at f g whole from count more is first second =
+product_numbers Merge at f g whole from count more is first second =
     ap (λ (b : Big). node_numbers b.nodes) (sym (ok_same (untested _ _ _ _ is))) ∙ merge_numbers f g from count more first second
 
 both : (from count more : ℕ) (big whole : Big) (f g d : Reached) → f.nodes ≡ from + count → g.nodes ≡ f.nodes + more

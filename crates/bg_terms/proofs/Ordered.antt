@@ -21,7 +21,8 @@ use Rattle.bg_base.specs.Composition.{compose, row_through}
 use Rattle.bg_base.specs.Products.{tensor, parallel, merge, nest, close, row_beside, row_in_one, row_closed}
 use Rattle.bg_base.specs.Signatures.{number_of}
 use Rattle.bg_base.specs.Translation.{node_numbers}
-use Rattle.bg_terms.specs.Expressions.{Product, composition, tensor_product, parallel_product, merge_product}
+use Rattle.bg_terms.specs.declared.shape.Product.{Product}
+use Rattle.bg_terms.specs.declared.shape.Product.TheVariants.{Composition, Tensor, Parallel, Merge}
 use Rattle.bg_terms.specs.Terms as terms
 use Rattle.bg_terms.specs.Terms.{Term}
 use Rattle.bg_terms.specs.Values.{Reached, value, tallied, entered, entered_at, single, wide, plain_names, nested, product_of, closed}
@@ -122,13 +123,13 @@ closed_controls edge name big = by (is_some (outer_of big.outer name))
     by false = refl
 
 product_controls : (kind : Product) (at : ℕ) (f g whole : Big) (from count more : ℕ) → product_of kind at f g ≡ Ok whole → Follow f g whole from count more
-product_controls composition at f g whole from count more is first second =
+product_controls Composition at f g whole from count more is first second =
     ap (λ (b : Big). controls_in b.nodes) (sym (ok_same (tested _ _ _ _ is))) ∙ compose_controls f g from count more first second
-product_controls tensor_product at f g whole from count more is first second =
+product_controls Tensor at f g whole from count more is first second =
     ap (λ (b : Big). controls_in b.nodes) (sym (ok_same (untested _ _ _ _ is))) ∙ tensor_controls f g from count more first second
-product_controls parallel_product at f g whole from count more is first second =
+product_controls Parallel at f g whole from count more is first second =
     ap (λ (b : Big). controls_in b.nodes) (sym (ok_same (untested _ _ _ _ is))) ∙ parallel_controls f g from count more first second
-product_controls merge_product at f g whole from count more is first second =
+product_controls Merge at f g whole from count more is first second =
     ap (λ (b : Big). controls_in b.nodes) (sym (ok_same (untested _ _ _ _ is))) ∙ merge_controls f g from count more first second
 
 single_controls : (kind : Kind) (control number : ℕ) (names : List Name) → controls_in (single kind control number names).nodes ≡ control ∷ []

@@ -3,7 +3,8 @@ use Rattle.std.proofs.Common.{◌≡◌, List, refl, ap, ◌∙◌}
 use Rattle.bg_base.specs.declared.labels.Value.{Value}
 use Rattle.bg_terms.specs.Expressions.{Expression, node, reference, names, identity_of, merger_of, one, nothing, brackets, deeper, closure, nesting, product}
 use Rattle.bg_terms.specs.Terms as terms
-use Rattle.bg_terms.specs.Expansion.{Shape, Meaning, expand, HasNoReference}
+use Rattle.bg_terms.specs.declared.shape.Shape.{Shape}
+use Rattle.bg_terms.specs.Expansion.{Meaning, expand, HasNoReference}
 
 pub expands_alone : (shapes : List Shape) (meanings others : List Meaning) (env : List Value) (e : Expression) → HasNoReference e
     → expand shapes meanings env e ≡ expand shapes others env e

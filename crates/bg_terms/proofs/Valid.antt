@@ -32,7 +32,8 @@ use Rattle.bg_algebra.proofs.Changes.{close_valid}
 use Rattle.bg_algebra.proofs.Merged.{merge_valid}
 use Rattle.bg_algebra.proofs.Nested.{identity_valid, idle_valid, merger_valid, barren_valid_under, empty_valid_under, ion_valid, atom_valid, nest_valid}
 use Rattle.bg_values.specs.declared.refusal.Refusal.{Refusal}
-use Rattle.bg_terms.specs.Expressions.{Product, composition, tensor_product, parallel_product, merge_product}
+use Rattle.bg_terms.specs.declared.shape.Product.{Product}
+use Rattle.bg_terms.specs.declared.shape.Product.TheVariants.{Composition, Tensor, Parallel, Merge}
 use Rattle.bg_terms.specs.Terms as terms
 use Rattle.bg_terms.specs.Terms.{Term}
 use Rattle.bg_terms.specs.Values.{Reached, value, tallied, entered, single, wide, plain_names, nested, product_of, closed, inner_meets, outer_meets}
@@ -133,23 +134,23 @@ nests at is_atom f g whole made =
         record { no_inner = no_names f.inner (eqb-true (length f.inner) 0 ye); widths = eqb-true g.regions (length f.sites) ze; is = ok_same e }
 
 product_valid : (kind : Product) (at : ℕ) (f g whole : Big) → product_of kind at f g ≡ Ok whole → IsValid f → IsValid g → SupportsApart f g → IsValid whole
-product_valid composition at f g whole made f_valid g_valid apart = by _ (faces_agree f g) refl made
+product_valid Composition at f g whole made f_valid g_valid apart = by _ (faces_agree f g) refl made
   where
     by : (r : Refusal) (b : Bool) → faces_agree f g ≡ b → (if b then Ok (compose f g) else Err r) ≡ Ok whole → IsValid whole
     by r true e is = subst IsValid (ok_same is) (compose_valid f g (FacesAgree-from_test f g e) apart f_valid g_valid)
     by r false e is = absurd cc
-product_valid tensor_product at f g whole made f_valid g_valid apart = by _ (inner_meets f g) (outer_meets f g) refl refl made
+product_valid Tensor at f g whole made f_valid g_valid apart = by _ (inner_meets f g) (outer_meets f g) refl refl made
   where
     by : (r : Refusal) (a b : Bool) → inner_meets f g ≡ a → outer_meets f g ≡ b → (if a || b then Err r else Ok (tensor f g)) ≡ Ok whole → IsValid whole
     by r true b ae be is = absurd cc
     by r false true ae be is = absurd cc
     by r false false ae be is = subst IsValid (ok_same is) (tensor_valid f g f_valid g_valid apart (inner_apart f g ae) (outer_apart f g be))
-product_valid parallel_product at f g whole made f_valid g_valid apart = by _ (inner_meets f g) refl made
+product_valid Parallel at f g whole made f_valid g_valid apart = by _ (inner_meets f g) refl made
   where
     by : (r : Refusal) (a : Bool) → inner_meets f g ≡ a → (if a then Err r else Ok (parallel f g)) ≡ Ok whole → IsValid whole
     by r true ae is = absurd cc
     by r false ae is = subst IsValid (ok_same is) (parallel_valid f g f_valid g_valid apart (inner_apart f g ae))
-product_valid merge_product at f g whole made f_valid g_valid apart = by _ (inner_meets f g) refl made
+product_valid Merge at f g whole made f_valid g_valid apart = by _ (inner_meets f g) refl made
   where
     by : (r : Refusal) (a : Bool) → inner_meets f g ≡ a → (if a then Err r else Ok (merge f g)) ≡ Ok whole → IsValid whole
     by r true ae is = absurd cc

@@ -2,19 +2,13 @@
 use Rattle.std.specs.Prelude.{ℕ, List, [], ◌∷◌, ◌++◌, slice_get, Option, Some, None, Result, Ok, Err}
 use Rattle.bg_base.specs.declared.labels.Value.{Value}
 use Rattle.bg_base.specs.declared.signature.Control.{Control}
-use Rattle.bg_base.specs.declared.signature.Kind.{Kind}
+use Rattle.bg_terms.specs.declared.shape.Shape.{Shape}
 use Rattle.bg_values.specs.declared.refusal.Refusal.{Refusal}
 use Rattle.bg_values.specs.declared.refusal.Cause.TheVariants.{UnknownName}
 use Rattle.bg_values.specs.Operands.{values}
 use Rattle.bg_terms.specs.Expressions.{Expression, node, reference, names, identity_of, merger_of, one, nothing, brackets, deeper, closure, nesting, product}
 use Rattle.bg_terms.specs.Terms.{Term}
 use Rattle.bg_terms.specs.Terms as terms
-
--- a control as its statement defines it: its word, its arity and its kind; its arguments are yet to come
-pub record Shape : Type 0 where
-  pub word : List ℕ
-  pub arity : ℕ
-  pub kind : Kind
 
 -- the control of a shape with these arguments
 abbrev pub control_of : Shape → List Value → Control

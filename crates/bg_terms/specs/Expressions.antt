@@ -1,14 +1,8 @@
 -- Expressions of the model language, with their names looked up: a control and a definition are numbers, an argument is a
 -- formula. The first number of a form is its token: the first one, or the operator.
 use Rattle.std.specs.Prelude.{ℕ, Bool, List}
+use Rattle.bg_terms.specs.declared.shape.Product.{Product}
 use Rattle.bg_values.specs.Operands.{Operand}
-
--- the products of two bigraphs
-pub data Product : Type 0 where
-  composition : Product
-  tensor_product : Product
-  parallel_product : Product
-  merge_product : Product
 
 pub data Expression : Type 0 where
   -- `K(..){a,b}`: a node of the control with that number, its arguments, and the names of its ports

@@ -2,7 +2,7 @@
 use Rattle.std.specs.Prelude.{ℕ, Bool, List}
 use Rattle.bg_base.specs.declared.signature.Control.{Control}
 use Rattle.bg_values.specs.declared.refusal.Refusal.{Refusal}
-use Rattle.bg_terms.specs.Expressions.{Product}
+use Rattle.bg_terms.specs.declared.shape.Product.{Product}
 
 pub data Term : Type 0 where
   -- evaluation is refused here

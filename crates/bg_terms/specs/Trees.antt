@@ -19,37 +19,36 @@ use Rattle.bg_syntax.specs.declared.tree.expressions.SynA.TheOpen.{SynA-F, SynK-
 use Rattle.bg_syntax.specs.declared.tree.expressions.SynA.TheOpen.SynA-F.{SynA::Way1 as a_1, SynA::Way2 as a_2, Way3 as a_3, Way4 as a_4, Way5 as a_5, Way6 as a_6, Way7 as a_7, Way8 as a_8}
 use Rattle.bg_syntax.specs.declared.tree.expressions.SynA.TheOpen.SynK-F.{SynK::Way1 as k_1, SynK::Way2 as k_2}
 use Rattle.bg_syntax.specs.declared.tree.expressions.SynA.TheOpen.SynN1-F.{SynN1::Way1 as n1_1, SynN1::Way2 as n1_2}
-use Rattle.bg_syntax.specs.declared.tree.expressions.SynA.TheFolds.{fold-SynE}
+use Rattle.bg_syntax.specs.declared.tree.expressions.SynA.TheFolds.{fold-SynA, fold-SynK, fold-SynN1, fold-SynC, fold-SynC1Item, fold-SynE, fold-SynE1Item, fold-SynM, fold-SynM1Item, fold-SynN, fold-SynP, fold-SynP1Item}
+use Rattle.bg_syntax.specs.declared.tree.expressions.SynA.{SynA}
+use Rattle.bg_syntax.specs.declared.tree.expressions.SynK.{SynK}
+use Rattle.bg_syntax.specs.declared.tree.expressions.SynN1.{SynN1}
+use Rattle.bg_syntax.specs.declared.tree.expressions.SynC.{SynC}
+use Rattle.bg_syntax.specs.declared.tree.expressions.SynC1Item.{SynC1Item}
 use Rattle.bg_syntax.specs.declared.tree.expressions.SynE.{SynE}
+use Rattle.bg_syntax.specs.declared.tree.expressions.SynE1Item.{SynE1Item}
+use Rattle.bg_syntax.specs.declared.tree.expressions.SynM.{SynM}
+use Rattle.bg_syntax.specs.declared.tree.expressions.SynM1Item.{SynM1Item}
+use Rattle.bg_syntax.specs.declared.tree.expressions.SynN.{SynN}
+use Rattle.bg_syntax.specs.declared.tree.expressions.SynP.{SynP}
+use Rattle.bg_syntax.specs.declared.tree.expressions.SynP1Item.{SynP1Item}
 use Rattle.bg_values.specs.declared.refusal.Refusal.{Refusal}
 use Rattle.bg_values.specs.declared.refusal.Cause.TheVariants.{Unexpected, UnknownName, WrongArguments, WrongPorts}
-use Rattle.bg_values.specs.Names.{Entry, number_of}
+use Rattle.bg_values.specs.Names.{Entry, look_up}
 use Rattle.bg_values.specs.Operands.{operands_read, trees}
 use Rattle.bg_values.specs.Outcome.{◌>>=◌, refused, there_or}
 use Rattle.bg_values.specs.Reading.{number_at, number_token}
 use Rattle.bg_values.specs.Scopes.{ScopeParts, spelling}
-use Rattle.bg_terms.specs.Expansion.{Shape}
-use Rattle.bg_terms.specs.Expressions.{Product, composition, tensor_product, parallel_product, merge_product, Expression, node, reference, names, identity_of, merger_of, one, nothing, brackets, deeper, closure, nesting, product}
-
--- a control that is visible: how many formals it has, and its shape
-pub record ControlEntry : Type 0 where
-  pub formals : ℕ
-  pub shape : Shape
+use Rattle.bg_terms.specs.declared.shape.ControlEntry.{ControlEntry}
+use Rattle.bg_terms.specs.declared.shape.Product.{Product}
+use Rattle.bg_terms.specs.declared.shape.Product.TheVariants.{Composition, Tensor, Parallel, Merge}
+use Rattle.bg_terms.specs.Expressions.{Expression, node, reference, names, identity_of, merger_of, one, nothing, brackets, deeper, closure, nesting, product}
 
 -- what is visible: the text with its tokens and the formals, the controls, and the bigraphs with how many formals each has
 pub record Visible : Type 0 where
   pub scope : ScopeParts
   pub controls : List (Entry ControlEntry)
   pub bigraphs : List (Entry ℕ)
-
-module _ {T : Type 0} where
-  -- the number of an entry, and what it stands for
-  abbrev pub entry_at : List (Entry T) → Option ℕ → Option (ℕ × T)
-  entry_at entries (Some number) = option_map (λ (e : Entry T). (number, e.1)) (slice_get entries number)
-  entry_at entries None = None
-
-  abbrev pub look_up : List ℕ → List (Entry T) → Option (ℕ × T)
-  look_up word entries = entry_at entries (number_of word entries)
 
 -- ---- the small parts
 
@@ -101,11 +100,27 @@ abbrev pub id_names : SynIdNames → List ℕ
 id_names (id_names_ways.Way1 comma bracket list end) = listed_tokens list
 id_names id_names_ways.Way2 = []
 
+-- `id(n,{x})`
+abbrev pub wide_identity_read : ℕ → SynNumber → List ℕ → Visible → Result Expression Refusal
+wide_identity_read at number tokens visible =
+    width_at visible number >>= λ width. words_at visible tokens >>= λ words. Ok (identity_of at width words)
+
+-- `id{x}`
+abbrev pub linking_read : ℕ → List ℕ → Visible → Result Expression Refusal
+linking_read at tokens visible = words_at visible tokens >>= λ words. Ok (identity_of at 0 words)
+
 abbrev pub id_read : ℕ → SynIdTail → Visible → Result Expression Refusal
-id_read at (id_tail_ways.Way1 bracket number list end) visible =
-    width_at visible number >>= λ width. words_at visible (id_names list) >>= λ words. Ok (identity_of at width words)
-id_read at (id_tail_ways.Way2 bracket list end) visible = words_at visible (listed_tokens list) >>= λ words. Ok (identity_of at 0 words)
+id_read at (id_tail_ways.Way1 bracket number list end) visible = wide_identity_read at number (id_names list) visible
+id_read at (id_tail_ways.Way2 bracket list end) visible = linking_read at (listed_tokens list) visible
 id_read at id_tail_ways.Way3 visible = Ok (identity_of at 1 [])
+
+-- `{x,y}`
+abbrev pub names_read : ℕ → List ℕ → Visible → Result Expression Refusal
+names_read at tokens visible = words_at visible tokens >>= λ words. Ok (names at words)
+
+-- `merge(n)`
+abbrev pub merger_read : ℕ → SynNumber → Visible → Result Expression Refusal
+merger_read at number visible = width_at visible number >>= λ width. Ok (merger_of at width)
 
 -- the control that was found is atomic
 abbrev pub is_atomic_entry : Option (ℕ × ControlEntry) → Bool
@@ -136,22 +151,34 @@ Onward = Visible → Expression → Result Expression Refusal
 abbrev pub Behind : Type 0
 Behind = Option (ℕ × Reading)
 
+-- `(F)`
+abbrev pub brackets_read : ℕ → Reading → Visible → Result Expression Refusal
+brackets_read at inside visible = inside.1 visible >>= λ e. Ok (brackets at e)
+
+-- `/x F`
+abbrev pub closure_read : ℕ → ℕ → Reading → Visible → Result Expression Refusal
+closure_read slash name inside visible =
+    word_at visible name >>= λ word. inside.1 visible >>= λ e. Ok (deeper slash (closure slash word e))
+
+-- a `K` without a closure
+abbrev pub deeper_read : Reading → Visible → Result Expression Refusal
+deeper_read inside visible = inside.1 visible >>= λ e. Ok (deeper inside.0 e)
+
 -- A = upper Args Names | Ref | "{" NameList "}" | id IdTail | merge "(" Number ")" | zero | one | "(" E ")"
 abbrev pub a_layer : SynA-F Form Reading Behind Reading Onward Reading Onward Reading Onward Reading Reading Onward → Form
 a_layer (a_1 upper args ports) = (upper, node_read upper (arguments args) (ports_of ports), names_atom upper)
 a_layer (a_2 ref) = (ref.part1, reference_read ref.part1 (arguments ref.part2), no_atom)
-a_layer (a_3 bracket list end) = (bracket, λ visible. words_at visible (listed_tokens list) >>= λ words. Ok (names bracket words), no_atom)
+a_layer (a_3 bracket list end) = (bracket, names_read bracket (listed_tokens list), no_atom)
 a_layer (a_4 at tail) = (at, id_read at tail, no_atom)
-a_layer (a_5 at bracket number end) = (at, λ visible. width_at visible number >>= λ width. Ok (merger_of at width), no_atom)
+a_layer (a_5 at bracket number end) = (at, merger_read at number, no_atom)
 a_layer (a_6 at) = (at, λ visible. Ok (nothing at), no_atom)
 a_layer (a_7 at) = (at, λ visible. Ok (one at), no_atom)
-a_layer (a_8 bracket e end) = (bracket, λ visible. e.value.1 visible >>= λ x. Ok (brackets bracket x), no_atom)
+a_layer (a_8 bracket e end) = (bracket, brackets_read bracket e.value, no_atom)
 
 -- K = "/" lower K | N
 abbrev pub k_layer : SynK-F Form Reading Behind Reading Onward Reading Onward Reading Onward Reading Reading Onward → Reading
-k_layer (k_1 slash lower k) =
-    (slash, λ visible. word_at visible lower >>= λ word. k.value.1 visible >>= λ e. Ok (deeper slash (closure slash word e)))
-k_layer (k_2 n) = (n.value.0, λ visible. n.value.1 visible >>= λ e. Ok (deeper n.value.0 e))
+k_layer (k_1 slash lower k) = (slash, closure_read slash lower k.value)
+k_layer (k_2 n) = (n.value.0, deeper_read n.value)
 
 -- N1 = "." K | none
 abbrev pub n1_layer : SynN1-F Form Reading Behind Reading Onward Reading Onward Reading Onward Reading Reading Onward → Behind
@@ -178,34 +205,90 @@ joined kind at right visible e = right.1 visible >>= λ d. Ok (product kind at e
 
 -- C = K C1, C1 = "*" K C1 | none
 abbrev pub c1_item_layer : SynC1Item-F Form Reading Behind Reading Onward Reading Onward Reading Onward Reading Reading Onward → Onward
-c1_item_layer x = joined composition x.part1 x.part2.value
+c1_item_layer x = joined Composition x.part1 x.part2.value
 
 abbrev pub c_layer : SynC-F Form Reading Behind Reading Onward Reading Onward Reading Onward Reading Reading Onward → Reading
 c_layer x = (x.part1.value.0, λ visible. x.part1.value.1 visible >>= along x.part2.items visible)
 
 -- M = C M1, M1 = "|" C M1 | none
 abbrev pub m1_item_layer : SynM1Item-F Form Reading Behind Reading Onward Reading Onward Reading Onward Reading Reading Onward → Onward
-m1_item_layer x = joined merge_product x.part1 x.part2.value
+m1_item_layer x = joined Merge x.part1 x.part2.value
 
 abbrev pub m_layer : SynM-F Form Reading Behind Reading Onward Reading Onward Reading Onward Reading Reading Onward → Reading
 m_layer x = (x.part1.value.0, λ visible. x.part1.value.1 visible >>= along x.part2.items visible)
 
 -- P = M P1, P1 = "||" M P1 | none
 abbrev pub p1_item_layer : SynP1Item-F Form Reading Behind Reading Onward Reading Onward Reading Onward Reading Reading Onward → Onward
-p1_item_layer x = joined parallel_product x.part1 x.part2.value
+p1_item_layer x = joined Parallel x.part1 x.part2.value
 
 abbrev pub p_layer : SynP-F Form Reading Behind Reading Onward Reading Onward Reading Onward Reading Reading Onward → Reading
 p_layer x = (x.part1.value.0, λ visible. x.part1.value.1 visible >>= along x.part2.items visible)
 
 -- E = P E1, E1 = "+" P E1 | none
 abbrev pub e1_item_layer : SynE1Item-F Form Reading Behind Reading Onward Reading Onward Reading Onward Reading Reading Onward → Onward
-e1_item_layer x = joined tensor_product x.part1 x.part2.value
+e1_item_layer x = joined Tensor x.part1 x.part2.value
 
 abbrev pub e_layer : SynE-F Form Reading Behind Reading Onward Reading Onward Reading Onward Reading Reading Onward → Reading
 e_layer x = (x.part1.value.0, λ visible. x.part1.value.1 visible >>= along x.part2.items visible)
 
--- the first token of an expression, and what it says
+-- what the trees say
+
+unfoldable pub a_read : SynA → Form
+a_read =
+    fold-SynA Form Reading Behind Reading Onward Reading Onward Reading Onward Reading Reading Onward
+    a_layer k_layer n1_layer c_layer c1_item_layer e_layer e1_item_layer m_layer m1_item_layer n_layer p_layer p1_item_layer
+
+unfoldable pub k_read : SynK → Reading
+k_read =
+    fold-SynK Form Reading Behind Reading Onward Reading Onward Reading Onward Reading Reading Onward
+    a_layer k_layer n1_layer c_layer c1_item_layer e_layer e1_item_layer m_layer m1_item_layer n_layer p_layer p1_item_layer
+
+unfoldable pub n1_read : SynN1 → Behind
+n1_read =
+    fold-SynN1 Form Reading Behind Reading Onward Reading Onward Reading Onward Reading Reading Onward
+    a_layer k_layer n1_layer c_layer c1_item_layer e_layer e1_item_layer m_layer m1_item_layer n_layer p_layer p1_item_layer
+
+unfoldable pub n_read : SynN → Reading
+n_read =
+    fold-SynN Form Reading Behind Reading Onward Reading Onward Reading Onward Reading Reading Onward
+    a_layer k_layer n1_layer c_layer c1_item_layer e_layer e1_item_layer m_layer m1_item_layer n_layer p_layer p1_item_layer
+
+unfoldable pub c_read : SynC → Reading
+c_read =
+    fold-SynC Form Reading Behind Reading Onward Reading Onward Reading Onward Reading Reading Onward
+    a_layer k_layer n1_layer c_layer c1_item_layer e_layer e1_item_layer m_layer m1_item_layer n_layer p_layer p1_item_layer
+
+unfoldable pub c1_item_read : SynC1Item → Onward
+c1_item_read =
+    fold-SynC1Item Form Reading Behind Reading Onward Reading Onward Reading Onward Reading Reading Onward
+    a_layer k_layer n1_layer c_layer c1_item_layer e_layer e1_item_layer m_layer m1_item_layer n_layer p_layer p1_item_layer
+
+unfoldable pub m_read : SynM → Reading
+m_read =
+    fold-SynM Form Reading Behind Reading Onward Reading Onward Reading Onward Reading Reading Onward
+    a_layer k_layer n1_layer c_layer c1_item_layer e_layer e1_item_layer m_layer m1_item_layer n_layer p_layer p1_item_layer
+
+unfoldable pub m1_item_read : SynM1Item → Onward
+m1_item_read =
+    fold-SynM1Item Form Reading Behind Reading Onward Reading Onward Reading Onward Reading Reading Onward
+    a_layer k_layer n1_layer c_layer c1_item_layer e_layer e1_item_layer m_layer m1_item_layer n_layer p_layer p1_item_layer
+
+unfoldable pub p_read : SynP → Reading
+p_read =
+    fold-SynP Form Reading Behind Reading Onward Reading Onward Reading Onward Reading Reading Onward
+    a_layer k_layer n1_layer c_layer c1_item_layer e_layer e1_item_layer m_layer m1_item_layer n_layer p_layer p1_item_layer
+
+unfoldable pub p1_item_read : SynP1Item → Onward
+p1_item_read =
+    fold-SynP1Item Form Reading Behind Reading Onward Reading Onward Reading Onward Reading Reading Onward
+    a_layer k_layer n1_layer c_layer c1_item_layer e_layer e1_item_layer m_layer m1_item_layer n_layer p_layer p1_item_layer
+
 unfoldable pub e_read : SynE → Reading
 e_read =
     fold-SynE Form Reading Behind Reading Onward Reading Onward Reading Onward Reading Reading Onward
+    a_layer k_layer n1_layer c_layer c1_item_layer e_layer e1_item_layer m_layer m1_item_layer n_layer p_layer p1_item_layer
+
+unfoldable pub e1_item_read : SynE1Item → Onward
+e1_item_read =
+    fold-SynE1Item Form Reading Behind Reading Onward Reading Onward Reading Onward Reading Reading Onward
     a_layer k_layer n1_layer c_layer c1_item_layer e_layer e1_item_layer m_layer m1_item_layer n_layer p_layer p1_item_layer

@@ -19,7 +19,8 @@ use Rattle.bg_values.specs.declared.refusal.Refusal.{Refusal}
 use Rattle.bg_values.specs.declared.refusal.Cause.TheVariants.{FacesDiffer, NamesMeet, InnerNamesMeet, WidthsDiffer, HasInnerNames, AtomicHasChild, TooLarge}
 use Rattle.bg_values.specs.declared.refusal.LimitWord.TheVariants.{Controls, Nodes, Edges, Places, Terms, Depth}
 use Rattle.bg_values.specs.Outcome.{◌>>=◌, refused}
-use Rattle.bg_terms.specs.Expressions.{Product, composition, tensor_product, parallel_product, merge_product}
+use Rattle.bg_terms.specs.declared.shape.Product.{Product}
+use Rattle.bg_terms.specs.declared.shape.Product.TheVariants.{Composition, Tensor, Parallel, Merge}
 use Rattle.bg_terms.specs.Terms as terms
 use Rattle.bg_terms.specs.Terms.{Term}
 
@@ -79,10 +80,10 @@ abbrev pub outer_meets : Big → Big → Bool
 outer_meets f g = list_any (λ (name : Name). is_some (outer_of f.outer name)) g.outer
 
 abbrev pub product_of : Product → ℕ → Big → Big → Result Big Refusal
-product_of composition at f g = if faces_agree f g then Ok (compose f g) else refused FacesDiffer at
-product_of tensor_product at f g = if inner_meets f g || outer_meets f g then refused NamesMeet at else Ok (tensor f g)
-product_of parallel_product at f g = if inner_meets f g then refused InnerNamesMeet at else Ok (parallel f g)
-product_of merge_product at f g = if inner_meets f g then refused InnerNamesMeet at else Ok (merge f g)
+product_of Composition at f g = if faces_agree f g then Ok (compose f g) else refused FacesDiffer at
+product_of Tensor at f g = if inner_meets f g || outer_meets f g then refused NamesMeet at else Ok (tensor f g)
+product_of Parallel at f g = if inner_meets f g then refused InnerNamesMeet at else Ok (parallel f g)
+product_of Merge at f g = if inner_meets f g then refused InnerNamesMeet at else Ok (merge f g)
 
 abbrev pub nested : ℕ → Bool → Big → Big → Result Big Refusal
 nested at is_atom f g =

@@ -10,3 +10,6 @@
 #![tactic(auto)]
 
 pub mod laws;
+mod shape;
+
+pub use shape::{ControlEntry, Product, Shape};

@@ -1,6 +1,6 @@
 mod Runs
 mod Words
-mod Items
+pub mod Items
 pub mod Partly
 pub mod Gathering
 pub mod Ranges

@@ -8,9 +8,13 @@ use Rattle.bg_values.specs.Arithmetic.{Formula}
 use Rattle.bg_values.specs.Machine.{code_of, IsCodeOf}
 use Rattle.bg_values.specs.Outcome.{◌>>=◌, Goes, Stops}
 
+-- the steps of what is read, behind these; `code` gives them
+abbrev pub behind : {S F : Type 0} → (F → List S) → List S → Result F Refusal → Result (List S) Refusal
+behind code base read = read >>= λ f. Ok (base ++ code f)
+
 -- the steps of the formula that is read, behind these
 abbrev pub lowered : List Step → Result Formula Refusal → Result (List Step) Refusal
-lowered base read = read >>= λ f. Ok (base ++ code_of f)
+lowered = behind code_of
 
 -- behind the steps of a formula f come those that make the formula of it that an item says
 abbrev pub Extends : {X : Type 0} → Result X Stop → List Step → List Step → (Formula → Result Formula Refusal) → Type 0

@@ -1,5 +1,5 @@
 -- Tables of names, in the order of their definitions.
-use Rattle.std.specs.Prelude.{ℕ, Bool, List, map, Option, position, nat_eq}
+use Rattle.std.specs.Prelude.{ℕ, Bool, List, map, Option, Some, None, option_map, position, slice_get, nat_eq}
 use Rattle.std.specs.Cmp.Lexicographic.{pointwise}
 
 -- a name by its bytes, and what it stands for
@@ -18,3 +18,12 @@ module _ {T : Type 0} where
   -- the number of the name, from 0
   abbrev pub number_of : List ℕ → List (Entry T) → Option ℕ
   number_of word entries = position (same_word word) (words entries)
+
+  -- the entry with that number: the number, and what the name stands for
+  abbrev pub entry_at : List (Entry T) → Option ℕ → Option (ℕ × T)
+  entry_at entries (Some number) = option_map (λ (e : Entry T). (number, e.1)) (slice_get entries number)
+  entry_at entries None = None
+
+  -- the number of the name, and what it stands for
+  abbrev pub look_up : List ℕ → List (Entry T) → Option (ℕ × T)
+  look_up word entries = entry_at entries (number_of word entries)

@@ -18,7 +18,7 @@ mod scope;
 mod stack;
 
 pub use formula::{Formula, Operator, Step};
-pub use names::NameTable;
+pub use names::{Found, NameTable};
 pub use operands::{Operand, numbers_of, operand_of, operands_of, values_of};
 pub use parameter::{parameter_name, parameter_values};
 pub use reading::{formula_of, number_at, number_token, text_at};

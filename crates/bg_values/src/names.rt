@@ -1,5 +1,5 @@
 //! Tables of names.
-ghost use Rattle.std.specs.Prelude.{◌≡◌, ◌++◌, ◌∷◌, [], IfOk, OnErr, MatchBool, is_none};
+ghost use Rattle.std.specs.Prelude.{◌≡◌, ◌++◌, ◌∷◌, [], IfOk, OnErr, MatchBool, is_none, Some};
 ghost use Rattle.bg_values.specs.Names as definition;
 
 use bg_lists::{Mem, OutOfMemory};
@@ -25,6 +25,21 @@ impl<T> Model for NameTable<T> {
     ghost invariant = { λ table. length table.entries.entries < 2 ^ 32 - 1 };
 }
 
+/// A name of a table: its number, counted from 0, and what it stands for.
+#[derive(Drop)]
+pub struct Found<'a, T> {
+    pub number: u32,
+    pub value: &'a T,
+}
+
+impl<'a, T> Model for Found<'a, T> {
+    ghost use Rattle.std.specs.Prelude.{ℕ};
+
+    ghost Value = { ℕ × T };
+
+    ghost view = { λ found. (found.number, found.value.now) };
+}
+
 impl<T: Drop> NameTable<T> {
     /// A table without names. Takes no memory.
     pub fn new(alloc: Global) -> NameTable<T>
@@ -41,6 +56,26 @@ impl<T: Drop> NameTable<T> {
     {
         match self.entries.get_index_of(word) {
             Some(number) => Some(number as u32),
+            None => None,
+        }
+    }
+
+    /// The number of the name, counted from 0, and what it stands for. Takes as long as the name has bytes, on average.
+    pub fn look_up(&self, word: &[u8]) -> Option<Found<'_, T>>
+        ensures { result ≡ definition.look_up word.now self.now }
+    {
+        match self.entries.get_index_of(word) {
+            Some(number) => self.entry(number as u32),
+            None => None,
+        }
+    }
+
+    /// The number of an entry, and what its name stands for.
+    fn entry(&self, number: u32) -> Option<Found<'_, T>>
+        ensures { result ≡ definition.entry_at self.now (Some number) }
+    {
+        match self.entries.get_index(number as usize) {
+            Some((_, value)) => Some(Found { number, value }),
             None => None,
         }
     }

@@ -9,9 +9,9 @@ use Rattle.bg_values.proofs.reading.+lowering.Given as goal
 abbrev pub invariant-lower_x_items-loop-item : goal.invariant-lower_x_items-loop-item
 invariant-lower_x_items-loop-item l =
     (base : List Step) (f : Formula) → l.initial.steps.items ≡ base ++ code_of f
-    → Partly base l.steps.items (along (map x1_item_read l.items) l.scope l.first f) (along (map x1_item_read (drop l.item-index l.items)) l.scope l.first)
+    → Partly code_of base l.steps.items (along (map x1_item_read l.items) l.scope l.first f) (along (map x1_item_read (drop l.item-index l.items)) l.scope l.first)
 
 abbrev pub invariant-lower_t_items-loop-item : goal.invariant-lower_t_items-loop-item
 invariant-lower_t_items-loop-item l =
     (base : List Step) (f : Formula) → l.initial.steps.items ≡ base ++ code_of f
-    → Partly base l.steps.items (along (map t1_item_read l.items) l.scope l.first f) (along (map t1_item_read (drop l.item-index l.items)) l.scope l.first)
+    → Partly code_of base l.steps.items (along (map t1_item_read l.items) l.scope l.first f) (along (map t1_item_read (drop l.item-index l.items)) l.scope l.first)

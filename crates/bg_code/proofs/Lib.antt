@@ -1,0 +1,3 @@
+mod Items
+mod Joins
+pub mod Layers

@@ -1,0 +1,48 @@
+//! The arguments of a control or of a reference.
+ghost use Rattle.std.specs.Prelude.{◌≡◌, length};
+ghost use Rattle.bg_code.specs.Lowering as lowering;
+ghost use Rattle.bg_terms.specs.Trees as trees;
+ghost use Rattle.bg_values.specs.Operands.{operands_read};
+
+use bg_base::Value;
+use bg_syntax::tree::expressions::SynArgs;
+use bg_values::{Operand, Scope, Stop, operands_of};
+use std::alloc::Global;
+use std::marker::Model;
+
+/// The arguments of a control or of a reference, in order. A contract sees the first token and the steps of each.
+#[derive(Debug, Drop)]
+pub struct Arguments {
+    operands: Vec<Operand>,
+}
+
+impl Model for Arguments {
+    ghost use Rattle.std.specs.Prelude.{ℕ, List, map};
+    ghost use Rattle.bg_values.specs.declared.formula.Step.{Step};
+    ghost use Rattle.bg_values.specs.Operands.{shown};
+
+    ghost Value = { List (ℕ × List Step) };
+
+    ghost view = { λ arguments. map shown arguments.operands.items };
+}
+
+/// The formulas of arguments. Refuses the first name that is not visible. Linear in the trees.
+pub(crate) fn arguments_of(alloc: Global, scope: &Scope, tree: &SynArgs) -> Result<Arguments, Stop>
+    ensures { lowering.ReadsArguments result (operands_read scope.now (trees.arguments tree.now)) }
+{
+    let operands = match tree {
+        SynArgs::Way1(_, first, more, _) => operands_of(alloc, scope, first, more.as_slice())?,
+        SynArgs::Way2 => Vec::new(alloc),
+    };
+    Ok(Arguments { operands })
+}
+
+/// How many arguments there are.
+pub(crate) fn argument_count(tree: &SynArgs) -> usize
+    ensures { result ≡ length (trees.arguments tree.now) }
+{
+    match tree {
+        SynArgs::Way1(_, _, more, _) => 1 + more.len(),
+        SynArgs::Way2 => 0,
+    }
+}

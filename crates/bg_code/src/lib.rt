@@ -1,0 +1,20 @@
+//! Expressions of the model language as code: operations in the order in which a machine takes them.
+//!
+//! - [`Visible`]: what an expression is read in: the text, its tokens and formals, the controls and the bigraphs.
+//! - [`code_of`]: the code of the expression that a tree of the grammar is, or the first name that cannot stand.
+//! - [`Operation`]: what the machine does at a time; [`Arguments`]: formulas in a row.
+#![tactic(auto)]
+
+mod arguments;
+mod lowering;
+mod operation;
+mod visible;
+mod words;
+
+pub use arguments::Arguments;
+pub use lowering::code_of;
+pub use operation::Operation;
+pub use visible::Visible;
+
+#[cfg(test)]
+mod tests;

@@ -1,0 +1,66 @@
+//! What the machine does at a time.
+use crate::Arguments;
+use bg_base::Ident;
+use bg_lists::Rows;
+use bg_terms::Product;
+
+/// An operation of a machine with a stack of bigraphs. `at` is the token at which a refusal of it has its place.
+#[derive(Debug, Drop)]
+pub enum Operation {
+    /// Puts a node of the control with that number; `ports` are the names of its ports.
+    Node {
+        at: u32,
+        control: u32,
+        arguments: Arguments,
+        ports: Rows<Ident>,
+    },
+    /// Evaluates the definition with that number.
+    Reference {
+        at: u32,
+        definition: u32,
+        arguments: Arguments,
+    },
+    /// Puts outer names with nothing on them.
+    Names {
+        at: u32,
+        names: Rows<Ident>,
+    },
+    /// Puts an identity.
+    Identity {
+        at: u32,
+        width: u64,
+        names: Rows<Ident>,
+    },
+    /// Puts one region with so many sites.
+    Merger {
+        at: u32,
+        width: u64,
+    },
+    /// Puts one empty region.
+    One(u32),
+    /// Puts the bigraph without regions.
+    Nothing(u32),
+    /// Counts a term: brackets.
+    Count(u32),
+    /// Goes one deeper.
+    Enter(u32),
+    /// Comes back from there.
+    Leave,
+    /// Takes the number of the edge of a closure.
+    Open,
+    /// Closes the name, by the number that was taken last.
+    Close {
+        at: u32,
+        name: Ident,
+    },
+    /// Nests the bigraph on top in the one below it.
+    Nest {
+        at: u32,
+        is_atom: bool,
+    },
+    /// Puts the product of the two on top.
+    Join {
+        product: Product,
+        at: u32,
+    },
+}
