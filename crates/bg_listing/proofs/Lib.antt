@@ -11,3 +11,6 @@ pub mod Rooms
 pub mod Passes
 pub mod Longest
 pub mod RefusalLaws
+pub mod Stopping
+pub mod OneLine
+pub mod RefusalLines

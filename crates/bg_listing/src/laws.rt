@@ -1,12 +1,13 @@
 //! What acceptance and refusal of a listing mean of the whole text. A call does nothing.
-ghost use Rattle.std.specs.Prelude.{◌≡◌, ◌↔◌, ◌++◌, List, ℕ, Ok, Err, drop};
+ghost use Rattle.std.specs.Prelude.{◌≡◌, ◌≤◌, ◌↔◌, ◌++◌, List, ℕ, Ok, Err, drop};
 ghost use Rattle.bg_base.specs.declared.signature.Control.{Control};
 ghost use Rattle.bg_base.specs.declared.big.Big.{Big};
 ghost use Rattle.bg_base.specs.Signatures.{IsSignature};
 ghost use Rattle.bg_listing.specs.declared.cursor.Cursor.{Cursor};
 ghost use Rattle.bg_listing.specs.Spelling.{signature_text, big_text};
 ghost use Rattle.bg_listing.specs.Limits.{IsReadableSignature, IsReadableBig};
-ghost use Rattle.bg_listing.specs.Verdict.{Refusal, signature_verdict, big_verdict};
+ghost use Rattle.bg_listing.specs.Verdict.{IsAt, Refusal, signature_verdict, big_verdict};
+ghost use Rattle.bg_listing.specs.Stops.{StopsAtLine, AreListed, listed_text, IsListed};
 
 /// The verdict on a text is a value exactly where the listing of that value, a signature or a bigraph within the limits,
 /// stands at the cursor with this rest behind it.
@@ -23,4 +24,13 @@ pub fn refused_texts_are_no_listings()
         → (controls : List Control) (rest : List ℕ) → IsReadableSignature controls → ¬ (drop at.offset bytes ≡ signature_text controls ++ rest) }
     ensures bigraphs { (signature : List Control) → IsSignature signature → (bytes : List ℕ) (at : Cursor) (refusal : Refusal) → big_verdict signature bytes at ≡ Err refusal
         → (big : Big) (rest : List ℕ) → IsReadableBig signature big → ¬ (drop at.offset bytes ≡ big_text signature big ++ rest) }
+{}
+
+/// Where a text is refused with code 1 or 2, it stops to be a listing at the line of the refusal. The lines before it
+/// begin a listing within the limits, and no listing within the limits begins with these lines and the one of the refusal.
+pub fn the_line_of_a_refusal_is_the_first_of_no_listing()
+    ensures signatures { (bytes : List ℕ) (at : Cursor) → IsAt bytes at → (code line : ℕ) → code ≤ 2 → signature_verdict bytes at ≡ Err (code, line)
+        → StopsAtLine signature_text AreListed bytes at line }
+    ensures bigraphs { (signature : List Control) (bytes : List ℕ) (at : Cursor) → IsAt bytes at → (code line : ℕ) → code ≤ 2 → big_verdict signature bytes at ≡ Err (code, line)
+        → StopsAtLine listed_text IsListed bytes at line }
 {}
