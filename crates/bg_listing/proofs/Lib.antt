@@ -14,3 +14,5 @@ pub mod RefusalLaws
 pub mod Stopping
 pub mod OneLine
 pub mod RefusalLines
+pub mod SettledRows
+pub mod SettledLines

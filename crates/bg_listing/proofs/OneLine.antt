@@ -1,5 +1,5 @@
 -- The text of each kind of row is one line, and there is a row of each kind.
-use Rattle.std.proofs.Common.{◌≡◌, ℕ, suc, ◌<◌, ◌≤◌, ◌^◌, Bool, true, false, not, ◌&&◌, cond, eqb, leb, List, [], ◌∷◌, ◌++◌, length, Result, Ok, Err, refl, sym, ap, ◌∙◌, append_assoc, lit≤, arith}
+use Rattle.std.proofs.Common.{◌≡◌, ℕ, suc, ◌<◌, ◌≤◌, ◌^◌, Bool, true, false, not, ◌&&◌, cond, eqb, leb, List, [], ◌∷◌, ◌++◌, length, Result, Ok, Err, refl, sym, ap, subst, ◌∙◌, append_assoc, lit≤, arith}
 use Rattle.std.specs.Prelude.{pos, negsuc, codes}
 use Rattle.std.specs.List.{list_all, AllByRecursion}
 use Rattle.std.specs.Char.{is_ascii_digit}
@@ -27,7 +27,7 @@ use Rattle.bg_listing.specs.Reading.{number_at, place_at, name_at, inner_at, con
 use Rattle.bg_listing.specs.Lines.{Bad, bad_line, too_many, or_bad_line, row, node_at, count_at, edge_row, place_row, name_row, inner_row, control_row, NodeParts, row_of, node_row}
 use Rattle.bg_listing.proofs.Numbers.{own, digits_all}
 use Rattle.bg_listing.proofs.Listings.{count_reads, edge_row_reads, place_row_reads, name_row_reads, inner_row_reads, control_row_reads, node_row_reads, parts_line, AreParts}
-use Rattle.bg_listing.proofs.Stopping.{is_inside, IsLine, IsRow}
+use Rattle.bg_listing.proofs.Stopping.{is_inside, IsLine, Names, IsRow}
 
 -- no line feed among the bytes
 abbrev Free : List ℕ → Type 0
@@ -136,47 +136,47 @@ parts_are_line p f =
 
 -- ---- a refusal names the beginning of the row
 
-row_here_if : {X : Type 0} (bytes : List ℕ) (r : Result (X × List ℕ) (Unit {0})) (bad : Bad) → or_bad_line r bytes ≡ Err bad → bad.left ≡ length bytes
+row_here_if : {X : Type 0} (bytes : List ℕ) (r : Result (X × List ℕ) (Unit {0})) (bad : Bad) → or_bad_line r bytes ≡ Err bad → Names bytes bad
 row_here_if bytes (Ok x) bad e = absurd cc
-row_here_if bytes (Err x) bad e = let same : bad_line bytes ≡ bad = cc in sym (ap (λ (b : Bad). b.left) same)
+row_here_if bytes (Err x) bad e = let same : bad_line bytes ≡ bad = cc in subst (Names bytes) same (refl, lit≤ tt)
 
-row_here : {X : Type 0} (read : List ℕ → Result (X × List ℕ) (Unit {0})) (bytes : List ℕ) (bad : Bad) → row read bytes ≡ Err bad → bad.left ≡ length bytes
+row_here : {X : Type 0} (read : List ℕ → Result (X × List ℕ) (Unit {0})) (bytes : List ℕ) (bad : Bad) → row read bytes ≡ Err bad → Names bytes bad
 row_here read bytes bad e = row_here_if bytes (read bytes) bad e
 
-test_here : {X : Type 0} (bytes : List ℕ) (x : X × List ℕ) (passes : Bool) (bad : Bad) → cond passes (Ok x) (Err (too_many bytes)) ≡ Err bad → bad.left ≡ length bytes
+test_here : {X : Type 0} (bytes : List ℕ) (x : X × List ℕ) (passes : Bool) (bad : Bad) → cond passes (Ok x) (Err (too_many bytes)) ≡ Err bad → Names bytes bad
 test_here bytes x true bad e = absurd cc
-test_here bytes x false bad e = let same : too_many bytes ≡ bad = cc in sym (ap (λ (b : Bad). b.left) same)
+test_here bytes x false bad e = let same : too_many bytes ≡ bad = cc in subst (Names bytes) same (refl, lit≤ tt)
 
-only_if_here : {X : Type 0} (test : X → Bool) (bytes : List ℕ) (r : Result (X × List ℕ) Bad) → ((bad : Bad) → r ≡ Err bad → bad.left ≡ length bytes)
-    → (bad : Bad) → (r >>= λ a. cond (test a.0) (Ok a) (Err (too_many bytes))) ≡ Err bad → bad.left ≡ length bytes
+only_if_here : {X : Type 0} (test : X → Bool) (bytes : List ℕ) (r : Result (X × List ℕ) Bad) → ((bad : Bad) → r ≡ Err bad → Names bytes bad)
+    → (bad : Bad) → (r >>= λ a. cond (test a.0) (Ok a) (Err (too_many bytes))) ≡ Err bad → Names bytes bad
 only_if_here test bytes (Ok x) h bad e = test_here bytes x (test x.0) bad e
 only_if_here test bytes (Err b) h bad e = h bad cc
 
-count_here : (most : ℕ) (word bytes : List ℕ) (bad : Bad) → count_at most word bytes ≡ Err bad → bad.left ≡ length bytes
+count_here : (most : ℕ) (word bytes : List ℕ) (bad : Bad) → count_at most word bytes ≡ Err bad → Names bytes bad
 unfolding count_at
 count_here most word bytes bad e = only_if_here (λ n. leb n most) bytes (row (behind word (line (number_at greatest))) bytes) (row_here (behind word (line (number_at greatest))) bytes) bad e
 
-control_here : (bytes : List ℕ) (bad : Bad) → control_row bytes ≡ Err bad → bad.left ≡ length bytes
+control_here : (bytes : List ℕ) (bad : Bad) → control_row bytes ≡ Err bad → Names bytes bad
 unfolding control_row
 control_here bytes bad e = only_if_here (λ (c : Control). leb c.arity most_ports) bytes (row (line control_at) bytes) (row_here (line control_at) bytes) bad e
 
-edge_here : (bytes : List ℕ) (bad : Bad) → edge_row bytes ≡ Err bad → bad.left ≡ length bytes
+edge_here : (bytes : List ℕ) (bad : Bad) → edge_row bytes ≡ Err bad → Names bytes bad
 unfolding edge_row
 edge_here bytes bad e = row_here (line (number_at greatest)) bytes bad e
 
-place_here : (bytes : List ℕ) (bad : Bad) → place_row bytes ≡ Err bad → bad.left ≡ length bytes
+place_here : (bytes : List ℕ) (bad : Bad) → place_row bytes ≡ Err bad → Names bytes bad
 unfolding place_row
 place_here bytes bad e = row_here (line place_at) bytes bad e
 
-name_here : (bytes : List ℕ) (bad : Bad) → name_row bytes ≡ Err bad → bad.left ≡ length bytes
+name_here : (bytes : List ℕ) (bad : Bad) → name_row bytes ≡ Err bad → Names bytes bad
 unfolding name_row
 name_here bytes bad e = row_here (line name_at) bytes bad e
 
-inner_here : (bytes : List ℕ) (bad : Bad) → inner_row bytes ≡ Err bad → bad.left ≡ length bytes
+inner_here : (bytes : List ℕ) (bad : Bad) → inner_row bytes ≡ Err bad → Names bytes bad
 unfolding inner_row
 inner_here bytes bad e = row_here (line inner_at) bytes bad e
 
-node_here : (signature : List Control) (bytes : List ℕ) (bad : Bad) → node_row signature bytes ≡ Err bad → bad.left ≡ length bytes
+node_here : (signature : List Control) (bytes : List ℕ) (bad : Bad) → node_row signature bytes ≡ Err bad → Names bytes bad
 unfolding node_row
 node_here signature bytes bad e = row_here (node_at signature) bytes bad e
 

@@ -3,7 +3,6 @@ use Rattle.std.proofs.Common.{◌≡◌, ℕ, zero, suc, ◌+◌, ◌-◌, ◌<�
 use Rattle.std.specs.Prelude.{IfSome, codes, count_by}
 use Rattle.std.specs.List.{AllByRecursion}
 use Rattle.std.proofs.lemmas.List.{length-append, length-map, take-append-drop, take_at}
-use Rattle.std.proofs.lemmas.List.Sums.{sum_by-append}
 use Rattle.bg_base.specs.declared.signature.Kind.TheVariants.{Normal}
 use Rattle.bg_base.specs.declared.signature.Control.{Control}
 use Rattle.bg_base.specs.declared.big.NodeRow.{NodeRow}
@@ -12,23 +11,21 @@ use Rattle.bg_base.specs.declared.check.Part.{Part}
 use Rattle.bg_base.specs.declared.check.Part.TheVariants.{Sites, Inner, Outer, Edges, Nodes}
 use Rattle.bg_base.specs.Faults.{fault_of, codes_from, first_fault, shifted, or_else, sites_fault, inner_fault, outer_fault, edges_fault, nodes_fault, site_code, inner_code, outer_code, edge_code, node_code, rises, is_known}
 use Rattle.bg_listing.specs.declared.cursor.Cursor.{Cursor}
-use Rattle.bg_listing.specs.Spelling.{label_of, signature_text, big_text, line_feed}
-use Rattle.bg_listing.specs.Limits.{greatest, most_rows, most_controls, AreCounted, IsControl, IsSpelledBig}
+use Rattle.bg_listing.specs.Spelling.{label_of, place_line, inner_line, name_line, edge_line, count_line, section_text, signature_text, big_text}
+use Rattle.bg_listing.specs.Limits.{most_rows, most_controls, IsNumber, IsPlace, IsName, IsInner, AreCounted}
 use Rattle.bg_listing.specs.Combinators.{both}
-use Rattle.bg_listing.specs.Lines.{Bad, count_at, section_at, edge_row, place_row, name_row, inner_row, control_row, node_row, NodeParts, Sections, big_of, signature_at, big_at}
+use Rattle.bg_listing.specs.Lines.{Bad, count_at, section_at, edge_row, place_row, name_row, inner_row, node_row, NodeParts, row_of, Sections, big_of, signature_at, big_at}
 use Rattle.bg_listing.specs.Verdict.{line_feeds, IsAt, Refusal, line_of, judged, first_repeat, without_repeat, without_fault, lines_before, signature_verdict, big_verdict}
 use Rattle.bg_listing.specs.Stops.{StopsAt, StopsAtLine, AreListed, Listed, listed_text, IsListed}
-use Rattle.bg_listing.proofs.Listings.{parts_text, AreSections}
+use Rattle.bg_listing.proofs.Listings.{parts_line, AreParts, parts_text, AreSections}
 use Rattle.bg_listing.proofs.Values.{parts_of, sections_of, parts_text_is, spelled_from_sections, sections_from_spelled}
 use Rattle.bg_listing.proofs.Stopping.{Stops, goes, stops, IsPart, row_part, section_part, both_part, mapped_stop, other_stop}
+use Rattle.bg_listing.proofs.SettledRows.{feeds-append}
 use Rattle.bg_listing.proofs.OneLine.{count_row, edge_rows, place_rows, name_rows, inner_rows, control_rows, node_rows}
 
 -- ---- lines are counted by their line feeds
 
-feeds-append : (xs ys : List ℕ) → line_feeds (xs ++ ys) ≡ line_feeds xs + line_feeds ys
-feeds-append xs ys = sum_by-append (λ b. cond (eqb b 10) 1 0) xs ys
-
-line_at : (bytes : List ℕ) (at : Cursor) (lines behind : List ℕ) → IsAt bytes at → drop at.offset bytes ≡ lines ++ behind → line_of bytes (length behind) ≡ at.line + line_feeds lines
+pub line_at : (bytes : List ℕ) (at : Cursor) (lines behind : List ℕ) → IsAt bytes at → drop at.offset bytes ≡ lines ++ behind → line_of bytes (length behind) ≡ at.line + line_feeds lines
 line_at bytes at lines behind is e =
     let front : List ℕ = take at.offset bytes in
     let whole : bytes ≡ (front ++ lines) ++ behind = sym (take-append-drop at.offset bytes) ∙ ap (λ y. front ++ y) e ∙ sym (append_assoc front lines behind) in
@@ -38,7 +35,7 @@ line_at bytes at lines behind is e =
     omega (arith, counted, is.line)
 
 -- a refusal that the second pass does not give is one of the first, at the line where the text stops
-one_refusal : {A : Type 0} (r : Result A Refusal) (a b : Refusal) → r ≡ Err a → r ≡ Err b → a ≡ b
+pub one_refusal : {A : Type 0} (r : Result A Refusal) (a b : Refusal) → r ≡ Err a → r ≡ Err b → a ≡ b
 one_refusal (Ok x) a b e f = absurd cc
 one_refusal (Err c) a b e f = cc
 
@@ -50,13 +47,13 @@ stopped_line bytes at r second code line is (stops bad lines behind left s) othe
     record {
       lines = lines;
       behind = behind;
-      line_is = sym named ∙ ap (line_of bytes) left ∙ line_at bytes at lines behind is s.there;
+      line_is = sym named ∙ ap (line_of bytes) left.0 ∙ line_at bytes at lines behind is s.there;
       stops = s;
     }
 
 -- ---- signatures
 
-signature_stops : (bytes : List ℕ) → Stops signature_text AreListed bytes (signature_at bytes)
+pub signature_stops : (bytes : List ℕ) → Stops signature_text AreListed bytes (signature_at bytes)
 unfolding signature_at signature_text
 signature_stops bytes = (section_part most_controls (codes "signature ") (lit≤ tt) (count_row most_controls (codes "signature ") (lit≤ tt) refl) control_rows).stopped bytes
 
@@ -72,19 +69,31 @@ signature_line bytes at is code line le e =
 
 -- ---- bigraphs, by the parts of their text
 
-parts_stop : (signature : List Control) (bytes : List ℕ) → Stops parts_text AreSections bytes (big_at signature bytes)
+pub region_part : IsPart (λ n. n) (count_line (codes "bigraph ")) (λ n. n ≤ most_rows) (count_at most_rows (codes "bigraph "))
+region_part = row_part (count_row most_rows (codes "bigraph ") (lit≤ tt) refl)
+
+pub site_part : IsPart (map (λ p. p)) (section_text (codes "sites ") place_line) (AreCounted most_rows IsPlace) (section_at most_rows (codes "sites ") place_row)
+site_part = section_part most_rows (codes "sites ") (lit≤ tt) (count_row most_rows (codes "sites ") (lit≤ tt) refl) place_rows
+
+pub inner_part : IsPart (map (λ r. r)) (section_text (codes "inner ") inner_line) (AreCounted most_rows IsInner) (section_at most_rows (codes "inner ") inner_row)
+inner_part = section_part most_rows (codes "inner ") (lit≤ tt) (count_row most_rows (codes "inner ") (lit≤ tt) refl) inner_rows
+
+pub outer_part : IsPart (map (λ n. n)) (section_text (codes "outer ") name_line) (AreCounted most_rows IsName) (section_at most_rows (codes "outer ") name_row)
+outer_part = section_part most_rows (codes "outer ") (lit≤ tt) (count_row most_rows (codes "outer ") (lit≤ tt) refl) name_rows
+
+pub edge_part : IsPart (map (λ n. n)) (section_text (codes "edges ") edge_line) (AreCounted most_rows IsNumber) (section_at most_rows (codes "edges ") edge_row)
+edge_part = section_part most_rows (codes "edges ") (lit≤ tt) (count_row most_rows (codes "edges ") (lit≤ tt) refl) edge_rows
+
+node_part : (signature : List Control) → IsPart (map (row_of signature)) (section_text (codes "nodes ") parts_line) (AreCounted most_rows AreParts) (section_at most_rows (codes "nodes ") (node_row signature))
+node_part signature = section_part most_rows (codes "nodes ") (lit≤ tt) (count_row most_rows (codes "nodes ") (lit≤ tt) refl) (node_rows signature)
+
+pub parts_stop : (signature : List Control) (bytes : List ℕ) → Stops parts_text AreSections bytes (big_at signature bytes)
 unfolding big_at
 parts_stop signature bytes =
-    let sites = section_part most_rows (codes "sites ") (lit≤ tt) (count_row most_rows (codes "sites ") (lit≤ tt) refl) place_rows in
-    let inner = section_part most_rows (codes "inner ") (lit≤ tt) (count_row most_rows (codes "inner ") (lit≤ tt) refl) inner_rows in
-    let outer = section_part most_rows (codes "outer ") (lit≤ tt) (count_row most_rows (codes "outer ") (lit≤ tt) refl) name_rows in
-    let edges = section_part most_rows (codes "edges ") (lit≤ tt) (count_row most_rows (codes "edges ") (lit≤ tt) refl) edge_rows in
-    let nodes = section_part most_rows (codes "nodes ") (lit≤ tt) (count_row most_rows (codes "nodes ") (lit≤ tt) refl) (node_rows signature) in
-    let regions = row_part (count_row most_rows (codes "bigraph ") (lit≤ tt) refl) in
     mapped_stop bytes (both (count_at most_rows (codes "bigraph ")) (both (section_at most_rows (codes "sites ") place_row)
     (both (section_at most_rows (codes "inner ") inner_row) (both (section_at most_rows (codes "outer ") name_row)
     (both (section_at most_rows (codes "edges ") edge_row) (section_at most_rows (codes "nodes ") (node_row signature)))))) bytes) big_of
-    ((both_part regions (both_part sites (both_part inner (both_part outer (both_part edges nodes))))).stopped bytes)
+    ((both_part region_part (both_part site_part (both_part inner_part (both_part outer_part (both_part edge_part (node_part signature)))))).stopped bytes)
 
 -- ---- controls of its own for each node of a text
 

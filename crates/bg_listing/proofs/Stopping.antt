@@ -6,7 +6,7 @@ use Rattle.bg_listing.specs.Spelling.{count_line, section_text}
 use Rattle.bg_listing.specs.Limits.{greatest, AreCounted}
 use Rattle.bg_listing.specs.Combinators.{◌>>=◌, mapped, with_front, both, each}
 use Rattle.bg_listing.specs.Lines.{Bad, count_at, section_at}
-use Rattle.bg_listing.specs.Stops.{first_line, ends_line, AreLines, Begins, StopsAt}
+use Rattle.bg_listing.specs.Stops.{first_line, ends_line, AreLines, Begins, NoneBegins, StopsAt}
 use Rattle.bg_listing.proofs.Combinators.{Holds, found, refused, Reads, Anything, AreThisMany, pair_of, joined, FitBoth, both_read, no_two}
 use Rattle.bg_listing.proofs.Listings.{section_reads}
 
@@ -39,17 +39,17 @@ first_inside (b ∷ inside) rest free = first_inside_if b inside rest (eqb b 10)
     first_inside_if b inside rest true h e = absurd cc
     first_inside_if b inside rest false h e = ap (λ y. b ∷ y) e
 
-first_line_is : (text rest : List ℕ) → IsLine text → first_line (text ++ rest) ≡ text
+pub first_line_is : (text rest : List ℕ) → IsLine text → first_line (text ++ rest) ≡ text
 first_line_is text rest l =
     let moved : text ++ rest ≡ l.inside ++ 10 ∷ rest = ap (λ t. t ++ rest) l.text_is ∙ append_assoc l.inside (10 ∷ []) rest in
     ap first_line moved ∙ first_inside l.inside rest l.free ∙ sym l.text_is
 
 -- what stands behind the first line
-behind_line : List ℕ → List ℕ
+pub behind_line : List ℕ → List ℕ
 behind_line [] = []
 behind_line (b ∷ bytes) = cond (eqb b 10) bytes (behind_line bytes)
 
-first_and_behind : (bytes : List ℕ) → bytes ≡ first_line bytes ++ behind_line bytes
+pub first_and_behind : (bytes : List ℕ) → bytes ≡ first_line bytes ++ behind_line bytes
 unfolding behind_line
 first_and_behind [] = refl
 first_and_behind (b ∷ bytes) = first_if b bytes (eqb b 10) (first_and_behind bytes)
@@ -60,14 +60,18 @@ first_and_behind (b ∷ bytes) = first_if b bytes (eqb b 10) (first_and_behind b
 
 -- ---- where a reading function refuses
 
+-- the refusal names the beginning of the bytes, with code 1 or 2
+abbrev pub Names : List ℕ → Bad → Type 0
+Names bytes bad = (bad.left ≡ length bytes) × (bad.code ≤ 2)
+
 pub data Stops {D X : Type 0} (text : D → List ℕ) (Fits : D → Type 0) (bytes : List ℕ) : Result (X × List ℕ) Bad → Type 0 where
   goes : (x : X × List ℕ) → Stops text Fits bytes (Ok x)
-  stops : (bad : Bad) (lines behind : List ℕ) → bad.left ≡ length behind → StopsAt text Fits bytes lines behind → Stops text Fits bytes (Err bad)
+  stops : (bad : Bad) (lines behind : List ℕ) → Names behind bad → StopsAt text Fits bytes lines behind → Stops text Fits bytes (Err bad)
 
 -- a row: its text is one line, a refusal names its beginning, and there is such a row
 pub record IsRow {D X : Type 0} (v : D → X) (t : D → List ℕ) (F : D → Type 0) (read : List ℕ → Result (X × List ℕ) Bad) : Type 0 where
   pub reads : Reads Anything v t F read
-  pub here : (bytes : List ℕ) (bad : Bad) → read bytes ≡ Err bad → bad.left ≡ length bytes
+  pub here : (bytes : List ℕ) (bad : Bad) → read bytes ≡ Err bad → Names bytes bad
   pub line : (d : D) → F d → IsLine (t d)
   pub some : D
   pub some_fits : F some
@@ -110,6 +114,20 @@ pub record Ends {B W : Type 0} (front : List ℕ) (tb : B → List ℕ) (FB : B 
   pub make : (b : B) → FB b → (w : W) × FW w × (tw w ≡ front ++ tb b)
   pub end : (w : W) (others rest : List ℕ) → FW w → front ++ others ≡ tw w ++ rest → (b : B) × FB b × (others ≡ tb b ++ rest)
 
+-- the values of a kind whose texts begin with those of another kind
+pub none_first : {A W : Type 0} (ta : A → List ℕ) {FA : A → Type 0} (tw : W → List ℕ) {FW : W → Type 0} (lines behind : List ℕ)
+    → ((w : W) → FW w → (a : A) × (more : List ℕ) × FA a × (tw w ≡ ta a ++ more)) → NoneBegins ta FA lines behind → NoneBegins tw FW lines behind
+none_first ta tw lines behind back none others same value rest f e =
+    let a = back value f in
+    none others same a.0 (a.1 ++ rest) a.2 (e ∙ ap (λ y. y ++ rest) a.3 ∙ append_assoc (ta a.0) a.1 rest)
+
+-- the values of a kind whose texts end with those of another kind, behind a front
+pub none_second : {B W : Type 0} (tb : B → List ℕ) {FB : B → Type 0} (tw : W → List ℕ) {FW : W → Type 0} (front lines behind : List ℕ)
+    → ((w : W) (others rest : List ℕ) → FW w → front ++ others ≡ tw w ++ rest → (b : B) × FB b × (others ≡ tb b ++ rest)) → NoneBegins tb FB lines behind → NoneBegins tw FW (front ++ lines) behind
+none_second tb tw front lines behind end none others same value more f there =
+    let c = end value (lines ++ others) more f (sym (append_assoc front lines others) ∙ there) in
+    none others same c.0 more c.1 c.2
+
 first_at : {A W : Type 0} {ta : A → List ℕ} {FA : A → Type 0} {tw : W → List ℕ} {FW : W → Type 0} → GoesOn ta FA tw FW → (bytes lines behind : List ℕ) → StopsAt ta FA bytes lines behind → StopsAt tw FW bytes lines behind
 first_at {ta = ta} {tw = tw} g bytes lines behind s =
     let b = s.begins in
@@ -118,22 +136,18 @@ first_at {ta = ta} {tw = tw} g bytes lines behind s =
       there = s.there;
       whole = s.whole;
       begins = record { value = w.0; more = b.more ++ w.1; fits = w.2; text_is = w.3 ∙ ap (λ y. y ++ w.1) b.text_is ∙ append_assoc lines b.more w.1 };
-      none = λ others same value rest f e.
-          let a = g.back value f in
-          s.none others same a.0 (a.1 ++ rest) a.2 (e ∙ ap (λ y. y ++ rest) a.3 ∙ append_assoc (ta a.0) a.1 rest);
+      none = none_first ta tw lines behind g.back s.none;
     }
 
 second_at : {B W : Type 0} {tb : B → List ℕ} {FB : B → Type 0} {tw : W → List ℕ} {FW : W → Type 0} (front bytes rest lines behind : List ℕ) → AreLines front → bytes ≡ front ++ rest → Ends front tb FB tw FW → StopsAt tb FB rest lines behind → StopsAt tw FW bytes (front ++ lines) behind
-second_at {tb = tb} front bytes rest lines behind whole e ends s =
+second_at {tb = tb} {tw = tw} front bytes rest lines behind whole e ends s =
     let b = s.begins in
     let w = ends.make b.value b.fits in
     record {
       there = e ∙ ap (λ y. front ++ y) s.there ∙ sym (append_assoc front lines behind);
       whole = lines_append front lines whole s.whole;
       begins = record { value = w.0; more = b.more; fits = w.1; text_is = w.2 ∙ ap (λ y. front ++ y) b.text_is ∙ sym (append_assoc front lines b.more) };
-      none = λ others same value more f there.
-          let c = ends.end value (lines ++ others) more f (sym (append_assoc front lines others) ∙ there) in
-          s.none others same c.0 more c.1 c.2;
+      none = none_second tb tw front lines behind ends.end s.none;
     }
 
 second_stops : {B Y W : Type 0} {tb : B → List ℕ} {FB : B → Type 0} {tw : W → List ℕ} {FW : W → Type 0} (front bytes rest : List ℕ) (r : Result (Y × List ℕ) Bad) → AreLines front → bytes ≡ front ++ rest → Ends front tb FB tw FW → Stops tb FB rest r → Stops tw FW bytes r
@@ -240,7 +254,7 @@ both_part {ta = ta} {tb = tb} a b = record {
 pub row_part : {D X : Type 0} {v : D → X} {t : D → List ℕ} {F : D → Type 0} {read : List ℕ → Result (X × List ℕ) Bad} → IsRow v t F read → IsPart v t F read
 row_part {t = t} w = record { reads = w.reads; stopped = row_stops w; lines = λ d f. line_lines (t d) (w.line d f); some = w.some; some_fits = w.some_fits }
 
-rows_are_lines : {D X : Type 0} {v : D → X} {t : D → List ℕ} {F : D → Type 0} {read : List ℕ → Result (X × List ℕ) Bad} → IsRow v t F read → (ds : List D) → AllByRecursion F ds → AreLines (flat_map t ds)
+pub rows_are_lines : {D X : Type 0} {v : D → X} {t : D → List ℕ} {F : D → Type 0} {read : List ℕ → Result (X × List ℕ) Bad} → IsRow v t F read → (ds : List D) → AllByRecursion F ds → AreLines (flat_map t ds)
 rows_are_lines w [] f = refl
 rows_are_lines {t = t} w (d ∷ ds) f = lines_append (t d) (flat_map t ds) (line_lines (t d) (w.line d f.0)) (rows_are_lines w ds f.1)
 

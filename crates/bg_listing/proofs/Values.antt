@@ -23,7 +23,7 @@ parts_of signature row = (row.id, (label_of signature row.control, (row.parent, 
 abbrev pub sections_of : List Control → Big → Sections NodeParts
 sections_of signature big = (big.regions, (big.sites, (big.inner, (big.outer, (big.edges, map (parts_of signature) big.nodes)))))
 
-abbrev IsKnown : List Control → NodeRow → Type 0
+abbrev pub IsKnown : List Control → NodeRow → Type 0
 IsKnown signature row = row.control < length signature
 
 -- ---- the text
@@ -45,7 +45,7 @@ rows_back signature (r ∷ rows) known =
     let label : label_of signature (control_of signature r.1.0) ≡ r.1.0 = label_back signature r.1.0 known.0 in
     ap (λ l. (r.0, (l, r.1.1)) ∷ map (parts_of signature) (map (row_of signature) rows)) label ∙ ap (λ rs. r ∷ rs) (rows_back signature rows known.1)
 
-rows_own : (signature : List Control) → IsDistinct (λ (x y : Control). same_label x.label y.label) signature → (rows : List NodeRow) → AllByRecursion (IsKnown signature) rows → map (row_of signature) (map (parts_of signature) rows) ≡ rows
+pub rows_own : (signature : List Control) → IsDistinct (λ (x y : Control). same_label x.label y.label) signature → (rows : List NodeRow) → AllByRecursion (IsKnown signature) rows → map (row_of signature) (map (parts_of signature) rows) ≡ rows
 rows_own signature distinct [] known = refl
 rows_own signature distinct (r ∷ rows) known =
     let number : control_of signature (label_of signature r.control) ≡ r.control = control_own signature distinct r.control known.0 in

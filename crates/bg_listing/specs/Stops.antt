@@ -1,5 +1,5 @@
 -- The line at which a text stops to be the listing of a value.
-use Rattle.std.specs.Prelude.{◌≡◌, ℕ, ◌+◌, Bool, true, List, [], ◌∷◌, ◌++◌, drop, ◌==◌, if◌then◌else◌}
+use Rattle.std.specs.Prelude.{◌≡◌, ℕ, ◌+◌, Bool, true, ◌||◌, List, [], ◌∷◌, ◌++◌, drop, ◌==◌, if◌then◌else◌}
 use Rattle.bg_base.specs.declared.signature.Control.{Control}
 use Rattle.bg_base.specs.declared.big.Big.{Big}
 use Rattle.bg_listing.specs.declared.cursor.Cursor.{Cursor}
@@ -28,13 +28,18 @@ pub record Begins {A : Type 0} (text : A → List ℕ) (Fits : A → Type 0) (fr
   pub fits : Fits value
   pub text_is : text value ≡ front ++ more
 
+-- no text of a value that fits begins with the lines and the line behind them, whatever follows it
+abbrev pub NoneBegins : {A : Type 0} → (A → List ℕ) → (A → Type 0) → List ℕ → List ℕ → Type 0
+NoneBegins {A} text Fits lines behind =
+    (others : List ℕ) → first_line others ≡ first_line behind → (value : A) (rest : List ℕ) → Fits value → ¬ (lines ++ others ≡ text value ++ rest)
+
 -- the text of a value that fits begins with some of the lines, and with none more: the lines begin such a text, and
 -- wherever the line behind them stands behind them, whatever follows it, no such text stands
 pub record StopsAt {A : Type 0} (text : A → List ℕ) (Fits : A → Type 0) (bytes lines behind : List ℕ) : Type 0 where
   pub there : bytes ≡ lines ++ behind
   pub whole : AreLines lines
   pub begins : Begins text Fits lines
-  pub none : (others : List ℕ) → first_line others ≡ first_line behind → (value : A) (rest : List ℕ) → Fits value → ¬ (lines ++ others ≡ text value ++ rest)
+  pub none : NoneBegins text Fits lines behind
 
 -- the line of that number is the one at which the text at the cursor stops to be that of a value
 pub record StopsAtLine {A : Type 0} (text : A → List ℕ) (Fits : A → Type 0) (bytes : List ℕ) (at : Cursor) (line : ℕ) : Type 0 where
@@ -42,6 +47,20 @@ pub record StopsAtLine {A : Type 0} (text : A → List ℕ) (Fits : A → Type 0
   pub behind : List ℕ
   pub line_is : line ≡ at.line + line_feeds lines
   pub stops : StopsAt text Fits (drop at.offset bytes) lines behind
+
+-- no text of a value that fits begins with the lines from the cursor up to and with the line of that number
+pub record NoneFromLine {A : Type 0} (text : A → List ℕ) (Fits : A → Type 0) (bytes : List ℕ) (at : Cursor) (line : ℕ) : Type 0 where
+  pub lines : List ℕ
+  pub behind : List ℕ
+  pub there : drop at.offset bytes ≡ lines ++ behind
+  pub whole : AreLines lines
+  pub line_is : line ≡ at.line + line_feeds lines
+  pub none : NoneBegins text Fits lines behind
+
+-- the codes of rules that a row breaks whatever the rows behind it are: rows that do not ascend, links that are no
+-- ports, a label that stood before
+abbrev pub is_settled : ℕ → Bool
+is_settled code = (code == 3) || (code == 5) || (code == 9)
 
 -- a bigraph and a list of controls under which it is listed
 abbrev pub Listed : Type 0

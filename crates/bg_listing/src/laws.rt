@@ -1,5 +1,5 @@
 //! What acceptance and refusal of a listing mean of the whole text. A call does nothing.
-ghost use Rattle.std.specs.Prelude.{◌≡◌, ◌≤◌, ◌↔◌, ◌++◌, List, ℕ, Ok, Err, drop};
+ghost use Rattle.std.specs.Prelude.{◌≡◌, ◌≤◌, ◌↔◌, ◌++◌, List, ℕ, Ok, Err, drop, IsTrue};
 ghost use Rattle.bg_base.specs.declared.signature.Control.{Control};
 ghost use Rattle.bg_base.specs.declared.big.Big.{Big};
 ghost use Rattle.bg_base.specs.Signatures.{IsSignature};
@@ -7,7 +7,7 @@ ghost use Rattle.bg_listing.specs.declared.cursor.Cursor.{Cursor};
 ghost use Rattle.bg_listing.specs.Spelling.{signature_text, big_text};
 ghost use Rattle.bg_listing.specs.Limits.{IsReadableSignature, IsReadableBig};
 ghost use Rattle.bg_listing.specs.Verdict.{IsAt, Refusal, signature_verdict, big_verdict};
-ghost use Rattle.bg_listing.specs.Stops.{StopsAtLine, AreListed, listed_text, IsListed};
+ghost use Rattle.bg_listing.specs.Stops.{StopsAtLine, NoneFromLine, AreListed, listed_text, IsListed, is_settled};
 
 /// The verdict on a text is a value exactly where the listing of that value, a signature or a bigraph within the limits,
 /// stands at the cursor with this rest behind it.
@@ -33,4 +33,14 @@ pub fn the_line_of_a_refusal_is_the_first_of_no_listing()
         → StopsAtLine signature_text AreListed bytes at line }
     ensures bigraphs { (signature : List Control) (bytes : List ℕ) (at : Cursor) → IsAt bytes at → (code line : ℕ) → code ≤ 2 → big_verdict signature bytes at ≡ Err (code, line)
         → StopsAtLine listed_text IsListed bytes at line }
+{}
+
+/// Where a text is refused with code 3, 5 or 9, no listing of a valid value begins with the lines up to and with that of
+/// the refusal. Of the codes 4, 6 and 7 this is not true: a later line may be that of the place or of the link that a row
+/// names, may tell the control of its parent, or may lead from its parent to a region.
+pub fn no_listing_goes_on_from_a_settled_refusal()
+    ensures signatures { (bytes : List ℕ) (at : Cursor) → IsAt bytes at → (code line : ℕ) → IsTrue (is_settled code) → signature_verdict bytes at ≡ Err (code, line)
+        → NoneFromLine signature_text IsReadableSignature bytes at line }
+    ensures bigraphs { (signature : List Control) → IsSignature signature → (bytes : List ℕ) (at : Cursor) → IsAt bytes at → (code line : ℕ) → IsTrue (is_settled code) → big_verdict signature bytes at ≡ Err (code, line)
+        → NoneFromLine (big_text signature) (IsReadableBig signature) bytes at line }
 {}
