@@ -120,7 +120,7 @@ own_rows_back before (p ∷ nodes) =
     ap (λ l. (p.0, (l, p.1.1)) ∷ map (parts_of (before ++ own_control p ∷ map own_control nodes)) (own_rows (suc (length before)) nodes)) (label_at_seam before (own_control p) (map own_control nodes))
     ∙ ap (λ ps. p ∷ ps) later
 
-listed_from : (parts : Sections NodeParts) → AreSections parts → (listed : Listed) × IsListed listed × (listed_text listed ≡ parts_text parts)
+pub listed_from : (parts : Sections NodeParts) → AreSections parts → (listed : Listed) × IsListed listed × (listed_text listed ≡ parts_text parts)
 listed_from parts f =
     let nodes : List NodeParts = parts.1.1.1.1.1 in
     let controls : List Control = map own_control nodes in

@@ -24,7 +24,7 @@ use Rattle.bg_listing.specs.Spelling.{place_line, inner_line, name_line, edge_li
 use Rattle.bg_listing.specs.Limits.{most_rows, most_controls, IsNumber, IsPlace, IsName, IsInner, AreCounted, IsControl, IsReadableSignature, IsReadableBig}
 use Rattle.bg_listing.specs.Lines.{Bad, NodeParts, row_of, Sections, signature_at, big_at}
 use Rattle.bg_listing.specs.Verdict.{line_feeds, IsAt, Refusal, line_of, judged, repeat_among, first_repeat, without_repeat, lines_before, without_fault, signature_verdict, big_verdict}
-use Rattle.bg_listing.specs.Stops.{NoneFromLine, is_settled, AreListed}
+use Rattle.bg_listing.specs.Stops.{HasText, NoneFromLine, is_settled, AreListed, listed_text, IsListed}
 use Rattle.bg_listing.proofs.Combinators.{Holds, found, joined, FitBoth, map_same}
 use Rattle.bg_listing.proofs.Listings.{parts_line, AreParts, parts_text, AreSections, seen_by, sections_read}
 use Rattle.bg_listing.proofs.Labels.{none_before}
@@ -32,21 +32,22 @@ use Rattle.bg_listing.proofs.Values.{IsKnown, sections_of, parts_text_is, sectio
 use Rattle.bg_listing.proofs.Stopping.{Names, Stops, goes, stops, IsRow, row_part, section_part}
 use Rattle.bg_listing.proofs.OneLine.{count_row, edge_rows, place_rows, name_rows, inner_rows, control_rows, node_rows}
 use Rattle.bg_listing.proofs.SettledRows.{feeds-append, line_feed_once, rows_feeds, StopsIn, in_kind, in_first, in_second, Passes, passes_from, section_stops_at, section_stops_in, section_feeds, behind_part, counted_as}
-use Rattle.bg_listing.proofs.RefusalLines.{one_refusal, region_part, site_part, inner_part, outer_part, edge_part, signature_stops, parts_stop}
+use Rattle.bg_listing.proofs.RefusalLines.{one_refusal, region_part, site_part, inner_part, outer_part, edge_part, listed_from, signature_stops, parts_stop}
 
 named_line : {W : Type 0} {tw : W → List ℕ} {FW : W → Type 0} (bytes : List ℕ) (at : Cursor) (line count : ℕ) → StopsIn tw FW (drop at.offset bytes) count → line ≡ at.line + count → NoneFromLine tw FW bytes at line
 named_line bytes at line count s e = record { lines = s.lines; behind = s.behind; there = s.there; whole = s.whole; line_is = e ∙ ap (λ n. at.line + n) (sym s.feeds); none = s.none }
 
 -- a settled refusal is none of the first pass
-settled_is_late : (code : ℕ) → is_settled code ≡ true → code ≤ 2 → ⊥
-settled_is_late code s le = grind arith
+settled_is_late : (code : ℕ) → is_settled code ≡ true → 2 < code
+settled_is_late code s = grind arith
 
-second_pass : {D X : Type 0} {t : D → List ℕ} {F : D → Type 0} (bytes rest : List ℕ) (r : Result (X × List ℕ) Bad) (second : X × List ℕ → Result (X × List ℕ) Refusal) (code line : ℕ) → is_settled code ≡ true
+second_pass : {D X : Type 0} {t : D → List ℕ} {F : D → Type 0} (bytes rest : List ℕ) (r : Result (X × List ℕ) Bad) (second : X × List ℕ → Result (X × List ℕ) Refusal) (code line : ℕ) → 2 < code
     → Stops t F rest r → judged bytes r second ≡ Err (code, line) → (x : X × List ℕ) × (r ≡ Ok x) × (second x ≡ Err (code, line))
 second_pass bytes rest r second code line s (goes x) e = (x, refl, e)
 second_pass bytes rest r second code line s (stops bad lines behind named at) e =
     let same : bad.code ≡ code = ap (λ (r : Refusal). r.0) (one_refusal (judged bytes (Err bad) second) (bad.code, line_of bytes bad.left) (code, line) refl e) in
-    absurd (settled_is_late code s (subst (λ c. c ≤ 2) same named.1))
+    let le : code ≤ 2 = subst (λ c. c ≤ 2) same named.1 in
+    absurd (omega arith)
 
 -- ---- signatures
 
@@ -98,7 +99,7 @@ repeat_of (Some row) first_line x code line e = (row, refl, sym (ap (λ (r : Ref
 pub signature_settled : (bytes : List ℕ) (at : Cursor) → IsAt bytes at → (code line : ℕ) → IsTrue (is_settled code) → signature_verdict bytes at ≡ Err (code, line) → NoneFromLine signature_text IsReadableSignature bytes at line
 unfolding signature_verdict
 signature_settled bytes at is code line settled e =
-    let p = second_pass bytes (drop at.offset bytes) (signature_at (drop at.offset bytes)) (λ found. without_repeat (first_repeat found.0) (at.line + 1) found) code line settled (signature_stops (drop at.offset bytes)) e in
+    let p = second_pass bytes (drop at.offset bytes) (signature_at (drop at.offset bytes)) (λ found. without_repeat (first_repeat found.0) (at.line + 1) found) code line (settled_is_late code settled) (signature_stops (drop at.offset bytes)) e in
     let r = repeat_of (first_repeat p.0.0) (at.line + 1) p.0 code line p.2 in
     let text = signature_found (drop at.offset bytes) p.0.0 p.0.1 p.1 in
     named_line bytes at line (1 + r.0) (signature_stops_in p.0.0 (drop at.offset bytes) p.0.1 r.0 text.counted text.there r.1) (omega (arith, r.2))
@@ -349,7 +350,28 @@ pub big_settled : (signature : List Control) → IsSignature signature → (byte
 unfolding big_verdict
 big_settled signature kept bytes at is code line settled e =
     let text : List ℕ = drop at.offset bytes in
-    let p = second_pass bytes text (big_at signature text) (λ found. without_fault (fault_of signature found.0) at.line found.0 found) code line settled (parts_stop signature text) e in
+    let p = second_pass bytes text (big_at signature text) (λ found. without_fault (fault_of signature found.0) at.line found.0 found) code line (settled_is_late code settled) (parts_stop signature text) e in
     let f = fault_of_line (fault_of signature p.0.0) at.line p.0.0 p.0 code line p.2 in
     let held = subst (λ r. Holds (seen_by signature) parts_text AreSections text r) p.1 ((sections_read signature).sound text) in
     named_line bytes at line (lines_before f.0.0 p.0.0 + f.0.1) (held_stops signature kept text p.0.0 p.0.1 f.0 (subst (λ c. is_settled c ≡ true) (sym f.2) settled) held f.1) (omega (arith, f.3))
+
+-- ---- what the second pass refuses has the form of a listing
+
+pub signature_form : (bytes : List ℕ) (at : Cursor) (code line : ℕ) → 2 < code → signature_verdict bytes at ≡ Err (code, line) → HasText signature_text AreListed (drop at.offset bytes)
+unfolding signature_verdict
+signature_form bytes at code line late e =
+    let p = second_pass bytes (drop at.offset bytes) (signature_at (drop at.offset bytes)) (λ found. without_repeat (first_repeat found.0) (at.line + 1) found) code line late (signature_stops (drop at.offset bytes)) e in
+    let text = signature_found (drop at.offset bytes) p.0.0 p.0.1 p.1 in
+    record { value = p.0.0; rest = p.0.1; fits = text.counted; there = text.there }
+
+held_form : (signature : List Control) (bytes : List ℕ) (x : Big × List ℕ) → Holds {E = Bad} (seen_by signature) parts_text AreSections bytes (Ok x) → HasText listed_text IsListed bytes
+held_form signature bytes _ (found d x more e f same) =
+    let listed = listed_from d f in
+    record { value = listed.0; rest = more; fits = listed.1; there = e ∙ ap (λ t. t ++ more) (sym listed.2) }
+
+pub big_form : (signature : List Control) (bytes : List ℕ) (at : Cursor) (code line : ℕ) → 2 < code → big_verdict signature bytes at ≡ Err (code, line) → HasText listed_text IsListed (drop at.offset bytes)
+unfolding big_verdict
+big_form signature bytes at code line late e =
+    let text : List ℕ = drop at.offset bytes in
+    let p = second_pass bytes text (big_at signature text) (λ found. without_fault (fault_of signature found.0) at.line found.0 found) code line late (parts_stop signature text) e in
+    held_form signature text p.0 (subst (λ r. Holds (seen_by signature) parts_text AreSections text r) p.1 ((sections_read signature).sound text))

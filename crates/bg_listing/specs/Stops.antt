@@ -28,6 +28,13 @@ pub record Begins {A : Type 0} (text : A → List ℕ) (Fits : A → Type 0) (fr
   pub fits : Fits value
   pub text_is : text value ≡ front ++ more
 
+-- the text of a value that fits stands in front of the bytes
+pub record HasText {A : Type 0} (text : A → List ℕ) (Fits : A → Type 0) (bytes : List ℕ) : Type 0 where
+  pub value : A
+  pub rest : List ℕ
+  pub fits : Fits value
+  pub there : bytes ≡ text value ++ rest
+
 -- no text of a value that fits begins with the lines and the line behind them, whatever follows it
 abbrev pub NoneBegins : {A : Type 0} → (A → List ℕ) → (A → Type 0) → List ℕ → List ℕ → Type 0
 NoneBegins {A} text Fits lines behind =

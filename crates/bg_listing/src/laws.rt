@@ -1,5 +1,5 @@
 //! What acceptance and refusal of a listing mean of the whole text. A call does nothing.
-ghost use Rattle.std.specs.Prelude.{◌≡◌, ◌≤◌, ◌↔◌, ◌++◌, List, ℕ, Ok, Err, drop, IsTrue};
+ghost use Rattle.std.specs.Prelude.{◌≡◌, ◌<◌, ◌≤◌, ◌↔◌, ◌++◌, List, ℕ, Ok, Err, drop, IsTrue};
 ghost use Rattle.bg_base.specs.declared.signature.Control.{Control};
 ghost use Rattle.bg_base.specs.declared.big.Big.{Big};
 ghost use Rattle.bg_base.specs.Signatures.{IsSignature};
@@ -7,7 +7,7 @@ ghost use Rattle.bg_listing.specs.declared.cursor.Cursor.{Cursor};
 ghost use Rattle.bg_listing.specs.Spelling.{signature_text, big_text};
 ghost use Rattle.bg_listing.specs.Limits.{IsReadableSignature, IsReadableBig};
 ghost use Rattle.bg_listing.specs.Verdict.{IsAt, Refusal, signature_verdict, big_verdict};
-ghost use Rattle.bg_listing.specs.Stops.{StopsAtLine, NoneFromLine, AreListed, listed_text, IsListed, is_settled};
+ghost use Rattle.bg_listing.specs.Stops.{StopsAtLine, HasText, NoneFromLine, AreListed, listed_text, IsListed, is_settled};
 
 /// The verdict on a text is a value exactly where the listing of that value, a signature or a bigraph within the limits,
 /// stands at the cursor with this rest behind it.
@@ -26,8 +26,11 @@ pub fn refused_texts_are_no_listings()
         → (big : Big) (rest : List ℕ) → IsReadableBig signature big → ¬ (drop at.offset bytes ≡ big_text signature big ++ rest) }
 {}
 
-/// Where a text is refused with code 1 or 2, it stops to be a listing at the line of the refusal. The lines before it
-/// begin a listing within the limits, and no listing within the limits begins with these lines and the one of the refusal.
+/// Where a text is refused with code 1 or 2, it stops to be a listing at the line of the refusal: the lines before it, from
+/// the cursor on, begin the listing of some value within the limits, and no such listing begins with these lines and that
+/// of the refusal, whatever follows them. A value within the limits may break a rule, as by a label that stands twice, and
+/// a bigraph may have controls of any list, since the first pass asks for no rules. Where the input ends in the line of
+/// the refusal, that line is what is left of the input.
 pub fn the_line_of_a_refusal_is_the_first_of_no_listing()
     ensures signatures { (bytes : List ℕ) (at : Cursor) → IsAt bytes at → (code line : ℕ) → code ≤ 2 → signature_verdict bytes at ≡ Err (code, line)
         → StopsAtLine signature_text AreListed bytes at line }
@@ -35,9 +38,22 @@ pub fn the_line_of_a_refusal_is_the_first_of_no_listing()
         → StopsAtLine listed_text IsListed bytes at line }
 {}
 
-/// Where a text is refused with code 3, 5 or 9, no listing of a valid value begins with the lines up to and with that of
-/// the refusal. Of the codes 4, 6 and 7 this is not true: a later line may be that of the place or of the link that a row
-/// names, may tell the control of its parent, or may lead from its parent to a region.
+/// Where a text is refused with another code, the listing of some value within the limits stands at the cursor.
+pub fn a_text_that_breaks_a_rule_has_the_form_of_a_listing()
+    ensures signatures { (bytes : List ℕ) (at : Cursor) (code line : ℕ) → 2 < code → signature_verdict bytes at ≡ Err (code, line)
+        → HasText signature_text AreListed (drop at.offset bytes) }
+    ensures bigraphs { (signature : List Control) (bytes : List ℕ) (at : Cursor) (code line : ℕ) → 2 < code → big_verdict signature bytes at ≡ Err (code, line)
+        → HasText listed_text IsListed (drop at.offset bytes) }
+{}
+
+/// Where a text is refused with code 3, 5 or 9, no listing of a signature, or of a bigraph that is valid under this one,
+/// begins with the lines from the cursor up to and with that of the refusal, whatever follows them.
+///
+/// Of the codes 4, 6 and 7 this is not true. A row may name a place or a link that a later line has, a later line tells
+/// the control of the node that a row names, and it may lead from there to a region: the same lines up to the row, with
+/// other lines behind them, are then a listing. Nor do the lines before a row that is refused with code 3 or 5 begin the
+/// listing of a valid bigraph in all cases: a site may name a node that is to come, and all controls that may have
+/// children may have ports for which no edge and no outer name is there.
 pub fn no_listing_goes_on_from_a_settled_refusal()
     ensures signatures { (bytes : List ℕ) (at : Cursor) → IsAt bytes at → (code line : ℕ) → IsTrue (is_settled code) → signature_verdict bytes at ≡ Err (code, line)
         → NoneFromLine signature_text IsReadableSignature bytes at line }
