@@ -1,22 +1,22 @@
 -- The line of a refusal of the first pass is the one at which the text stops to be a listing.
-use Rattle.std.proofs.Common.{◌≡◌, ℕ, zero, suc, ◌+◌, ◌-◌, ◌<◌, ◌≤◌, Bool, true, false, not, cond, eqb, Option, Some, None, List, [], ◌∷◌, ◌++◌, length, map, take, drop, Result, Ok, Err, lit≤, refl, sym, ap, subst, ◌∙◌, append_assoc, append-nil, arith}
-use Rattle.std.specs.Prelude.{IfSome, codes, count_by}
+use Rattle.std.proofs.Common.{◌≡◌, ℕ, suc, ◌+◌, ◌-◌, ◌<◌, ◌≤◌, Bool, true, false, not, cond, eqb, Option, Some, None, List, [], ◌∷◌, ◌++◌, length, map, take, drop, Result, Ok, Err, lit≤, refl, sym, ap, subst, ◌∙◌, append_assoc, arith}
+use Rattle.std.specs.Prelude.{IfSome, codes}
 use Rattle.std.specs.List.{AllByRecursion}
-use Rattle.std.proofs.lemmas.List.{length-append, length-map, take-append-drop, take_at}
+use Rattle.std.proofs.lemmas.List.{length-append, take-append-drop, take_at}
 use Rattle.bg_base.specs.declared.signature.Kind.TheVariants.{Normal}
 use Rattle.bg_base.specs.declared.signature.Control.{Control}
 use Rattle.bg_base.specs.declared.big.NodeRow.{NodeRow}
 use Rattle.bg_base.specs.declared.big.Big.{Big}
 use Rattle.bg_base.specs.declared.check.Part.{Part}
 use Rattle.bg_base.specs.declared.check.Part.TheVariants.{Sites, Inner, Outer, Edges, Nodes}
-use Rattle.bg_base.specs.Faults.{fault_of, codes_from, first_fault, shifted, or_else, sites_fault, inner_fault, outer_fault, edges_fault, nodes_fault, site_code, inner_code, outer_code, edge_code, node_code, rises, is_known}
+use Rattle.bg_base.specs.Faults.{fault_of, codes_from, first_fault, shifted, or_else, sites_fault, inner_fault, outer_fault, edges_fault, nodes_fault, site_code, inner_code, outer_code, edge_code, node_code}
 use Rattle.bg_listing.specs.declared.cursor.Cursor.{Cursor}
-use Rattle.bg_listing.specs.Spelling.{label_of, place_line, inner_line, name_line, edge_line, count_line, section_text, signature_text, big_text}
+use Rattle.bg_listing.specs.Spelling.{label_of, place_line, inner_line, name_line, edge_line, count_line, section_text, signature_text}
 use Rattle.bg_listing.specs.Limits.{most_rows, most_controls, IsNumber, IsPlace, IsName, IsInner, AreCounted}
 use Rattle.bg_listing.specs.Combinators.{both}
 use Rattle.bg_listing.specs.Lines.{Bad, count_at, section_at, edge_row, place_row, name_row, inner_row, node_row, NodeParts, row_of, Sections, big_of, signature_at, big_at}
 use Rattle.bg_listing.specs.Verdict.{line_feeds, IsAt, Refusal, line_of, judged, first_repeat, without_repeat, without_fault, lines_before, signature_verdict, big_verdict}
-use Rattle.bg_listing.specs.Stops.{StopsAt, StopsAtLine, AreListed, Listed, listed_text, IsListed}
+use Rattle.bg_listing.specs.Stops.{StopsAtLine, AreListed, Listed, listed_text, IsListed}
 use Rattle.bg_listing.proofs.Listings.{parts_line, AreParts, parts_text, AreSections}
 use Rattle.bg_listing.proofs.Values.{parts_of, sections_of, parts_text_is, spelled_from_sections, sections_from_spelled}
 use Rattle.bg_listing.proofs.Stopping.{Stops, goes, stops, IsPart, row_part, section_part, both_part, mapped_stop, other_stop}

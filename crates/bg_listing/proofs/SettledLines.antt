@@ -1,10 +1,7 @@
 -- No listing goes on from the line of a refusal with code 3, 5 or 9.
-use Rattle.std.proofs.Common.{◌≡◌, ℕ, zero, suc, ◌+◌, ◌<◌, ◌≤◌, Bool, true, false, not, ◌&&◌, ◌||◌, cond, eqb, Option, Some, None, List, [], ◌∷◌, ◌++◌, length, map, drop, Result, Ok, Err, lit≤, refl, sym, ap, subst, ◌∙◌, append_assoc, append-nil, arith}
+use Rattle.std.proofs.Common.{◌≡◌, ℕ, suc, ◌+◌, ◌<◌, ◌≤◌, Bool, true, false, not, ◌&&◌, cond, eqb, Option, Some, None, List, [], ◌∷◌, ◌++◌, length, map, drop, Result, Ok, Err, lit≤, refl, sym, ap, subst, ◌∙◌, append_assoc, append-nil, arith}
 use Rattle.std.specs.Prelude.{IfSome, IsTrue, codes, option_map, is_some}
-use Rattle.std.specs.List.{AllByRecursion}
 use Rattle.std.specs.Ordering.{nat_cmp}
-use Rattle.std.proofs.lemmas.Bool.{and_parts, and_from}
-use Rattle.std.proofs.lemmas.List.{length-append, length-map}
 use Rattle.std.proofs.lemmas.List.Elements.{recursion_from_All}
 use Rattle.bg_base.specs.declared.names.Name.{Name}
 use Rattle.bg_base.specs.declared.names.Place.{Place}
@@ -16,22 +13,22 @@ use Rattle.bg_base.specs.declared.check.Part.{Part}
 use Rattle.bg_base.specs.declared.check.Part.TheVariants.{Sites, Inner, Outer, Edges, Nodes}
 use Rattle.bg_base.specs.Order.{name_cmp}
 use Rattle.bg_base.specs.Signatures.{number_of, IsSignature}
-use Rattle.bg_base.specs.Bigraph.{has_place, has_link, is_rooted, is_atomic, arity_of}
+use Rattle.bg_base.specs.Bigraph.{has_place, is_rooted, is_atomic, arity_of}
 use Rattle.bg_base.specs.Faults.{fault_of, codes_from, first_fault, shifted, or_else, sites_fault, inner_fault, outer_fault, edges_fault, nodes_fault, site_code, inner_code, outer_code, edge_code, node_code, rises, is_known}
 use Rattle.bg_base.proofs.FaultLaws.{no_fault}
 use Rattle.bg_listing.specs.declared.cursor.Cursor.{Cursor}
 use Rattle.bg_listing.specs.Spelling.{place_line, inner_line, name_line, edge_line, count_line, section_text, signature_text, big_text}
-use Rattle.bg_listing.specs.Limits.{most_rows, most_controls, IsNumber, IsPlace, IsName, IsInner, AreCounted, IsControl, IsReadableSignature, IsReadableBig}
+use Rattle.bg_listing.specs.Limits.{most_rows, most_controls, IsNumber, IsPlace, IsName, IsInner, AreCounted, IsReadableSignature, IsReadableBig}
 use Rattle.bg_listing.specs.Lines.{Bad, NodeParts, row_of, Sections, signature_at, big_at}
-use Rattle.bg_listing.specs.Verdict.{line_feeds, IsAt, Refusal, line_of, judged, repeat_among, first_repeat, without_repeat, lines_before, without_fault, signature_verdict, big_verdict}
+use Rattle.bg_listing.specs.Verdict.{IsAt, Refusal, line_of, judged, repeat_among, first_repeat, without_repeat, lines_before, without_fault, signature_verdict, big_verdict}
 use Rattle.bg_listing.specs.Stops.{HasText, NoneFromLine, is_settled, AreListed, listed_text, IsListed}
 use Rattle.bg_listing.proofs.Combinators.{Holds, found, joined, FitBoth, map_same}
 use Rattle.bg_listing.proofs.Listings.{parts_line, AreParts, parts_text, AreSections, seen_by, sections_read}
 use Rattle.bg_listing.proofs.Labels.{none_before}
 use Rattle.bg_listing.proofs.Values.{IsKnown, sections_of, parts_text_is, sections_from_spelled, rows_own, counted_signature, signature_found}
-use Rattle.bg_listing.proofs.Stopping.{Names, Stops, goes, stops, IsRow, row_part, section_part}
+use Rattle.bg_listing.proofs.Stopping.{Stops, goes, stops}
 use Rattle.bg_listing.proofs.OneLine.{count_row, edge_rows, place_rows, name_rows, inner_rows, control_rows, node_rows}
-use Rattle.bg_listing.proofs.SettledRows.{feeds-append, line_feed_once, rows_feeds, StopsIn, in_kind, in_first, in_second, Passes, passes_from, section_stops_at, section_stops_in, section_feeds, behind_part, counted_as}
+use Rattle.bg_listing.proofs.SettledRows.{line_feed_once, StopsIn, in_kind, in_first, Passes, passes_from, section_stops_at, section_stops_in, section_feeds, behind_part, counted_as}
 use Rattle.bg_listing.proofs.RefusalLines.{one_refusal, region_part, site_part, inner_part, outer_part, edge_part, listed_from, signature_stops, parts_stop}
 
 named_line : {W : Type 0} {tw : W → List ℕ} {FW : W → Type 0} (bytes : List ℕ) (at : Cursor) (line count : ℕ) → StopsIn tw FW (drop at.offset bytes) count → line ≡ at.line + count → NoneFromLine tw FW bytes at line

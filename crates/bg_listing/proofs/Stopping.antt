@@ -1,12 +1,12 @@
 -- The laws of the line at which a text stops to be the listing of a value, once for texts of every kind.
-use Rattle.std.proofs.Common.{◌≡◌, ℕ, zero, suc, ◌<◌, ◌≤◌, ◌^◌, Bool, true, false, not, ◌&&◌, cond, eqb, List, [], ◌∷◌, ◌++◌, length, map, Result, Ok, Err, refl, sym, ap, subst, ◌∙◌, append_assoc, append-nil, arith}
+use Rattle.std.proofs.Common.{◌≡◌, ℕ, zero, suc, ◌≤◌, Bool, true, false, not, cond, eqb, List, [], ◌∷◌, ◌++◌, length, map, Result, Ok, Err, refl, sym, ap, subst, ◌∙◌, append_assoc, append-nil, arith}
 use Rattle.std.specs.List.{flat_map, AllByRecursion, list_all}
 use Rattle.std.proofs.lemmas.Bool.{and_parts}
 use Rattle.bg_listing.specs.Spelling.{count_line, section_text}
 use Rattle.bg_listing.specs.Limits.{greatest, AreCounted}
 use Rattle.bg_listing.specs.Combinators.{◌>>=◌, mapped, with_front, both, each}
 use Rattle.bg_listing.specs.Lines.{Bad, count_at, section_at}
-use Rattle.bg_listing.specs.Stops.{first_line, ends_line, AreLines, Begins, NoneBegins, StopsAt}
+use Rattle.bg_listing.specs.Stops.{first_line, ends_line, AreLines, NoneBegins, StopsAt}
 use Rattle.bg_listing.proofs.Combinators.{Holds, found, refused, Reads, Anything, AreThisMany, pair_of, joined, FitBoth, both_read, no_two}
 use Rattle.bg_listing.proofs.Listings.{section_reads}
 
