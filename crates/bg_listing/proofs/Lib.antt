@@ -15,4 +15,5 @@ pub mod Stopping
 pub mod OneLine
 pub mod RefusalLines
 pub mod SettledRows
+pub mod FreshLabels
 pub mod SettledLines

@@ -39,7 +39,7 @@ not_there None e = refl
 not_there (Some k) e = absurd cc
 
 -- controls within the limits, no label twice, keep what a signature keeps
-signature_among : (before controls : List Control) → IsSignature before → length (before ++ controls) ≤ 4096 → AllByRecursion IsControl controls → repeat_among before controls ≡ None → IsSignature (before ++ controls)
+pub signature_among : (before controls : List Control) → IsSignature before → length (before ++ controls) ≤ 4096 → AllByRecursion IsControl controls → repeat_among before controls ≡ None → IsSignature (before ++ controls)
 signature_among before [] kept many all none = subst IsSignature (sym (append-nil before)) kept
 signature_among before (control ∷ controls) kept many all none =
     let parts = none_here (is_some (number_of before control.label)) (repeat_among (before ++ control ∷ []) controls) none in

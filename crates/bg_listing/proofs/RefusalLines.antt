@@ -1,4 +1,4 @@
--- The line of a refusal of the first pass is the one at which the text stops to be a listing.
+-- The line of a refusal of the first pass is the one at which the text stops being a listing.
 use Rattle.std.proofs.Common.{◌≡◌, ℕ, suc, ◌+◌, ◌-◌, ◌<◌, ◌≤◌, Bool, true, false, not, cond, eqb, Option, Some, None, List, [], ◌∷◌, ◌++◌, length, map, take, drop, Result, Ok, Err, lit≤, refl, sym, ap, subst, ◌∙◌, append_assoc, arith}
 use Rattle.std.specs.Prelude.{IfSome, codes}
 use Rattle.std.specs.List.{AllByRecursion}
@@ -115,8 +115,8 @@ own_rows_back before (p ∷ nodes) =
     let moved : (before ++ own_control p ∷ []) ++ map own_control nodes ≡ before ++ own_control p ∷ map own_control nodes = append_assoc before (own_control p ∷ []) (map own_control nodes) in
     let long : length (before ++ own_control p ∷ []) ≡ suc (length before) = omega (arith, length-append before (own_control p ∷ [])) in
     let later : map (parts_of (before ++ own_control p ∷ map own_control nodes)) (own_rows (suc (length before)) nodes) ≡ nodes =
-        subst (λ cs. map (parts_of cs) (own_rows (suc (length before)) nodes) ≡ nodes) moved
-        (subst (λ k. map (parts_of ((before ++ own_control p ∷ []) ++ map own_control nodes)) (own_rows k nodes) ≡ nodes) long (own_rows_back (before ++ own_control p ∷ []) nodes)) in
+    subst (λ cs. map (parts_of cs) (own_rows (suc (length before)) nodes) ≡ nodes) moved
+    (subst (λ k. map (parts_of ((before ++ own_control p ∷ []) ++ map own_control nodes)) (own_rows k nodes) ≡ nodes) long (own_rows_back (before ++ own_control p ∷ []) nodes)) in
     ap (λ l. (p.0, (l, p.1.1)) ∷ map (parts_of (before ++ own_control p ∷ map own_control nodes)) (own_rows (suc (length before)) nodes)) (label_at_seam before (own_control p) (map own_control nodes))
     ∙ ap (λ ps. p ∷ ps) later
 

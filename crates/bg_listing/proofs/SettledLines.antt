@@ -17,18 +17,24 @@ use Rattle.bg_base.specs.Bigraph.{has_place, is_rooted, is_atomic, arity_of}
 use Rattle.bg_base.specs.Faults.{fault_of, codes_from, first_fault, shifted, or_else, sites_fault, inner_fault, outer_fault, edges_fault, nodes_fault, site_code, inner_code, outer_code, edge_code, node_code, rises, is_known}
 use Rattle.bg_base.proofs.FaultLaws.{no_fault}
 use Rattle.bg_listing.specs.declared.cursor.Cursor.{Cursor}
-use Rattle.bg_listing.specs.Spelling.{place_line, inner_line, name_line, edge_line, count_line, section_text, signature_text, big_text}
-use Rattle.bg_listing.specs.Limits.{most_rows, most_controls, IsNumber, IsPlace, IsName, IsInner, AreCounted, IsReadableSignature, IsReadableBig}
+use Rattle.bg_listing.specs.Spelling.{control_line, place_line, inner_line, name_line, edge_line, count_line, section_text, signature_text, big_text}
+use Rattle.bg_listing.specs.Limits.{most_rows, most_controls, IsNumber, IsPlace, IsName, IsInner, AreCounted, IsControl, IsReadableSignature, IsReadableBig}
 use Rattle.bg_listing.specs.Lines.{Bad, NodeParts, row_of, Sections, signature_at, big_at}
 use Rattle.bg_listing.specs.Verdict.{IsAt, Refusal, line_of, judged, repeat_among, first_repeat, without_repeat, lines_before, without_fault, signature_verdict, big_verdict}
-use Rattle.bg_listing.specs.Stops.{HasText, NoneFromLine, is_settled, AreListed, listed_text, IsListed}
+use Rattle.bg_listing.specs.Stops.{Begins, StopsAtLine, HasText, NoneFromLine, is_settled, AreListed, listed_text, IsListed}
 use Rattle.bg_listing.proofs.Combinators.{Holds, found, joined, FitBoth, map_same}
 use Rattle.bg_listing.proofs.Listings.{parts_line, AreParts, parts_text, AreSections, seen_by, sections_read}
 use Rattle.bg_listing.proofs.Labels.{none_before}
-use Rattle.bg_listing.proofs.Values.{IsKnown, sections_of, parts_text_is, sections_from_spelled, rows_own, counted_signature, signature_found}
-use Rattle.bg_listing.proofs.Stopping.{Stops, goes, stops}
+use Rattle.bg_listing.proofs.Values.{readable_signature, IsKnown, sections_of, parts_text_is, sections_from_spelled, rows_own, counted_signature, signature_found}
+use Rattle.std.specs.List.{flat_map, AllByRecursion}
+use Rattle.std.proofs.lemmas.Grind.{flat_map-append}
+use Rattle.std.proofs.lemmas.List.{length-append}
+use Rattle.bg_base.proofs.SignatureLaws.{no_controls}
+use Rattle.bg_listing.proofs.RefusalLaws.{signature_among}
+use Rattle.bg_listing.proofs.FreshLabels.{continued}
+use Rattle.bg_listing.proofs.Stopping.{none_first, Stops, goes, stops}
 use Rattle.bg_listing.proofs.OneLine.{count_row, edge_rows, place_rows, name_rows, inner_rows, control_rows, node_rows}
-use Rattle.bg_listing.proofs.SettledRows.{line_feed_once, StopsIn, in_kind, in_first, Passes, passes_from, section_stops_at, section_stops_in, section_feeds, behind_part, counted_as}
+use Rattle.bg_listing.proofs.SettledRows.{all_front, line_feed_once, StopsIn, in_kind, in_first, Passes, passes_from, section_stops_at, section_stops_in, section_feeds, behind_part, counted_as}
 use Rattle.bg_listing.proofs.RefusalLines.{one_refusal, region_part, site_part, inner_part, outer_part, edge_part, listed_from, signature_stops, parts_stop}
 
 named_line : {W : Type 0} {tw : W → List ℕ} {FW : W → Type 0} (bytes : List ℕ) (at : Cursor) (line count : ℕ) → StopsIn tw FW (drop at.offset bytes) count → line ≡ at.line + count → NoneFromLine tw FW bytes at line
@@ -55,6 +61,7 @@ record RepeatAt (before controls : List Control) (row : ℕ) : Type 0 where
   rows : controls ≡ front ++ control ∷ later
   many : length front ≡ row
   stood : is_some (number_of (before ++ front) control.label) ≡ true
+  clean : repeat_among before front ≡ None
 
 one_row : (a b : ℕ) → Some a ≡ Some b → a ≡ b
 one_row a b e = cc
@@ -62,13 +69,18 @@ one_row a b e = cc
 repeat_if : (before : List Control) (c : Control) (controls : List Control) (row : ℕ) (repeated : Bool) (later : Option ℕ) → is_some (number_of before c.label) ≡ repeated
     → ((j : ℕ) → later ≡ Some j → RepeatAt (before ++ c ∷ []) controls j) → cond repeated (Some 0) (option_map suc later) ≡ Some row → RepeatAt before (c ∷ controls) row
 repeat_if before c controls row true later e h f =
-    record { front = []; control = c; later = controls; rows = refl; many = one_row 0 row f; stood = ap (λ cs. is_some (number_of cs c.label)) (append-nil before) ∙ e }
+    record { front = []; control = c; later = controls; rows = refl; many = one_row 0 row f; stood = ap (λ cs. is_some (number_of cs c.label)) (append-nil before) ∙ e; clean = refl }
 repeat_if before c controls row false None e h f = absurd cc
 repeat_if before c controls row false (Some j) e h f =
     let s = h j refl in
     record {
-      front = c ∷ s.front; control = s.control; later = s.later; rows = ap (λ cs. c ∷ cs) s.rows; many = ap suc s.many ∙ one_row (suc j) row f;
+      front = c ∷ s.front;
+      control = s.control;
+      later = s.later;
+      rows = ap (λ cs. c ∷ cs) s.rows;
+      many = ap suc s.many ∙ one_row (suc j) row f;
       stood = ap (λ cs. is_some (number_of cs s.control.label)) (sym (append_assoc before (c ∷ []) s.front)) ∙ s.stood;
+      clean = rw (e, s.clean) refl;
     }
 
 repeat_at : (before controls : List Control) (row : ℕ) → repeat_among before controls ≡ Some row → RepeatAt before controls row
@@ -79,27 +91,62 @@ repeat_at before (c ∷ controls) row e =
 not_some : (o : Option ℕ) → is_some o ≡ true → o ≡ None → ⊥
 not_some o s n = cc
 
-signature_stops_in : (controls : List Control) (bytes rest : List ℕ) (row : ℕ) → AreListed controls → bytes ≡ signature_text controls ++ rest → first_repeat controls ≡ Some row → StopsIn signature_text IsReadableSignature bytes (1 + row)
+-- rows of a signature without a repeat begin the listing of one with as many controls as were counted
+signature_begins : (controls front : List Control) (control : Control) (later : List Control) → AreListed controls → controls ≡ front ++ control ∷ later → repeat_among [] front ≡ None
+    → Begins signature_text IsReadableSignature (count_line (codes "signature ") (length controls) ++ flat_map control_line front)
 unfolding signature_text
-signature_stops_in controls bytes rest row fits e repeat =
+signature_begins controls front control later fits rows clean =
+    let word : List ℕ = codes "signature " in
+    let all = all_front IsControl front control later (subst (AllByRecursion IsControl) rows fits.all) in
+    let most : length controls ≤ 4096 = fits.many in
+    let long : length controls ≡ length front + suc (length later) = ap length rows ∙ length-append front (control ∷ later) in
+    let few : length front ≤ 4096 = omega (arith, long) in
+    let room : length front + suc (length later) ≤ 4096 = omega (arith, long) in
+    let kept : IsSignature front = signature_among [] front no_controls few all.0 clean in
+    let g = continued (suc (length later)) front kept all.0 room in
+    let many : length (front ++ g.more) ≡ length controls = omega (arith, long, length-append front g.more, g.many) in
+    record {
+      value = front ++ g.more;
+      more = flat_map control_line g.more;
+      fits = readable_signature (front ++ g.more) (record { many = omega (arith, many); all = g.all }) g.signature;
+      text_is = ap (λ n. count_line word n ++ flat_map control_line (front ++ g.more)) many ∙ ap (λ y. count_line word (length controls) ++ y) (flat_map-append control_line front g.more)
+          ∙ sym (append_assoc (count_line word (length controls)) (flat_map control_line front) (flat_map control_line g.more));
+    }
+
+signature_stops_at : (bytes : List ℕ) (at : Cursor) (controls : List Control) (rest : List ℕ) (row line : ℕ) → AreListed controls → drop at.offset bytes ≡ signature_text controls ++ rest → first_repeat controls ≡ Some row → line ≡ at.line + (1 + row)
+    → StopsAtLine signature_text IsReadableSignature bytes at line
+unfolding signature_text section_stops_at
+signature_stops_at bytes at controls rest row line fits e repeat named =
     let s = repeat_at [] controls row repeat in
-    in_kind bytes (1 + row) (λ cs f. (cs, [], (counted_signature cs f, subst IsSignature (sym (map_same cs)) f.signature), sym (append-nil (signature_text cs))))
-    (subst (λ j. StopsIn signature_text (λ cs. AreListed cs × IsSignature (map (λ c. c) cs)) bytes (1 + j)) s.many
-    (section_stops_at most_controls (codes "signature ") (count_row most_controls (codes "signature ") (lit≤ tt) refl) control_rows IsSignature controls s.front s.control s.later bytes rest fits s.rows e
-        (λ more kept. not_some (number_of s.front s.control.label) s.stood
-            (none_before s.front s.control more (subst (λ cs. IsSignature (cs ++ s.control ∷ more)) (map_same s.front) kept).labels_differ))))
+    let lines : List ℕ = count_line (codes "signature ") (length controls) ++ flat_map control_line s.front in
+    let stopped : StopsIn signature_text (λ cs. AreListed cs × IsSignature (map (λ c. c) cs)) (drop at.offset bytes) (1 + length s.front) =
+    section_stops_at most_controls (codes "signature ") (count_row most_controls (codes "signature ") (lit≤ tt) refl) control_rows IsSignature controls s.front s.control s.later (drop at.offset bytes) rest fits s.rows e
+    (λ more kept. not_some (number_of s.front s.control.label) s.stood
+    (none_before s.front s.control more (subst (λ cs. IsSignature (cs ++ s.control ∷ more)) (map_same s.front) kept).labels_differ)) in
+    record {
+      lines = lines;
+      behind = stopped.behind;
+      line_is = named ∙ ap (λ n. at.line + n) (ap (λ n. 1 + n) (sym s.many) ∙ sym stopped.feeds);
+      stops = record {
+        there = stopped.there;
+        whole = stopped.whole;
+        begins = signature_begins controls s.front s.control s.later fits s.rows s.clean;
+        none = none_first signature_text signature_text lines stopped.behind
+            (λ cs f. (cs, [], (counted_signature cs f, subst IsSignature (sym (map_same cs)) f.signature), sym (append-nil (signature_text cs)))) stopped.none;
+      };
+    }
 
 repeat_of : {A : Type 0} (repeat : Option ℕ) (first_line : ℕ) (x : A) (code line : ℕ) → without_repeat repeat first_line x ≡ Err (code, line) → (row : ℕ) × (repeat ≡ Some row) × (line ≡ first_line + row)
 repeat_of None first_line x code line e = absurd cc
 repeat_of (Some row) first_line x code line e = (row, refl, sym (ap (λ (r : Refusal). r.1) (one_refusal (without_repeat (Some row) first_line x) (9, first_line + row) (code, line) refl e)))
 
-pub signature_settled : (bytes : List ℕ) (at : Cursor) → IsAt bytes at → (code line : ℕ) → IsTrue (is_settled code) → signature_verdict bytes at ≡ Err (code, line) → NoneFromLine signature_text IsReadableSignature bytes at line
+pub signature_settled : (bytes : List ℕ) (at : Cursor) → IsAt bytes at → (code line : ℕ) → IsTrue (is_settled code) → signature_verdict bytes at ≡ Err (code, line) → StopsAtLine signature_text IsReadableSignature bytes at line
 unfolding signature_verdict
 signature_settled bytes at is code line settled e =
     let p = second_pass bytes (drop at.offset bytes) (signature_at (drop at.offset bytes)) (λ found. without_repeat (first_repeat found.0) (at.line + 1) found) code line (settled_is_late code settled) (signature_stops (drop at.offset bytes)) e in
     let r = repeat_of (first_repeat p.0.0) (at.line + 1) p.0 code line p.2 in
     let text = signature_found (drop at.offset bytes) p.0.0 p.0.1 p.1 in
-    named_line bytes at line (1 + r.0) (signature_stops_in p.0.0 (drop at.offset bytes) p.0.1 r.0 text.counted text.there r.1) (omega (arith, r.2))
+    signature_stops_at bytes at p.0.0 p.0.1 r.0 line text.counted text.there r.1 (omega (arith, r.2))
 
 -- ---- the tests that a settled code fails
 
@@ -242,9 +289,9 @@ inner_stops signature kept d rest i k f settled e =
     let later : List ℕ = section_text (codes "outer ") name_line d.1.1.1.0 ++ (section_text (codes "edges ") edge_line d.1.1.1.1.0 ++ section_text (codes "nodes ") parts_line d.1.1.1.1.1) in
     let here : List ℕ = section_text (codes "inner ") inner_line d.1.1.0 in
     let own = section_stops_in most_rows (codes "inner ") (count_row most_rows (codes "inner ") (lit≤ tt) refl) inner_rows (λ (row : InnerRow). row.name) (inner_code (seen_by signature d)) inner_test d.1.1.0 ((here ++ later) ++ rest) (later ++ rest) i k f.1.1.0 (append_assoc here later rest)
-        (λ last row c. inner_fails (rises name_cmp last row.name) _ k settled c) (subst (λ rs. first_fault (codes_from (λ (row : InnerRow). row.name) (inner_code (seen_by signature d)) None rs) ≡ Some (i, k)) (sym (map_same d.1.1.0)) e) in
+    (λ last row c. inner_fails (rises name_cmp last row.name) _ k settled c) (subst (λ rs. first_fault (codes_from (λ (row : InnerRow). row.name) (inner_code (seen_by signature d)) None rs) ≡ Some (i, k)) (sym (map_same d.1.1.0)) e) in
     let first = in_first (joined (section_text (codes "outer ") name_line) (joined (section_text (codes "edges ") edge_line) (section_text (codes "nodes ") parts_line)))
-        (FitBoth (AreCounted most_rows IsName) (FitBoth (AreCounted most_rows IsNumber) (AreCounted most_rows AreParts))) ((here ++ later) ++ rest) (1 + i) own in
+    (FitBoth (AreCounted most_rows IsName) (FitBoth (AreCounted most_rows IsNumber) (AreCounted most_rows AreParts))) ((here ++ later) ++ rest) (1 + i) own in
     let whole = behind_regions d.0 f.0 (section_text (codes "sites ") place_line d.1.0 ++ (here ++ later)) rest ((1 + length d.1.0) + (1 + i)) (behind_sites d.1.0 f.1.0 (here ++ later) rest (1 + i) first) in
     in_kind (parts_text d ++ rest) (1 + ((1 + length d.1.0) + (1 + i)))
     (λ value r. let o = own_parts signature kept value r in let s = o.sections in (sections_of signature value, [], (s.0, (s.1.0, ((s.1.1.0, o.clean.inner), s.1.1.1))), o.text_is)) whole
@@ -256,11 +303,11 @@ outer_stops signature kept d rest i k f settled e =
     let later : List ℕ = section_text (codes "edges ") edge_line d.1.1.1.1.0 ++ section_text (codes "nodes ") parts_line d.1.1.1.1.1 in
     let here : List ℕ = section_text (codes "outer ") name_line d.1.1.1.0 in
     let own = section_stops_in most_rows (codes "outer ") (count_row most_rows (codes "outer ") (lit≤ tt) refl) name_rows (λ (name : Name). name) outer_code outer_test d.1.1.1.0 ((here ++ later) ++ rest) (later ++ rest) i k f.1.1.1.0 (append_assoc here later rest)
-        (λ last name c. order_fails (rises name_cmp last name) k settled c) (subst (λ rs. first_fault (codes_from (λ (name : Name). name) outer_code None rs) ≡ Some (i, k)) (sym (map_same d.1.1.1.0)) e) in
+    (λ last name c. order_fails (rises name_cmp last name) k settled c) (subst (λ rs. first_fault (codes_from (λ (name : Name). name) outer_code None rs) ≡ Some (i, k)) (sym (map_same d.1.1.1.0)) e) in
     let first = in_first (joined (section_text (codes "edges ") edge_line) (section_text (codes "nodes ") parts_line)) (FitBoth (AreCounted most_rows IsNumber) (AreCounted most_rows AreParts)) ((here ++ later) ++ rest) (1 + i) own in
     let inner : List ℕ = section_text (codes "inner ") inner_line d.1.1.0 ++ (here ++ later) in
     let whole = behind_regions d.0 f.0 (section_text (codes "sites ") place_line d.1.0 ++ inner) rest ((1 + length d.1.0) + ((1 + length d.1.1.0) + (1 + i)))
-        (behind_sites d.1.0 f.1.0 inner rest ((1 + length d.1.1.0) + (1 + i)) (behind_inner d.1.1.0 f.1.1.0 (here ++ later) rest (1 + i) first)) in
+    (behind_sites d.1.0 f.1.0 inner rest ((1 + length d.1.1.0) + (1 + i)) (behind_inner d.1.1.0 f.1.1.0 (here ++ later) rest (1 + i) first)) in
     in_kind (parts_text d ++ rest) (1 + ((1 + length d.1.0) + ((1 + length d.1.1.0) + (1 + i))))
     (λ value r. let o = own_parts signature kept value r in let s = o.sections in (sections_of signature value, [], (s.0, (s.1.0, (s.1.1.0, ((s.1.1.1.0, o.clean.outer), s.1.1.1.1)))), o.text_is)) whole
 
@@ -271,13 +318,13 @@ edges_stop signature kept d rest i k f settled e =
     let later : List ℕ = section_text (codes "nodes ") parts_line d.1.1.1.1.1 in
     let here : List ℕ = section_text (codes "edges ") edge_line d.1.1.1.1.0 in
     let own = section_stops_in most_rows (codes "edges ") (count_row most_rows (codes "edges ") (lit≤ tt) refl) edge_rows (λ (edge : ℕ). edge) edge_code edge_test d.1.1.1.1.0 ((here ++ later) ++ rest) (later ++ rest) i k f.1.1.1.1.0 (append_assoc here later rest)
-        (λ last edge c. order_fails (rises nat_cmp last edge) k settled c) (subst (λ rs. first_fault (codes_from (λ (edge : ℕ). edge) edge_code None rs) ≡ Some (i, k)) (sym (map_same d.1.1.1.1.0)) e) in
+    (λ last edge c. order_fails (rises nat_cmp last edge) k settled c) (subst (λ rs. first_fault (codes_from (λ (edge : ℕ). edge) edge_code None rs) ≡ Some (i, k)) (sym (map_same d.1.1.1.1.0)) e) in
     let first = in_first (section_text (codes "nodes ") parts_line) (AreCounted most_rows AreParts) ((here ++ later) ++ rest) (1 + i) own in
     let outer : List ℕ = section_text (codes "outer ") name_line d.1.1.1.0 ++ (here ++ later) in
     let inner : List ℕ = section_text (codes "inner ") inner_line d.1.1.0 ++ outer in
     let whole = behind_regions d.0 f.0 (section_text (codes "sites ") place_line d.1.0 ++ inner) rest ((1 + length d.1.0) + ((1 + length d.1.1.0) + ((1 + length d.1.1.1.0) + (1 + i))))
-        (behind_sites d.1.0 f.1.0 inner rest ((1 + length d.1.1.0) + ((1 + length d.1.1.1.0) + (1 + i)))
-        (behind_inner d.1.1.0 f.1.1.0 outer rest ((1 + length d.1.1.1.0) + (1 + i)) (behind_outer d.1.1.1.0 f.1.1.1.0 (here ++ later) rest (1 + i) first))) in
+    (behind_sites d.1.0 f.1.0 inner rest ((1 + length d.1.1.0) + ((1 + length d.1.1.1.0) + (1 + i)))
+    (behind_inner d.1.1.0 f.1.1.0 outer rest ((1 + length d.1.1.1.0) + (1 + i)) (behind_outer d.1.1.1.0 f.1.1.1.0 (here ++ later) rest (1 + i) first))) in
     in_kind (parts_text d ++ rest) (1 + ((1 + length d.1.0) + ((1 + length d.1.1.0) + ((1 + length d.1.1.1.0) + (1 + i)))))
     (λ value r. let o = own_parts signature kept value r in let s = o.sections in (sections_of signature value, [], (s.0, (s.1.0, (s.1.1.0, (s.1.1.1.0, ((s.1.1.1.1.0, o.clean.edges), s.1.1.1.1.1))))), o.text_is)) whole
 
@@ -288,14 +335,14 @@ nodes_stop signature kept d rest i k f settled e =
     let big : Big = seen_by signature d in
     let here : List ℕ = section_text (codes "nodes ") parts_line d.1.1.1.1.1 in
     let own = section_stops_in most_rows (codes "nodes ") (count_row most_rows (codes "nodes ") (lit≤ tt) refl) (node_rows signature) (λ (row : NodeRow). row.id) (node_code signature big) (node_test signature) d.1.1.1.1.1 (here ++ rest) rest i k f.1.1.1.1.1 refl
-        (λ last row c. node_fails (rises nat_cmp last row.id) (is_known signature big row) (eqb (length row.links) (arity_of signature row.control)) (is_atomic signature big row.parent) (is_rooted big row.id) k settled c) e in
+    (λ last row c. node_fails (rises nat_cmp last row.id) (is_known signature big row) (eqb (length row.links) (arity_of signature row.control)) (is_atomic signature big row.parent) (is_rooted big row.id) k settled c) e in
     let edges : List ℕ = section_text (codes "edges ") edge_line d.1.1.1.1.0 ++ here in
     let outer : List ℕ = section_text (codes "outer ") name_line d.1.1.1.0 ++ edges in
     let inner : List ℕ = section_text (codes "inner ") inner_line d.1.1.0 ++ outer in
     let whole = behind_regions d.0 f.0 (section_text (codes "sites ") place_line d.1.0 ++ inner) rest ((1 + length d.1.0) + ((1 + length d.1.1.0) + ((1 + length d.1.1.1.0) + ((1 + length d.1.1.1.1.0) + (1 + i)))))
-        (behind_sites d.1.0 f.1.0 inner rest ((1 + length d.1.1.0) + ((1 + length d.1.1.1.0) + ((1 + length d.1.1.1.1.0) + (1 + i))))
-        (behind_inner d.1.1.0 f.1.1.0 outer rest ((1 + length d.1.1.1.0) + ((1 + length d.1.1.1.1.0) + (1 + i)))
-        (behind_outer d.1.1.1.0 f.1.1.1.0 edges rest ((1 + length d.1.1.1.1.0) + (1 + i)) (behind_edges d.1.1.1.1.0 f.1.1.1.1.0 here rest (1 + i) own)))) in
+    (behind_sites d.1.0 f.1.0 inner rest ((1 + length d.1.1.0) + ((1 + length d.1.1.1.0) + ((1 + length d.1.1.1.1.0) + (1 + i))))
+    (behind_inner d.1.1.0 f.1.1.0 outer rest ((1 + length d.1.1.1.0) + ((1 + length d.1.1.1.1.0) + (1 + i)))
+    (behind_outer d.1.1.1.0 f.1.1.1.0 edges rest ((1 + length d.1.1.1.1.0) + (1 + i)) (behind_edges d.1.1.1.1.0 f.1.1.1.1.0 here rest (1 + i) own)))) in
     in_kind (parts_text d ++ rest) (1 + ((1 + length d.1.0) + ((1 + length d.1.1.0) + ((1 + length d.1.1.1.0) + ((1 + length d.1.1.1.1.0) + (1 + i))))))
     (λ value r. let o = own_parts signature kept value r in let s = o.sections in (sections_of signature value, [], (s.0, (s.1.0, (s.1.1.0, (s.1.1.1.0, (s.1.1.1.1.0, (s.1.1.1.1.1, o.nodes)))))), o.text_is)) whole
 

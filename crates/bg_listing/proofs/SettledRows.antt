@@ -52,13 +52,13 @@ rows_begin {v = v} {t = t} w (a ∷ front) d r (c ∷ cs) rest fs f gs lt e =
     let later = rows_begin w front d r cs rest fs.1 f gs.1 less same.1 in
     (later.0, ap (λ x. x ∷ map v cs) (sym same.0) ∙ ap (λ xs. v a ∷ xs) later.1)
 
-section_none : {D X : Type 0} {v : D → X} {t : D → List ℕ} {F : D → Type 0} {read : List ℕ → Result (X × List ℕ) Bad} (most : ℕ) (word : List ℕ) → IsRow (λ n. n) (count_line word) (λ n. n ≤ most) (count_at most word) → IsRow v t F read
+pub section_none : {D X : Type 0} {v : D → X} {t : D → List ℕ} {F : D → Type 0} {read : List ℕ → Result (X × List ℕ) Bad} (most : ℕ) (word : List ℕ) → IsRow (λ n. n) (count_line word) (λ n. n ≤ most) (count_at most word) → IsRow v t F read
     → (Keeps : List X → Type 0) (n : ℕ) (front : List D) (d : D) (behind : List ℕ) → n ≤ most → AllByRecursion F front → F d → length front < n → first_line behind ≡ t d → ((more : List X) → Keeps (map v front ++ v d ∷ more) → ⊥)
     → NoneBegins (section_text word t) (λ ds. AreCounted most F ds × Keeps (map v ds)) (count_line word n ++ flat_map t front) behind
 section_none {v = v} {t = t} most word count w Keeps n front d behind le fs f lt first bad others same ds rest g there =
     let others_is : others ≡ t d ++ behind_line others = first_and_behind others ∙ ap (λ y. y ++ behind_line others) (same ∙ first) in
     let counted = no_two count.reads n (length ds) (flat_map t front ++ others) (flat_map t ds ++ rest) le g.0.many
-        (sym (append_assoc (count_line word n) (flat_map t front) others) ∙ there ∙ append_assoc (count_line word (length ds)) (flat_map t ds) rest) in
+    (sym (append_assoc (count_line word n) (flat_map t front) others) ∙ there ∙ append_assoc (count_line word (length ds)) (flat_map t ds) rest) in
     let less : length front < length ds = subst (λ k. length front < k) counted.0 lt in
     let begun = rows_begin w front d (behind_line others) ds rest fs f g.0.all less (ap (λ y. flat_map t front ++ y) (sym others_is) ∙ counted.1) in
     bad begun.0 (subst Keeps begun.1 g.1)
@@ -139,10 +139,11 @@ fault_if : {K D X : Type 0} (v : D → X) (key : X → K) (code : Option K → X
 unfolding last_key
 fault_if v key code last d ds i k true None e h f = absurd cc
 fault_if v key code last d ds i k true (Some g) e h f =
-    let pair = same_some (1 + g.0, g.1) (i, k) f in
+    let pair : (1 + g.0, g.1) ≡ (i, k) = same_some (1 + g.0, g.1) (i, k) f in
     let second : g.1 ≡ k = ap (λ p. p.1) pair in
     let first : 1 + g.0 ≡ i = ap (λ p. p.0) pair in
-    let s = h g.0 (ap (λ m. Some (g.0, m)) second) in
+    let there : Some g ≡ Some (g.0, k) = ap (λ m. Some (g.0, m)) second in
+    let s = h g.0 there in
     record { front = d ∷ s.front; d = s.d; later = s.later; rows = ap (λ xs. d ∷ xs) s.rows; many = omega (arith, s.many, first); code_is = s.code_is }
 fault_if v key code last d ds i k false later e h f =
     let pair = same_some (0, code last (v d)) (i, k) f in
@@ -153,11 +154,11 @@ fault_at v key code last [] i k e = absurd cc
 fault_at v key code last (d ∷ ds) i k e =
     fault_if v key code last d ds i k (eqb (code last (v d)) 0) (first_fault (codes_from key code (Some (key (v d))) (map v ds))) refl (λ j f. fault_at v key code (Some (key (v d))) ds j k f) e
 
-all_front : {A : Type 0} (P : A → Type 0) (front : List A) (x : A) (later : List A) → AllByRecursion P (front ++ x ∷ later) → AllByRecursion P front × P x
+pub all_front : {A : Type 0} (P : A → Type 0) (front : List A) (x : A) (later : List A) → AllByRecursion P (front ++ x ∷ later) → AllByRecursion P front × P x
 all_front P [] x later all = (tt, all.0)
 all_front P (a ∷ front) x later all = let t = all_front P front x later all.1 in ((all.0, t.0), t.1)
 
-flat_map_at : {A : Type 0} (t : A → List ℕ) (front : List A) (x : A) (later : List A) (rest : List ℕ) → flat_map t (front ++ x ∷ later) ++ rest ≡ flat_map t front ++ (t x ++ (flat_map t later ++ rest))
+pub flat_map_at : {A : Type 0} (t : A → List ℕ) (front : List A) (x : A) (later : List A) (rest : List ℕ) → flat_map t (front ++ x ∷ later) ++ rest ≡ flat_map t front ++ (t x ++ (flat_map t later ++ rest))
 flat_map_at t [] x later rest = append_assoc (t x) (flat_map t later) rest
 flat_map_at t (a ∷ front) x later rest =
     append_assoc (t a) (flat_map t (front ++ x ∷ later)) rest ∙ ap (λ y. t a ++ y) (flat_map_at t front x later rest) ∙ sym (append_assoc (t a) (flat_map t front) (t x ++ (flat_map t later ++ rest)))
@@ -166,7 +167,7 @@ no_pass : (b : Bool) → b ≡ false → b ≡ true → ⊥
 no_pass b e f = absurd cc
 
 -- a section of which no other goes on from its first rows and this one
-pub section_stops_at : {D X : Type 0} {v : D → X} {t : D → List ℕ} {F : D → Type 0} {read : List ℕ → Result (X × List ℕ) Bad} (most : ℕ) (word : List ℕ) → IsRow (λ n. n) (count_line word) (λ n. n ≤ most) (count_at most word) → IsRow v t F read
+unfoldable pub section_stops_at : {D X : Type 0} {v : D → X} {t : D → List ℕ} {F : D → Type 0} {read : List ℕ → Result (X × List ℕ) Bad} (most : ℕ) (word : List ℕ) → IsRow (λ n. n) (count_line word) (λ n. n ≤ most) (count_at most word) → IsRow v t F read
     → (Keeps : List X → Type 0) (ds front : List D) (d : D) (later : List D) (bytes rest : List ℕ) → AreCounted most F ds → ds ≡ front ++ d ∷ later → bytes ≡ section_text word t ds ++ rest → ((more : List X) → Keeps (map v front ++ v d ∷ more) → ⊥)
     → StopsIn (section_text word t) (λ cs. AreCounted most F cs × Keeps (map v cs)) bytes (1 + length front)
 section_stops_at {v = v} {t = t} {F = F} most word count w Keeps ds front d later bytes rest fits rows e bad =
@@ -192,7 +193,7 @@ section_stops_in {v = v} {t = t} {F = F} most word count w key code test ds byte
     let s = fault_at v key code None ds i k fault in
     subst (λ j. StopsIn (section_text word t) (λ cs. AreCounted most F cs × Passes key test None (map v cs)) bytes (1 + j)) s.many
     (section_stops_at most word count w (Passes key test None) ds s.front s.d s.later bytes rest fits s.rows e
-        (λ more p. no_pass (test (last_key key None (map v s.front)) (v s.d)) (fails (last_key key None (map v s.front)) (v s.d) s.code_is) (passes_at key test None (map v s.front) (v s.d) more p)))
+    (λ more p. no_pass (test (last_key key None (map v s.front)) (v s.d)) (fails (last_key key None (map v s.front)) (v s.d) s.code_is) (passes_at key test None (map v s.front) (v s.d) more p)))
 
 pub section_feeds : {D X : Type 0} {v : D → X} {t : D → List ℕ} {F : D → Type 0} {read : List ℕ → Result (X × List ℕ) Bad} (most : ℕ) (word : List ℕ) → IsRow (λ n. n) (count_line word) (λ n. n ≤ most) (count_at most word) → IsRow v t F read
     → (ds : List D) → AreCounted most F ds → line_feeds (section_text word t ds) ≡ 1 + length ds

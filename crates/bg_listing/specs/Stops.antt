@@ -1,4 +1,4 @@
--- The line at which a text stops to be the listing of a value.
+-- The line at which a text stops being the listing of a value.
 use Rattle.std.specs.Prelude.{◌≡◌, ℕ, ◌+◌, Bool, true, ◌||◌, List, [], ◌∷◌, ◌++◌, drop, ◌==◌, if◌then◌else◌}
 use Rattle.bg_base.specs.declared.signature.Control.{Control}
 use Rattle.bg_base.specs.declared.big.Big.{Big}
@@ -48,7 +48,7 @@ pub record StopsAt {A : Type 0} (text : A → List ℕ) (Fits : A → Type 0) (b
   pub begins : Begins text Fits lines
   pub none : NoneBegins text Fits lines behind
 
--- the line of that number is the one at which the text at the cursor stops to be that of a value
+-- the line of that number is the one at which the text at the cursor stops being that of a value
 pub record StopsAtLine {A : Type 0} (text : A → List ℕ) (Fits : A → Type 0) (bytes : List ℕ) (at : Cursor) (line : ℕ) : Type 0 where
   pub lines : List ℕ
   pub behind : List ℕ

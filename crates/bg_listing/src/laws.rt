@@ -26,12 +26,13 @@ pub fn refused_texts_are_no_listings()
         → (big : Big) (rest : List ℕ) → IsReadableBig signature big → ¬ (drop at.offset bytes ≡ big_text signature big ++ rest) }
 {}
 
-/// Where a text is refused with code 1 or 2, it stops to be a listing at the line of the refusal: the lines before it, from
+/// Where a text is refused with code 1 or 2, it stops being a listing at the line of the refusal: the lines before it, from
 /// the cursor on, begin the listing of some value within the limits, and no such listing begins with these lines and that
-/// of the refusal, whatever follows them. A value within the limits may break a rule, as by a label that stands twice, and
-/// a bigraph may have controls of any list, since the first pass asks for no rules. Where the input ends in the line of
-/// the refusal, that line is what is left of the input.
-pub fn the_line_of_a_refusal_is_the_first_of_no_listing()
+/// of the refusal, whatever follows them. Where the input ends in the line of the refusal, that line is all that is left.
+///
+/// The value may break rules, as by a label that stands twice, and a bigraph may have the controls of any list: the first
+/// pass asks for none of this, so the lines before need not begin the listing of a valid value.
+pub fn a_text_stops_being_a_listing_at_its_refused_line()
     ensures signatures { (bytes : List ℕ) (at : Cursor) → IsAt bytes at → (code line : ℕ) → code ≤ 2 → signature_verdict bytes at ≡ Err (code, line)
         → StopsAtLine signature_text AreListed bytes at line }
     ensures bigraphs { (signature : List Control) (bytes : List ℕ) (at : Cursor) → IsAt bytes at → (code line : ℕ) → code ≤ 2 → big_verdict signature bytes at ≡ Err (code, line)
@@ -46,17 +47,17 @@ pub fn a_text_that_breaks_a_rule_has_the_form_of_a_listing()
         → HasText listed_text IsListed (drop at.offset bytes) }
 {}
 
-/// Where a text is refused with code 3, 5 or 9, no listing of a signature, or of a bigraph that is valid under this one,
-/// begins with the lines from the cursor up to and with that of the refusal, whatever follows them.
+/// Where a text is refused with code 3, 5 or 9, no listing of a valid value begins with the lines from the cursor up to and
+/// with that of the refusal, whatever follows them. Of a signature, the lines before begin the listing of one.
 ///
-/// Of the codes 4, 6 and 7 this is not true. A row may name a place or a link that a later line has, a later line tells
-/// the control of the node that a row names, and it may lead from there to a region: the same lines up to the row, with
-/// other lines behind them, are then a listing. Nor do the lines before a row that is refused with code 3 or 5 begin the
-/// listing of a valid bigraph in all cases: a site may name a node that is to come, and all controls that may have
-/// children may have ports for which no edge and no outer name is there.
+/// Of the codes 4, 6 and 7 this is not true. A row may name a place or a link that a later line has, a later line may tell
+/// the control of the node that a row names, or lead from there to a region: the same lines up to the row, with other
+/// lines behind them, can then be a listing. Nor need the lines before a row of a bigraph begin the listing of a valid
+/// one: a site may name a node that is to come, where each control that may have children has a port, and there is no
+/// edge and no outer name to tie it to.
 pub fn no_listing_goes_on_from_a_settled_refusal()
     ensures signatures { (bytes : List ℕ) (at : Cursor) → IsAt bytes at → (code line : ℕ) → IsTrue (is_settled code) → signature_verdict bytes at ≡ Err (code, line)
-        → NoneFromLine signature_text IsReadableSignature bytes at line }
+        → StopsAtLine signature_text IsReadableSignature bytes at line }
     ensures bigraphs { (signature : List Control) → IsSignature signature → (bytes : List ℕ) (at : Cursor) → IsAt bytes at → (code line : ℕ) → IsTrue (is_settled code) → big_verdict signature bytes at ≡ Err (code, line)
         → NoneFromLine (big_text signature) (IsReadableBig signature) bytes at line }
 {}
