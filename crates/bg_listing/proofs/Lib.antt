@@ -17,3 +17,4 @@ pub mod RefusalLines
 pub mod SettledRows
 pub mod FreshLabels
 pub mod SettledLines
+pub mod ExactLine

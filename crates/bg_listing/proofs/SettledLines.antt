@@ -413,9 +413,12 @@ held_form signature bytes _ (found d x more e f same) =
     let listed = listed_from d f in
     record { value = listed.0; rest = more; fits = listed.1; there = e ∙ ap (λ t. t ++ more) (sym listed.2) }
 
+pub big_text_found : (signature : List Control) (bytes : List ℕ) (x : Big × List ℕ) → big_at signature bytes ≡ Ok x → HasText listed_text IsListed bytes
+big_text_found signature bytes x e = held_form signature bytes x (subst (λ r. Holds (seen_by signature) parts_text AreSections bytes r) e ((sections_read signature).sound bytes))
+
 pub big_form : (signature : List Control) (bytes : List ℕ) (at : Cursor) (code line : ℕ) → 2 < code → big_verdict signature bytes at ≡ Err (code, line) → HasText listed_text IsListed (drop at.offset bytes)
 unfolding big_verdict
 big_form signature bytes at code line late e =
     let text : List ℕ = drop at.offset bytes in
     let p = second_pass bytes text (big_at signature text) (λ found. without_fault (fault_of signature found.0) at.line found.0 found) code line late (parts_stop signature text) e in
-    held_form signature text p.0 (subst (λ r. Holds (seen_by signature) parts_text AreSections text r) p.1 ((sections_read signature).sound text))
+    big_text_found signature text p.0 p.1

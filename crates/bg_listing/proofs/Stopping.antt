@@ -12,7 +12,7 @@ use Rattle.bg_listing.proofs.Listings.{section_reads}
 
 -- ---- lines
 
-ends_line-append : (ended : Bool) (xs ys : List ℕ) → ends_line ended (xs ++ ys) ≡ ends_line (ends_line ended xs) ys
+pub ends_line-append : (ended : Bool) (xs ys : List ℕ) → ends_line ended (xs ++ ys) ≡ ends_line (ends_line ended xs) ys
 ends_line-append ended [] ys = refl
 ends_line-append ended (x ∷ xs) ys = ends_line-append (eqb x 10) xs ys
 

@@ -26,17 +26,17 @@ pub fn refused_texts_are_no_listings()
         → (big : Big) (rest : List ℕ) → IsReadableBig signature big → ¬ (drop at.offset bytes ≡ big_text signature big ++ rest) }
 {}
 
-/// Where a text is refused with code 1 or 2, it stops being a listing at the line of the refusal: the lines before it, from
-/// the cursor on, begin the listing of some value within the limits, and no such listing begins with these lines and that
-/// of the refusal, whatever follows them. Where the input ends in the line of the refusal, that line is all that is left.
+/// A text is refused with code 1 or 2 exactly at the line at which it stops being a listing: the lines before it, from the
+/// cursor on, begin the listing of some value within the limits, and no such listing begins with these lines and that of
+/// the refusal, whatever follows them. Where the input ends in the line of the refusal, that line is all that is left.
 ///
 /// The value may break rules, as by a label that stands twice, and a bigraph may have the controls of any list: the first
 /// pass asks for none of this, so the lines before need not begin the listing of a valid value.
 pub fn a_text_stops_being_a_listing_at_its_refused_line()
-    ensures signatures { (bytes : List ℕ) (at : Cursor) → IsAt bytes at → (code line : ℕ) → code ≤ 2 → signature_verdict bytes at ≡ Err (code, line)
-        → StopsAtLine signature_text AreListed bytes at line }
-    ensures bigraphs { (signature : List Control) (bytes : List ℕ) (at : Cursor) → IsAt bytes at → (code line : ℕ) → code ≤ 2 → big_verdict signature bytes at ≡ Err (code, line)
-        → StopsAtLine listed_text IsListed bytes at line }
+    ensures signatures { (bytes : List ℕ) (at : Cursor) → IsAt bytes at → (line : ℕ)
+        → ((code : ℕ) × (code ≤ 2) × (signature_verdict bytes at ≡ Err (code, line))) ↔ StopsAtLine signature_text AreListed bytes at line }
+    ensures bigraphs { (signature : List Control) (bytes : List ℕ) (at : Cursor) → IsAt bytes at → (line : ℕ)
+        → ((code : ℕ) × (code ≤ 2) × (big_verdict signature bytes at ≡ Err (code, line))) ↔ StopsAtLine listed_text IsListed bytes at line }
 {}
 
 /// Where a text is refused with another code, the listing of some value within the limits stands at the cursor.
