@@ -1,5 +1,5 @@
 -- A text is refused exactly where no listing of a value within the limits stands.
-use Rattle.std.proofs.Common.{◌≡◌, ℕ, suc, ◌+◌, ◌<◌, ◌≤◌, Bool, true, false, cond, Option, Some, None, List, [], ◌∷◌, ◌++◌, length, drop, Result, Ok, Err, ◌↔◌, lit≤, refl, sym, ap, subst, ◌∙◌, append_assoc, append-nil, arith}
+use Rattle.std.proofs.Common.{◌≡◌, ℕ, suc, ◌+◌, ◌<◌, ◌≤◌, Bool, true, false, cond, Option, Some, None, List, [], ◌∷◌, ◌++◌, length, drop, Result, Ok, Err, ◌↔◌, refl, sym, subst, ◌∙◌, append_assoc, append-nil, arith}
 use Rattle.std.specs.Prelude.{option_map, is_some}
 use Rattle.std.specs.List.{AllByRecursion}
 use Rattle.std.proofs.lemmas.List.{length-append}
@@ -13,9 +13,9 @@ use Rattle.bg_base.proofs.FaultLaws.{no_fault}
 use Rattle.bg_base.proofs.SignatureLaws.{no_controls, one_more_control}
 use Rattle.bg_listing.specs.declared.cursor.Cursor.{Cursor}
 use Rattle.bg_listing.specs.Spelling.{signature_text, big_text}
-use Rattle.bg_listing.specs.Limits.{most_controls, AreCounted, IsControl, IsReadableSignature, IsReadableBig}
+use Rattle.bg_listing.specs.Limits.{IsControl, IsReadableSignature, IsReadableBig}
 use Rattle.bg_listing.specs.Lines.{Bad, signature_at, big_at}
-use Rattle.bg_listing.specs.Verdict.{Refusal, judged, repeat_among, first_repeat, without_repeat, without_fault, signature_verdict, big_verdict}
+use Rattle.bg_listing.specs.Verdict.{Refusal, repeat_among, first_repeat, without_repeat, without_fault, signature_verdict, big_verdict}
 use Rattle.bg_listing.proofs.Values.{big_found, signature_found, readable_signature}
 use Rattle.bg_listing.proofs.Passes.{judged_ok, signature_here, signature_verdict_is, big_here, big_verdict_is}
 
@@ -39,7 +39,7 @@ not_there None e = refl
 not_there (Some k) e = absurd cc
 
 -- controls within the limits, no label twice, keep what a signature keeps
-signature_among : (before controls : List Control) → IsSignature before → length (before ++ controls) ≤ 4096 → AllByRecursion IsControl controls → repeat_among before controls ≡ None → IsSignature (before ++ controls)
+pub signature_among : (before controls : List Control) → IsSignature before → length (before ++ controls) ≤ 4096 → AllByRecursion IsControl controls → repeat_among before controls ≡ None → IsSignature (before ++ controls)
 signature_among before [] kept many all none = subst IsSignature (sym (append-nil before)) kept
 signature_among before (control ∷ controls) kept many all none =
     let parts = none_here (is_some (number_of before control.label)) (repeat_among (before ++ control ∷ []) controls) none in
