@@ -56,6 +56,9 @@ abbrev pub meanings_after : List Shape → List Meaning → List Expression → 
 meanings_after shapes meanings [] = meanings
 meanings_after shapes meanings (e ∷ es) = meanings_after shapes (meanings ++ (λ args. expand shapes meanings args e) ∷ []) es
 
+abbrev pub meanings_of : List Shape → List Expression → List Meaning
+meanings_of shapes es = meanings_after shapes [] es
+
 -- no form of the expression is a reference
 abbrev pub HasNoReference : Expression → Type 0
 HasNoReference (node at number args ports) = Unit {0}

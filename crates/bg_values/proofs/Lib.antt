@@ -1,4 +1,4 @@
-mod Runs
+pub mod Runs
 mod Words
 pub mod Items
 pub mod Partly
