@@ -17,11 +17,15 @@ What it writes:
     specs/Plan.antt                          follow sets and ranks, beside the table
     specs/TOPICSteps.antt                    the steps of the derivation that a tree is
     proofs/TOPICTrees.antt                   laws of these
+    specs/TOPICTrees.antt                    the derivation tree that a tree is
+    proofs/TOPICRows.antt                    that the two have the same steps
     proofs/reader/..                         the goals of the reading functions that the prover leaves to us
 
 specs/Grammar.antt is to be read: it says what a model is. All else needs no trust, since the prover checks it. A wrong
 table fails the test of tables, a wrong function or a wrong step of a tree fails the contract of `parse`.
-grammar_sets.py computes the table, grammar_code.py writes code and definitions, grammar_proofs.py the proofs.
+grammar_sets.py computes the table, grammar_code.py writes code and definitions, grammar_proofs.py the proofs of the
+reading functions, grammar_trees.py derivation trees and their proofs. specs/TOPICTrees.antt is to be read too: it says
+what a law that two trees are the same compares.
 """
 
 import os
@@ -125,9 +129,11 @@ def main():
     import grammar_code
     import grammar_proofs
     import grammar_sets
+    import grammar_trees
 
     grammar_code.write()
     grammar_proofs.write()
+    grammar_trees.write()
     top = os.path.join(os.path.dirname(os.path.abspath(__file__)), '..')
     for path, text in grammar_code.FILES.items():
         full = os.path.join(top, path)

@@ -1,23 +1,18 @@
 -- Laws of putting the halves together: those of one bigraph give that bigraph.
 use Rattle.std.proofs.Common.{◌≡◌, ℕ, ◌+◌, ◌<◌, List, [], ◌∷◌, ◌++◌, map, length, drop, get_or, refl, sym, ap, subst, ◌∙◌, Contains}
-use Rattle.std.specs.Ordering.{eq_by_cmp}
-use Rattle.std.specs.Cmp.{IsTotalOrder}
-use Rattle.std.specs.List.{IsDistinct}
-use Rattle.std.proofs.lemmas.Cmp.{on_total, nat_cmp_total}
+use Rattle.std.specs.List.Sorted.{IsStrictlySortedBy}
 use Rattle.std.proofs.lemmas.List.{map-append, drop_more, length-map}
 use Rattle.bg_lists.specs.Lists.{sort, here, there}
 use Rattle.bg_lists.specs.Orders.{before}
-use Rattle.bg_lists.proofs.Members.{map-map, map_agree, Mem-unmap}
+use Rattle.bg_lists.proofs.Members.{map-map, map_agree}
 use Rattle.bg_lists.proofs.Words.{Contains-member}
-use Rattle.bg_lists.proofs.Ascents.{Ascending-from_sorted, Ascending-map}
-use Rattle.bg_lists.proofs.Sorting.{map-sort, IsDistinct-from_Ascending, IsDistinct-append}
+use Rattle.bg_lists.proofs.Ascents.{Ascending-from_sorted, sorted_from_Ascending, Ascending-map}
+use Rattle.bg_lists.proofs.Sorting.{map-sort}
 use Rattle.bg_base.specs.declared.big.NodeRow.{NodeRow}
 use Rattle.bg_base.specs.declared.big.Big.{Big}
 use Rattle.bg_base.specs.Bigraph.{IsValid, node_cmp}
-use Rattle.bg_base.specs.Composition.{compose, row_through, SupportsApart}
+use Rattle.bg_base.specs.Composition.{compose, row_through}
 use Rattle.bg_base.specs.Products.{tensor, parallel, row_beside, in_one_region, row_in_one, place_in_one}
-use Rattle.bg_base.proofs.LookUps.{apart_numbers}
-use Rattle.bg_base.proofs.Composed.{nodes_apart}
 use Rattle.bg_place.specs.declared.graph.ParentRow.{ParentRow}
 use Rattle.bg_place.specs.declared.graph.Places.{Places}
 use Rattle.bg_place.specs.Places.{parent_row, places_of}
@@ -27,9 +22,6 @@ use Rattle.bg_link.specs.declared.graph.Links.{Links}
 use Rattle.bg_link.specs.Links.{port_row, links_of}
 use Rattle.bg_algebra.specs.declared.halves.ControlRow.{ControlRow}
 use Rattle.bg_algebra.specs.Halves.{control_row, control_cmp, joined_row, joined_rows, joined, parent_in_one, places_in_one}
-
-pub control_cmp_total : IsTotalOrder control_cmp
-control_cmp_total = on_total (λ (row : ControlRow). row.node) nat_cmp_total
 
 joined_rows-parts : (rows : List NodeRow) → joined_rows (map parent_row rows) (map port_row rows) (map control_row rows) ≡ rows
 joined_rows-parts [] = refl
@@ -72,16 +64,11 @@ pub joined_is : (big : Big) (places : Places) (links : Links) (controls : List C
 joined_is big places links controls p l e =
     ap (λ z. joined z links controls) p ∙ ap (λ z. joined (places_of big) z controls) l ∙ ap (joined (places_of big) (links_of big)) e ∙ joined-parts big
 
--- nodes of both that are apart
-pub controls_distinct : (f g : Big) → IsValid f → IsValid g → SupportsApart f g
-    → IsDistinct (eq_by_cmp control_cmp) (map control_row f.nodes ++ map control_row g.nodes)
-controls_distinct f g f_valid g_valid apart =
-    IsDistinct-append (eq_by_cmp control_cmp) (map control_row f.nodes) (map control_row g.nodes)
-    (IsDistinct-from_Ascending {cmp = control_cmp} (map control_row f.nodes) (Ascending-map control_row f.nodes (λ x y less. less) (Ascending-from_sorted f.nodes f_valid.nodes_ascend)))
-    (IsDistinct-from_Ascending {cmp = control_cmp} (map control_row g.nodes) (Ascending-map control_row g.nodes (λ x y less. less) (Ascending-from_sorted g.nodes g_valid.nodes_ascend)))
-    (λ x y m n. let v = Mem-unmap control_row f.nodes m in let w = Mem-unmap control_row g.nodes n in
-    apart_numbers x.node y.node (λ e. nodes_apart f g apart v.1 w.1
-    (ap (λ (row : ControlRow). row.node) v.2 ∙ e ∙ sym (ap (λ (row : ControlRow). row.node) w.2))))
+-- the nodes of a bigraph ascend, and so do their controls
+pub controls_ascend : (rows : List NodeRow) → IsStrictlySortedBy node_cmp rows → IsStrictlySortedBy control_cmp (map control_row rows)
+controls_ascend rows up =
+    sorted_from_Ascending {cmp = control_cmp} (map control_row rows)
+    (Ascending-map control_row rows (λ x y less. less) (Ascending-from_sorted rows up))
 
 pub compose_controls : (g f : Big) → sort (before control_cmp) (map control_row g.nodes ++ map control_row f.nodes) ≡ map control_row (compose g f).nodes
 unfolding compose
@@ -118,11 +105,8 @@ controls_same f g xs ys given controls d e k is =
     k ∙ is ∙ ap (λ zs. sort (before control_cmp) (map control_row zs ++ map control_row ys)) d
     ∙ ap (λ zs. sort (before control_cmp) (map control_row f.nodes ++ map control_row zs)) e
 
-pub slices_distinct : (f g : Big) (xs ys : List NodeRow) → xs ≡ f.nodes → ys ≡ g.nodes → IsValid f → IsValid g → SupportsApart f g
-    → IsDistinct (eq_by_cmp control_cmp) (map control_row xs ++ map control_row ys)
-slices_distinct f g xs ys d e f_valid g_valid apart =
-    subst (λ zs. IsDistinct (eq_by_cmp control_cmp) (map control_row zs ++ map control_row ys)) (sym d)
-    (subst (λ zs. IsDistinct (eq_by_cmp control_cmp) (map control_row f.nodes ++ map control_row zs)) (sym e) (controls_distinct f g f_valid g_valid apart))
+pub slice_ascends : (big : Big) (xs : List NodeRow) → xs ≡ big.nodes → IsValid big → IsStrictlySortedBy node_cmp xs
+slice_ascends big xs e valid = subst (IsStrictlySortedBy node_cmp) (sym e) valid.nodes_ascend
 
 -- the parts of a merge product
 pub places_merged : (f g : Big) (given made : Places) → given ≡ places_of (tensor f g) → made ≡ places_in_one given → made ≡ places_of (in_one_region (parallel f g))

@@ -1,14 +1,14 @@
 //! A bigraph put together of its two halves, places and links.
-ghost use Rattle.std.specs.Prelude.{◌≡◌, ◌++◌, length, map, IfOk, OnOk};
-ghost use Rattle.std.specs.List.{IsDistinct};
-ghost use Rattle.std.specs.Ordering.{eq_by_cmp};
+ghost use Rattle.std.specs.Prelude.{◌≡◌, ◌++◌, length, map, IfOk};
+ghost use Rattle.std.specs.List.Sorted.{IsStrictlySortedBy};
 ghost use Rattle.bg_lists.specs.Lists.{sort};
 ghost use Rattle.bg_lists.specs.Orders.{before};
+ghost use Rattle.bg_base.specs.Bigraph.{node_cmp};
 ghost use Rattle.bg_algebra.specs.Halves as halves;
 
 use bg_base::{Big, NodeRow};
 use bg_link::{Links, PortRow};
-use bg_lists::{Mem, Rows};
+use bg_lists::{Mem, Numbered, Rows, merged};
 use bg_place::{ParentRow, Places};
 use std::alloc::Global;
 
@@ -17,6 +17,14 @@ use std::alloc::Global;
 pub struct ControlRow {
     pub node: u32,
     pub control: u32,
+}
+
+impl Numbered for ControlRow {
+    ghost number = { λ row. row.node };
+
+    fn number(&self) -> u32 {
+        self.node
+    }
 }
 
 /// The bigraph of these places, links and controls, node by node. Moves the links and copies none.
@@ -57,7 +65,7 @@ fn joined_nodes(
     requires as_many_controls { length controls.now ≡ length parents.now }
     ensures { IfOk result (λ rows. rows ≡ halves.joined_rows parents.now ports controls.now) }
 {
-    let mut nodes = Vec::new(alloc);
+    let mut nodes = Vec::with_capacity(alloc, parents.len())?;
     let mut rows = ports.into_vec().into_iter();
     while let Some(row) = rows.next() {
         let at = nodes.len();
@@ -71,31 +79,32 @@ fn joined_nodes(
     Rows::try_from_vec(nodes)
 }
 
-/// The nodes of both with their controls, by number.
+/// The nodes of both with their controls, by number. Costs time and memory in proportion to them.
 pub(crate) fn controls_of_both(
     alloc: Global,
     first: &[NodeRow],
     second: &[NodeRow],
 ) -> Mem<Vec<ControlRow>>
-    requires apart { IsDistinct (eq_by_cmp halves.control_cmp) (map halves.control_row first.now ++ map halves.control_row second.now) }
+    requires first_ascends { IsStrictlySortedBy node_cmp first.now }
+    requires second_ascends { IsStrictlySortedBy node_cmp second.now }
     ensures { IfOk result (λ rows. rows.items ≡ sort (before halves.control_cmp) (map halves.control_row first.now ++ map halves.control_row second.now)) }
 {
-    let mut rows = Vec::new(alloc);
-    push_controls(first, &mut rows)?;
-    push_controls(second, &mut rows)?;
-    rows.sort_unstable_by_key(|row| row.node);
+    let upper = control_rows(alloc, first)?;
+    let lower = control_rows(alloc, second)?;
+    let rows = merged(alloc, upper, lower)?;
     Ok(rows)
 }
 
-/// Appends the nodes with their controls.
-fn push_controls(nodes: &[NodeRow], rows: &mut Vec<ControlRow>) -> Mem<()>
-    ensures { OnOk result (rows.new.items ≡ rows.old.items ++ map halves.control_row nodes.now) }
+/// The nodes with their controls. Costs time and memory in proportion to them.
+fn control_rows(alloc: Global, nodes: &[NodeRow]) -> Mem<Vec<ControlRow>>
+    ensures { IfOk result (λ rows. rows.items ≡ map halves.control_row nodes.now) }
 {
+    let mut rows = Vec::with_capacity(alloc, nodes.len())?;
     for row in nodes {
         rows.push(ControlRow {
             node: row.id,
             control: row.control,
         })?;
     }
-    Ok(())
+    Ok(rows)
 }

@@ -1,5 +1,5 @@
 -- A bigraph has no fault under a signature exactly where it is valid under it.
-use Rattle.std.proofs.Common.{◌≡◌, ℕ, ◌<◌, Bool, true, false, not, cond, ◌&&◌, eqb, ltb, Option, Some, None, List, [], ◌∷◌, length, map, refl, sym, ap, ◌∙◌, arith, IsTrue, ltb-true, lt-ltb, eq-eqb, ◌↔◌}
+use Rattle.std.proofs.Common.{◌≡◌, ℕ, ◌<◌, Bool, true, false, not, cond, ◌&&◌, eqb, ltb, Option, Some, None, List, [], ◌∷◌, length, map, refl, sym, ap, subst, ◌∙◌, arith, IsTrue, ltb-true, lt-ltb, eq-eqb, ◌↔◌}
 use Rattle.std.specs.List.{AllByRecursion, All, list_all}
 use Rattle.std.specs.List.Sorted.{IsStrictlySortedBy}
 use Rattle.std.specs.Ordering.{nat_cmp, is_lt, on}
@@ -21,7 +21,7 @@ use Rattle.std.proofs.Common.{Result, Ok, Err}
 use Rattle.std.specs.Result.{OnOk, IsErrAnd}
 use Rattle.bg_base.specs.declared.check.CheckFault.{CheckFault}
 use Rattle.bg_base.specs.declared.check.CheckFault.TheVariants.{Malformed, OutOfMemory}
-use Rattle.bg_base.specs.Faults.{IsAnswer, IsMalformed}
+use Rattle.bg_base.specs.Faults.{answer_of, IsAnswer, IsMalformed}
 use Rattle.bg_lists.proofs.Comparisons.{Less-from_is_lt}
 use Rattle.bg_base.specs.Order.{name_cmp}
 use Rattle.bg_base.specs.OrderLaws.{name_cmp_total}
@@ -333,6 +333,15 @@ module _ (signature : List Control) (big : Big) where
 
 no_some : (fault : Part × ℕ × ℕ) → Some fault ≡ None → ⊥
 no_some fault e = cc
+
+own_answer : (fault : Option (Part × ℕ × ℕ)) → IsAnswer (answer_of fault) fault
+own_answer None = refl
+own_answer (Some fault) = refl
+
+-- the answer of a check that had its memory
+pub answered : (answer : Result (Unit {0}) CheckFault) (first fault : Option (Part × ℕ × ℕ)) → first ≡ fault → answer ≡ answer_of first → IsAnswer answer fault
+answered answer first fault same told =
+    subst (λ r. IsAnswer r fault) (sym (told ∙ ap answer_of same)) (own_answer fault)
 
 -- what an answer of the check says of validity
 pub valid_answer : (signature : List Control) (big : Big) (answer : Result (Unit {0}) CheckFault) → IsAnswer answer (fault_of signature big)

@@ -95,6 +95,11 @@ fault_of signature big =
     or_else Sites (sites_fault signature big) (or_else Inner (inner_fault big) (or_else Outer (outer_fault big)
     (or_else Edges (edges_fault big) (or_else Nodes (nodes_fault signature big) None))))
 
+-- the answer of a check that had its memory
+abbrev pub answer_of : Option (Part × ℕ × ℕ) → Result (Unit {0}) CheckFault
+answer_of None = Ok tt
+answer_of (Some fault) = Err (Malformed fault.2 fault.0 fault.1)
+
 -- the answer of a check tells the fault
 abbrev pub Tells : CheckFault → Option (Part × ℕ × ℕ) → Type 0
 Tells (Malformed code part row) fault = fault ≡ Some (part, row, code)

@@ -479,13 +479,6 @@ fn no_marks(alloc: Global, big: &Big) -> Mem<Vec<bool>>
     Ok(marks)
 }
 
-fn malformed(part: Part, fault: (u32, u8)) -> CheckFault
-    ensures { result ≡ CheckFault.Malformed fault.1 part fault.0 }
-{
-    let (row, code) = fault;
-    CheckFault::Malformed { code, part, row }
-}
-
 #[tactic(auto, unfolding(crate::specs::Faults::sites_fault))]
 fn sites_fault(signature: &Signature, big: &Big, lookup: &Lookup) -> Option<(u32, u8)>
     requires { IsIndex lookup.now.nodes big.now.nodes }
@@ -530,29 +523,45 @@ fn nodes_fault(
     first_node(signature, big, lookup, marks, big.nodes.as_slice())
 }
 
-/// Judges the parts of the bigraph one after the other.
+/// Judges the parts of the bigraph one after the other. It takes no memory, so its answer is the fault of the bigraph
+/// and nothing else.
 #[tactic(auto, unfolding(crate::specs::Faults::fault_of))]
-fn judge(alloc: Global, big: &Big, signature: &Signature) -> Result<(), CheckFault>
-    ensures { IsAnswer result (fault.fault_of signature.now big.now) }
+fn judge(
+    signature: &Signature,
+    big: &Big,
+    lookup: &Lookup,
+    marks: &mut [bool],
+) -> Option<(Part, u32, u8)>
+    requires lookup { IsLookup big.now lookup.now.nodes lookup.now.edges.items lookup.now.outer.items }
+    requires marks { AreRooted big.now marks.old }
+    ensures { result ≡ fault.fault_of signature.now big.now }
 {
-    let lookup = lookup_of(alloc, big)?;
-    let mut marks = no_marks(alloc, big)?;
-    if let Some(fault) = sites_fault(signature, big, &lookup) {
-        return Err(malformed(Part::Sites, fault));
+    if let Some((row, code)) = sites_fault(signature, big, lookup) {
+        return Some((Part::Sites, row, code));
     }
-    if let Some(fault) = inner_fault(big, &lookup) {
-        return Err(malformed(Part::Inner, fault));
+    if let Some((row, code)) = inner_fault(big, lookup) {
+        return Some((Part::Inner, row, code));
     }
-    if let Some(fault) = outer_fault(big) {
-        return Err(malformed(Part::Outer, fault));
+    if let Some((row, code)) = outer_fault(big) {
+        return Some((Part::Outer, row, code));
     }
-    if let Some(fault) = edges_fault(big) {
-        return Err(malformed(Part::Edges, fault));
+    if let Some((row, code)) = edges_fault(big) {
+        return Some((Part::Edges, row, code));
     }
-    if let Some(fault) = nodes_fault(signature, big, &lookup, &mut marks) {
-        return Err(malformed(Part::Nodes, fault));
+    if let Some((row, code)) = nodes_fault(signature, big, lookup, marks) {
+        return Some((Part::Nodes, row, code));
     }
-    Ok(())
+    None
+}
+
+/// The fault as an answer.
+fn answer_of(first: Option<(Part, u32, u8)>) -> Result<(), CheckFault>
+    ensures { result ≡ fault.answer_of first }
+{
+    match first {
+        None => Ok(()),
+        Some((part, row, code)) => Err(CheckFault::Malformed { code, part, row }),
+    }
 }
 
 impl Big {
@@ -561,12 +570,15 @@ impl Big {
     /// it breaks: 3 for a row that does not ascend, 4 for a control, place or link that is not there, 5 for a wrong
     /// number of ports, 6 for a child of an atomic control, 7 for a node without a root (docs/REFUSALS.md).
     /// Things are there by membership, also while rows are out of order; a number that stands twice means its first
-    /// row. Takes time n log n and memory n in the number of rows and links.
+    /// row. Takes time n log n and memory n in the number of rows and links; all memory is taken before the first row
+    /// is judged.
     pub fn check(&self, alloc: Global, signature: &Signature) -> Result<(), CheckFault>
         ensures answer { IsAnswer result (fault.fault_of signature.now self.now) }
         ensures valid { OnOk result (IsValidUnder signature.now self.now) }
         ensures malformed { IsErrAnd result IsMalformed → ¬ IsValidUnder signature.now self.now }
     {
-        judge(alloc, self, signature)
+        let lookup = lookup_of(alloc, self)?;
+        let mut marks = no_marks(alloc, self)?;
+        answer_of(judge(signature, self, &lookup, &mut marks))
     }
 }

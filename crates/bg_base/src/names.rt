@@ -3,6 +3,7 @@ ghost use Rattle.std.specs.Prelude.{◌≡◌, Some, refl};
 ghost use Rattle.std.specs.Cmp.{partial_order_from_agreeing_total};
 ghost use Rattle.bg_base.specs.Order.{name_cmp};
 ghost use Rattle.bg_base.specs.OrderLaws.{name_cmp_total, name_ties};
+ghost use Rattle.bg_base.specs.declared.names.Link.TheVariants.{Edge};
 
 use crate::Ident;
 use bg_lists::{Duplicate, Mem};
@@ -85,7 +86,9 @@ pub enum Link {
 }
 
 impl Default for Link {
-    fn default() -> Link {
+    fn default() -> Link
+        ensures { result ≡ Edge 0 }
+    {
         Link::Edge(0)
     }
 }

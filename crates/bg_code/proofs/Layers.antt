@@ -1,5 +1,5 @@
 -- What the trees say, layer by layer.
-use Rattle.std.proofs.Common.{◌≡◌, ap, map, Result}
+use Rattle.std.proofs.Common.{◌≡◌, ap, map}
 use Rattle.bg_syntax.specs.declared.tree.expressions.SynC1Item.{SynC1Item}
 use Rattle.bg_syntax.specs.declared.tree.expressions.SynE1Item.{SynE1Item, out-SynE1Item}
 use Rattle.bg_syntax.specs.declared.tree.expressions.SynM1Item.{SynM1Item, out-SynM1Item}

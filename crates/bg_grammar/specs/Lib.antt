@@ -2,3 +2,4 @@ pub mod Grammar
 pub mod Faults
 pub mod Plan
 pub mod Machine
+pub mod Trees

@@ -1,9 +1,10 @@
 //! What the machine accepts, and where it stops.
 ghost use Rattle.std.specs.Prelude.{◌≡◌, ◌<◌, ℕ, List, true};
-ghost use Rattle.bg_grammar.specs.Grammar.{Grammar, Step, IsDerivation, IsSentence};
+ghost use Rattle.bg_grammar.specs.Grammar.{Grammar, Step, kinds_of, IsDerivation, IsSentence};
 ghost use Rattle.bg_grammar.specs.Faults.{IsShallow, IsOnlyDerivation, unexpected, too_deep, IsOnlyFault};
 ghost use Rattle.bg_grammar.specs.Plan.{Plan, rank, fits};
 ghost use Rattle.bg_grammar.specs.Machine.{Accepts, start_of, StopsUnexpected, StopsDeep};
+ghost use Rattle.bg_grammar.specs.Trees.{Trees, IsTree, steps_of, AreInTurn, IsOnlyTree};
 
 /// The machine accepts exactly the sentences of the start that have no token too deep, each by the steps of its one
 /// derivation.
@@ -26,4 +27,19 @@ pub fn the_machine_stops()
 /// Each symbol with a rank has a sentence.
 pub fn some_sentence_of_each_symbol()
     ensures { (g : Grammar) (p : Plan) (s : ℕ) → fits g p ≡ true → 0 < rank p s → (kinds : List ℕ) × IsSentence g s kinds }
+{}
+
+/// The steps of a tree determine the tree: two trees of one symbol with the same steps are equal, in each alternative,
+/// each token and each part.
+pub fn steps_determine_trees()
+    ensures { (g : Grammar) (s depth : ℕ) (one other : Trees) → IsTree g s one → IsTree g s other → steps_of g depth one ≡ steps_of g depth other → one ≡ other }
+{}
+
+/// Derivations are trees: the steps of each derivation are those of exactly one tree of the symbol, and the steps of each
+/// tree whose tokens are numbered in a row are a derivation.
+pub fn derivations_are_trees()
+    ensures one_tree { (g : Grammar) (s : ℕ) (kinds : List ℕ) (steps : List Step) → IsDerivation g s kinds steps → (tree : Trees) × IsOnlyTree g s steps tree }
+    ensures in_turn { (g : Grammar) (s : ℕ) (kinds : List ℕ) (steps : List Step) → IsDerivation g s kinds steps → AreInTurn 0 steps }
+    ensures each_tree { (g : Grammar) (s : ℕ) (tree : Trees) → IsTree g s tree → AreInTurn 0 (steps_of g 0 tree)
+        → IsDerivation g s (kinds_of (steps_of g 0 tree)) (steps_of g 0 tree) }
 {}

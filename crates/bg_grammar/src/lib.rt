@@ -8,4 +8,7 @@
 
 mod laws;
 
-pub use laws::{some_sentence_of_each_symbol, the_machine_accepts, the_machine_stops};
+pub use laws::{
+    derivations_are_trees, some_sentence_of_each_symbol, steps_determine_trees,
+    the_machine_accepts, the_machine_stops,
+};

@@ -1,19 +1,16 @@
 -- Laws of the rows of ports: look-up and order.
 use Rattle.std.proofs.Common.{◌≡◌, ℕ, ◌==◌, List, length, map, get_or, nat_cmp, Some, None, Result, MatchResult}
-use Rattle.std.specs.Cmp.{IsTotalOrder}
 use Rattle.std.specs.List.Sorted.{IsSearchInRange, IsBinarySearchResult, IsStrictlySortedBy}
-use Rattle.std.proofs.lemmas.Cmp.{on_total, nat_cmp_total}
+use Rattle.std.proofs.lemmas.Cmp.{nat_cmp_total}
 use Rattle.bg_lists.proofs.Searches.{find-search}
 use Rattle.bg_lists.proofs.Comparisons.{eqb-nat_cmp}
 use Rattle.bg_lists.proofs.Ascents.{Ascending-from_sorted, sorted_from_Ascending, Ascending-map}
 use Rattle.bg_base.specs.declared.big.NodeRow.{NodeRow}
+use Rattle.bg_base.specs.declared.big.Big.{Big}
 use Rattle.bg_base.specs.Bigraph.{node_cmp}
 use Rattle.bg_link.specs.declared.graph.PortRow.{PortRow}
-use Rattle.bg_link.specs.Links.{port_row, row_of}
+use Rattle.bg_link.specs.Links.{port_row, row_of, ports_through}
 use Rattle.bg_link.specs.Rows.{port_cmp}
-
-pub port_cmp_total : IsTotalOrder port_cmp
-port_cmp_total = on_total (λ (row : PortRow). row.node) nat_cmp_total
 
 -- what a binary search of ascending rows answers
 pub row-search : (rows : List PortRow) (node : ℕ) → IsStrictlySortedBy port_cmp rows → (r : Result ℕ ℕ)
@@ -28,3 +25,9 @@ pub ports_ascend : (rows : List NodeRow) → IsStrictlySortedBy node_cmp rows �
 ports_ascend rows up =
     sorted_from_Ascending {cmp = port_cmp} (map port_row rows)
     (Ascending-map port_row rows (λ x y less. less) (Ascending-from_sorted rows up))
+
+-- and so do their rows of ports in a composition, wherever their links go
+pub through_ascend : (g : Big) (rows : List NodeRow) → IsStrictlySortedBy node_cmp rows → IsStrictlySortedBy port_cmp (map (ports_through g) rows)
+through_ascend g rows up =
+    sorted_from_Ascending {cmp = port_cmp} (map (ports_through g) rows)
+    (Ascending-map (ports_through g) rows (λ x y less. less) (Ascending-from_sorted rows up))

@@ -1,29 +1,26 @@
 -- Laws of composition and products: the rows of ports of the whole, and that names and nodes are apart.
-use Rattle.std.proofs.Common.{◌≡◌, Bool, false, List, ◌++◌, map, find, is_some, nat_cmp, refl, sym, ap, ◌∙◌}
+use Rattle.std.proofs.Common.{◌≡◌, Bool, false, List, ◌++◌, map, find, is_some, refl, sym, ap, ◌∙◌}
 use Rattle.std.specs.List.{IsDistinct}
 use Rattle.std.specs.Ordering.{eq_by_cmp}
 use Rattle.std.proofs.lemmas.Bool.{false≢true, false_from_ne_true}
 use Rattle.std.proofs.lemmas.List.{map-append}
 use Rattle.bg_lists.specs.Lists.{Mem, sort}
 use Rattle.bg_lists.specs.Orders.{before}
-use Rattle.bg_lists.proofs.Members.{Mem-unmap, map-map}
-use Rattle.bg_lists.proofs.Ascents.{Ascending-from_sorted, Ascending-map}
+use Rattle.bg_lists.proofs.Members.{map-map}
+use Rattle.bg_lists.proofs.Ascents.{Ascending-from_sorted}
 use Rattle.bg_lists.proofs.Sorting.{map-sort, IsDistinct-from_Ascending, IsDistinct-append}
 use Rattle.bg_lists.proofs.Sets.{set_of-sort}
 use Rattle.bg_lists.proofs.Words.{All-member, is_some_find}
 use Rattle.bg_base.specs.declared.names.Name.{Name}
-use Rattle.bg_base.specs.declared.big.NodeRow.{NodeRow}
 use Rattle.bg_base.specs.declared.big.InnerRow.{InnerRow}
 use Rattle.bg_base.specs.declared.big.Big.{Big}
 use Rattle.bg_base.specs.Order.{name_cmp}
 use Rattle.bg_base.specs.OrderLaws.{name_cmp_total}
-use Rattle.bg_base.specs.Bigraph.{IsValid, node_cmp, inner_cmp, row_of, inner_of, outer_of}
-use Rattle.bg_base.specs.Composition.{SupportsApart, compose, row_through}
+use Rattle.bg_base.specs.Bigraph.{IsValid, node_cmp, inner_cmp, inner_of, outer_of}
+use Rattle.bg_base.specs.Composition.{compose, row_through}
 use Rattle.bg_base.specs.Products.{InnerApart, OuterApart, row_beside, parallel, tensor}
-use Rattle.bg_base.proofs.LookUps.{apart_numbers, has_row}
 use Rattle.bg_base.proofs.NameLaws.{same_name}
-use Rattle.bg_link.specs.declared.graph.PortRow.{PortRow}
-use Rattle.bg_link.specs.Links.{port_row, links_of, ports_through, joined_ports, both_ports}
+use Rattle.bg_link.specs.Links.{port_row, links_of, joined_ports, both_ports}
 use Rattle.bg_link.specs.Rows.{port_cmp}
 
 -- ---- apart
@@ -33,30 +30,6 @@ not_tied : {X : Type 0} (same : X → X → Bool) (xs ys : List X) → ((y : X) 
     → (x y : X) → Mem x xs → Mem y ys → same x y ≡ false
 not_tied same xs ys none x y m n =
     false_from_ne_true (same x y) (λ t. false≢true (sym (none y n) ∙ is_some_find (λ z. same z y) xs m t))
-
--- the nodes of two bigraphs, as rows of ports of their own
-ports_distinct : (g f : Big) (over : NodeRow → PortRow) → ((row : NodeRow) → (over row).node ≡ row.id)
-    → IsValid g → IsValid f → SupportsApart g f → IsDistinct (eq_by_cmp port_cmp) (map port_row g.nodes ++ map over f.nodes)
-ports_distinct g f over keeps g_valid f_valid apart =
-    IsDistinct-append (eq_by_cmp port_cmp) (map port_row g.nodes) (map over f.nodes)
-    (IsDistinct-from_Ascending {cmp = port_cmp} (map port_row g.nodes)
-    (Ascending-map port_row g.nodes (λ x y less. less) (Ascending-from_sorted g.nodes g_valid.nodes_ascend)))
-    (IsDistinct-from_Ascending {cmp = port_cmp} (map over f.nodes)
-    (Ascending-map over f.nodes (λ x y less. ap (λ n. nat_cmp n (over y).node) (keeps x) ∙ ap (nat_cmp x.id) (keeps y) ∙ less)
-    (Ascending-from_sorted f.nodes f_valid.nodes_ascend)))
-    (λ x y m n.
-    let v = Mem-unmap port_row g.nodes m in
-    let w = Mem-unmap over f.nodes n in
-    apart_numbers x.node y.node
-    (λ e. let none = All-member (λ (row : NodeRow). is_some (row_of g.nodes row.id) ≡ false) f.nodes apart.nodes_apart w.1 in
-    false≢true (sym none ∙ has_row g.nodes v.1
-    (ap (λ (row : PortRow). row.node) v.2 ∙ e ∙ sym (ap (λ (row : PortRow). row.node) w.2) ∙ keeps w.0))))
-
-pub joined_distinct : (g f : Big) → IsValid g → IsValid f → SupportsApart g f → IsDistinct (eq_by_cmp port_cmp) (joined_ports g f)
-joined_distinct g f g_valid f_valid apart = ports_distinct g f (ports_through g) (λ row. refl) g_valid f_valid apart
-
-pub both_distinct : (f g : Big) → IsValid f → IsValid g → SupportsApart f g → IsDistinct (eq_by_cmp port_cmp) (both_ports f g)
-both_distinct f g f_valid g_valid apart = ports_distinct f g port_row (λ row. refl) f_valid g_valid apart
 
 pub inner_distinct : (f g : Big) → IsValid f → IsValid g → InnerApart f g → IsDistinct (eq_by_cmp inner_cmp) (f.inner ++ g.inner)
 inner_distinct f g f_valid g_valid apart =

@@ -5,7 +5,7 @@ ghost use Rattle.bg_link.specs.Links as defined;
 ghost use Rattle.bg_link.specs.Rows.{port_cmp};
 
 use bg_base::{Big, InnerRow, Link, Name, NodeRow, PortLinks};
-use bg_lists::{Duplicate, Mem, Rows};
+use bg_lists::{Duplicate, Mem, Numbered, Rows};
 use std::alloc::Global;
 
 /// A node and the links of its ports, in the order of the ports.
@@ -41,6 +41,14 @@ impl Duplicate for PortRow {
     }
 }
 
+impl Numbered for PortRow {
+    ghost number = { λ row. row.node };
+
+    fn number(&self) -> u32 {
+        self.node
+    }
+}
+
 impl Duplicate for Links {
     fn copy(&self, alloc: Global) -> Mem<Links> {
         Ok(Links {
@@ -65,11 +73,11 @@ pub fn links_of(alloc: Global, big: &Big) -> Mem<Links>
     })
 }
 
-/// The nodes with the links of their ports.
+/// The nodes with the links of their ports. Costs time and memory in proportion to nodes, ports and names.
 pub fn port_rows(alloc: Global, nodes: &[NodeRow]) -> Mem<Vec<PortRow>>
     ensures { IfOk result (λ rows. rows.items ≡ map defined.port_row nodes.now) }
 {
-    let mut rows = Vec::new(alloc);
+    let mut rows = Vec::with_capacity(alloc, nodes.len())?;
     for row in nodes {
         rows.push(PortRow {
             node: row.id,

@@ -1,10 +1,11 @@
 //! The link part of products.
 ghost use Rattle.std.specs.Prelude.{◌≡◌, ◌++◌, IfOk};
 ghost use Rattle.std.specs.List.{IsDistinct};
+ghost use Rattle.std.specs.List.Sorted.{IsStrictlySortedBy};
 ghost use Rattle.std.specs.Ordering.{eq_by_cmp};
 ghost use Rattle.bg_lists.specs.Lists.{sort};
 ghost use Rattle.bg_lists.specs.Orders.{before, set_of};
-ghost use Rattle.bg_base.specs.Bigraph.{IsValid, inner_cmp};
+ghost use Rattle.bg_base.specs.Bigraph.{IsValid, node_cmp, inner_cmp};
 ghost use Rattle.bg_base.specs.Composition.{SupportsApart};
 ghost use Rattle.bg_base.specs.Order.{name_cmp};
 ghost use Rattle.bg_base.specs.Products as whole;
@@ -12,16 +13,16 @@ ghost use Rattle.bg_base.specs.Products.{InnerApart, OuterApart};
 ghost use Rattle.bg_link.specs.Links as defined;
 ghost use Rattle.bg_link.specs.Rows.{port_cmp};
 
-use crate::composition::{sorted_edges, sorted_ports};
+use crate::composition::sorted_edges;
 use crate::graph::port_rows;
 use crate::{Links, PortRow};
 use bg_base::{Big, InnerRow, Name};
-use bg_lists::{Duplicate, Mem, Rows};
+use bg_lists::{Duplicate, Mem, Rows, merged};
 use std::alloc::Global;
 
 /// The link part of the tensor product of `f` and `g` (Milner, chapter 2): both side by side, where no name is in both.
-/// Costs time n log n in the number of nodes, edges and names, with a comparison of names at each step of a sort of
-/// names, and memory in proportion to both.
+/// Costs time in proportion to nodes, ports and edges, and n log n in the number of names, with a comparison of names at
+/// each step of a sort of names; memory in proportion to both.
 pub fn tensor_links(alloc: Global, f: &Big, g: &Big) -> Mem<Links>
     requires f_valid { IsValid f.now }
     requires g_valid { IsValid g.now }
@@ -35,8 +36,9 @@ pub fn tensor_links(alloc: Global, f: &Big, g: &Big) -> Mem<Links>
 }
 
 /// The link part of the parallel product of `f` and `g` (Milner, chapter 3): both side by side, and an outer name that
-/// both have is one link; no inner name, no node and no edge is in both. Costs time n log n in the number of nodes, edges and names, with a comparison of names at each
-/// step of a sort of names, and memory in proportion to both.
+/// both have is one link; no inner name, no node and no edge is in both. Costs time in proportion to nodes, ports and edges, and
+/// n log n in the number of names, with a comparison of names at each step of a sort of names; memory in proportion to
+/// both.
 pub fn share_links(alloc: Global, f: &Big, g: &Big) -> Mem<Links>
     requires f_valid { IsValid f.now }
     requires g_valid { IsValid g.now }
@@ -52,14 +54,16 @@ pub fn share_links(alloc: Global, f: &Big, g: &Big) -> Mem<Links>
     })
 }
 
-/// The nodes of both with the links of their ports, by number.
+/// The nodes of both with the links of their ports, by number. Costs time and memory in proportion to nodes, ports and
+/// names.
 fn both_ports(alloc: Global, f: &Big, g: &Big) -> Mem<Rows<PortRow>>
-    requires apart { IsDistinct (eq_by_cmp port_cmp) (defined.both_ports f.now g.now) }
+    requires f_ascends { IsStrictlySortedBy node_cmp f.now.nodes }
+    requires g_ascends { IsStrictlySortedBy node_cmp g.now.nodes }
     ensures { IfOk result (λ rows. rows ≡ sort (before port_cmp) (defined.both_ports f.now g.now)) }
 {
-    let rows = port_rows(alloc, &f.nodes)?;
-    let others = port_rows(alloc, &g.nodes)?;
-    sorted_ports(joined(alloc, rows, &others)?)
+    let left = port_rows(alloc, &f.nodes)?;
+    let right = port_rows(alloc, &g.nodes)?;
+    Rows::try_from_vec(merged(alloc, left, right)?)
 }
 
 /// The inner names of both with their links, by name, where they differ. Costs n log n comparisons of names, and memory

@@ -92,7 +92,7 @@ pub all_here : {A : Type 0} (P : A → Type 0) (before : List A) (x : A) (rest :
 all_here P [] x rest all = all.0
 all_here P (b ∷ before) x rest all = all_here P before x rest all.1
 
-none_before : (before : List Control) (control : Control) (rest : List Control) → IsDistinct (λ (x y : Control). same_label x.label y.label) (before ++ control ∷ rest) → number_of before control.label ≡ None
+pub none_before : (before : List Control) (control : Control) (rest : List Control) → IsDistinct (λ (x y : Control). same_label x.label y.label) (before ++ control ∷ rest) → number_of before control.label ≡ None
 unfolding IsDistinct
 none_before [] control rest distinct = refl
 none_before (b ∷ before) control rest distinct =

@@ -10,3 +10,11 @@ pub mod SixParts
 pub mod Rooms
 pub mod Passes
 pub mod Longest
+pub mod RefusalLaws
+pub mod Stopping
+pub mod OneLine
+pub mod RefusalLines
+pub mod SettledRows
+pub mod FreshLabels
+pub mod SettledLines
+pub mod ExactLine

@@ -58,23 +58,23 @@ plain_section_reads most word small r = viewed_reads (λ ds. ds) map_same (secti
 
 -- ---- rows
 
-edge_row_reads : Reads Anything (λ n. n) edge_line IsNumber edge_row
+pub edge_row_reads : Reads Anything (λ n. n) edge_line IsNumber edge_row
 unfolding edge_row
 edge_row_reads = row_reads (line_reads (λ rest. refl) listed_numbers)
 
-place_row_reads : Reads Anything (λ p. p) place_line IsPlace place_row
+pub place_row_reads : Reads Anything (λ p. p) place_line IsPlace place_row
 unfolding place_row
 place_row_reads = row_reads (line_reads (λ rest. refl) place_reads)
 
-name_row_reads : Reads Anything (λ n. n) name_line IsName name_row
+pub name_row_reads : Reads Anything (λ n. n) name_line IsName name_row
 unfolding name_row
 name_row_reads = row_reads (line_reads (λ rest. refl) name_reads)
 
-inner_row_reads : Reads Anything (λ r. r) inner_line IsInner inner_row
+pub inner_row_reads : Reads Anything (λ r. r) inner_line IsInner inner_row
 unfolding inner_row
 inner_row_reads = row_reads (line_reads (λ rest. refl) inner_reads)
 
-control_row_reads : Reads Anything (λ c. c) control_line IsControl control_row
+pub control_row_reads : Reads Anything (λ c. c) control_line IsControl control_row
 unfolding control_row
 control_row_reads =
     fits_reads IsControl (λ c f. record { label = f.0.0; arity = leb-true c.arity most_ports f.1 }) (λ c f. let le = f.arity in ((f.label, (omega arith, tt)), le-leb c.arity most_ports f.arity))
@@ -90,7 +90,7 @@ parts_line parts = decimal parts.0 ++ (codes " " ++ (label_text parts.1.0 ++ (co
 abbrev pub AreParts : NodeParts → Type 0
 AreParts parts = (parts.0 ≤ greatest) × (IsLabel parts.1.0 × (IsPlace parts.1.1.0 × AllByRecursion IsLink parts.1.1.1))
 
-node_row_reads : (signature : List Control) → Reads Anything (row_of signature) parts_line AreParts (node_row signature)
+pub node_row_reads : (signature : List Control) → Reads Anything (row_of signature) parts_line AreParts (node_row signature)
 unfolding node_row node_at
 node_row_reads signature = row_reads (mapped_reads (λ p. p) (λ p. p) (row_of signature) (λ p. refl)
     (both_read (λ p rest f n. refl) listed_numbers (behind_reads (codes " ") (both_read (λ p rest f n. refl) label_reads (behind_reads (codes " ")

@@ -23,7 +23,7 @@ use Rattle.bg_listing.proofs.Combinators.{done_is}
 use Rattle.bg_listing.proofs.Labels.{no_repeat, all_here}
 use Rattle.bg_listing.proofs.Values.{big_found, big_again, signature_found, signature_again, readable_signature}
 
-judged_ok : {A : Type 0} (bytes : List ℕ) (r : Result A lines.Bad) (second : A → Result A Refusal) (y : A) → judged bytes r second ≡ Ok y → (x : A) × (r ≡ Ok x) × (second x ≡ Ok y)
+pub judged_ok : {A : Type 0} (bytes : List ℕ) (r : Result A lines.Bad) (second : A → Result A Refusal) (y : A) → judged bytes r second ≡ Ok y → (x : A) × (r ≡ Ok x) × (second x ≡ Ok y)
 judged_ok bytes (Ok x) second y e = (x, refl, e)
 judged_ok bytes (Err b) second y e = absurd cc
 
@@ -37,11 +37,11 @@ reads_from bytes (Err fault.OutOfMemory) verdict value rest a e = tt
 
 -- ---- signatures
 
-kept_is : {A : Type 0} (o : Option ℕ) (line : ℕ) (x y : A) → without_repeat o line x ≡ Ok y → x ≡ y
+pub kept_is : {A : Type 0} (o : Option ℕ) (line : ℕ) (x y : A) → without_repeat o line x ≡ Ok y → x ≡ y
 kept_is None line x y e = cc
 kept_is (Some row) line x y e = absurd cc
 
-signature_here : (bytes : List ℕ) (at : Cursor) (x : List Control × List ℕ) → signature_verdict bytes at ≡ Ok x → signature_at (drop at.offset bytes) ≡ Ok x
+pub signature_here : (bytes : List ℕ) (at : Cursor) (x : List Control × List ℕ) → signature_verdict bytes at ≡ Ok x → signature_at (drop at.offset bytes) ≡ Ok x
 unfolding signature_verdict
 signature_here bytes at x e =
     let j = judged_ok bytes (signature_at (drop at.offset bytes)) (λ found. without_repeat (first_repeat found.0) (at.line + 1) found) x e in
@@ -103,11 +103,11 @@ control_fits whole made c rest e f =
 
 -- ---- bigraphs
 
-valid_is : {A : Type 0} (o : Option (Part × ℕ × ℕ)) (line : ℕ) (big : Big) (x y : A) → without_fault o line big x ≡ Ok y → x ≡ y
+pub valid_is : {A : Type 0} (o : Option (Part × ℕ × ℕ)) (line : ℕ) (big : Big) (x y : A) → without_fault o line big x ≡ Ok y → x ≡ y
 valid_is None line big x y e = cc
 valid_is (Some f) line big x y e = absurd cc
 
-big_here : (signature : List Control) (bytes : List ℕ) (at : Cursor) (x : Big × List ℕ) → big_verdict signature bytes at ≡ Ok x → big_at signature (drop at.offset bytes) ≡ Ok x
+pub big_here : (signature : List Control) (bytes : List ℕ) (at : Cursor) (x : Big × List ℕ) → big_verdict signature bytes at ≡ Ok x → big_at signature (drop at.offset bytes) ≡ Ok x
 unfolding big_verdict
 big_here signature bytes at x e =
     let j = judged_ok bytes (big_at signature (drop at.offset bytes)) (λ found. without_fault (fault_of signature found.0) at.line found.0 found) x e in

@@ -17,13 +17,13 @@ use Rattle.bg_listing.proofs.Listings.{parts_line, AreParts, parts_text, AreSect
 use Rattle.bg_listing.proofs.Labels.{label_back, control_own}
 
 -- the parts of a node's line, and those of a bigraph
-abbrev parts_of : List Control → NodeRow → NodeParts
+abbrev pub parts_of : List Control → NodeRow → NodeParts
 parts_of signature row = (row.id, (label_of signature row.control, (row.parent, row.links)))
 
-abbrev sections_of : List Control → Big → Sections NodeParts
+abbrev pub sections_of : List Control → Big → Sections NodeParts
 sections_of signature big = (big.regions, (big.sites, (big.inner, (big.outer, (big.edges, map (parts_of signature) big.nodes)))))
 
-abbrev IsKnown : List Control → NodeRow → Type 0
+abbrev pub IsKnown : List Control → NodeRow → Type 0
 IsKnown signature row = row.control < length signature
 
 -- ---- the text
@@ -31,7 +31,7 @@ IsKnown signature row = row.control < length signature
 section_mapped : {A B : Type 0} (word : List ℕ) (f : A → B) (text : B → List ℕ) (xs : List A) → section_text word text (map f xs) ≡ section_text word (λ x. text (f x)) xs
 section_mapped word f text xs = simp (length-map, flat_map-map)
 
-parts_text_is : (signature : List Control) (big : Big) → parts_text (sections_of signature big) ≡ big_text signature big
+pub parts_text_is : (signature : List Control) (big : Big) → parts_text (sections_of signature big) ≡ big_text signature big
 unfolding big_text
 parts_text_is signature big =
     ap (λ nodes. count_line (codes "bigraph ") big.regions ++ (section_text (codes "sites ") place_line big.sites ++ (section_text (codes "inner ") inner_line big.inner
@@ -45,7 +45,7 @@ rows_back signature (r ∷ rows) known =
     let label : label_of signature (control_of signature r.1.0) ≡ r.1.0 = label_back signature r.1.0 known.0 in
     ap (λ l. (r.0, (l, r.1.1)) ∷ map (parts_of signature) (map (row_of signature) rows)) label ∙ ap (λ rs. r ∷ rs) (rows_back signature rows known.1)
 
-rows_own : (signature : List Control) → IsDistinct (λ (x y : Control). same_label x.label y.label) signature → (rows : List NodeRow) → AllByRecursion (IsKnown signature) rows → map (row_of signature) (map (parts_of signature) rows) ≡ rows
+pub rows_own : (signature : List Control) → IsDistinct (λ (x y : Control). same_label x.label y.label) signature → (rows : List NodeRow) → AllByRecursion (IsKnown signature) rows → map (row_of signature) (map (parts_of signature) rows) ≡ rows
 rows_own signature distinct [] known = refl
 rows_own signature distinct (r ∷ rows) known =
     let number : control_of signature (label_of signature r.control) ≡ r.control = control_own signature distinct r.control known.0 in
@@ -59,7 +59,7 @@ parts_from_nodes : (signature : List Control) (rows : List NodeRow) → AllByRec
 parts_from_nodes signature [] all = tt
 parts_from_nodes signature (r ∷ rows) all = ((all.0.id, (all.0.label, (all.0.parent, all.0.links))), parts_from_nodes signature rows all.1)
 
-spelled_from_sections : (signature : List Control) (big : Big) → AreSections (sections_of signature big) → IsSpelledBig signature big
+pub spelled_from_sections : (signature : List Control) (big : Big) → AreSections (sections_of signature big) → IsSpelledBig signature big
 spelled_from_sections signature big f = record {
   regions = f.0;
   sites = f.1.0;
@@ -69,7 +69,7 @@ spelled_from_sections signature big f = record {
   nodes = record { many = simp length-map at f.1.1.1.1.1.many; all = nodes_from_parts signature big.nodes f.1.1.1.1.1.all };
 }
 
-sections_from_spelled : (signature : List Control) (big : Big) → IsSpelledBig signature big → AreSections (sections_of signature big)
+pub sections_from_spelled : (signature : List Control) (big : Big) → IsSpelledBig signature big → AreSections (sections_of signature big)
 sections_from_spelled signature big f =
     (f.regions, (f.sites, (f.inner, (f.outer, (f.edges, record { many = simp length-map f.nodes.many; all = parts_from_nodes signature big.nodes f.nodes.all })))))
 

@@ -5,3 +5,4 @@ pub mod Reading
 pub mod Lines
 pub mod Answers
 pub mod Verdict
+pub mod Stops

@@ -5,6 +5,7 @@
 //! - [`write_signature`], [`write_big`]: append the listing of a value.
 //! - [`read_number`], [`read_label`], [`write_number`], [`write_label`]: numbers and labels alone, for the other texts.
 //! - [`signatures_have_one_text`], [`bigraphs_have_one_text`]: no text is the listing of two values.
+//! - [`laws`]: what acceptance and refusal mean of the whole text.
 #![tactic(auto)]
 
 mod at_offset;
@@ -14,6 +15,7 @@ mod cursor;
 mod fault;
 mod first_pass;
 mod label;
+pub mod laws;
 mod lines;
 mod names;
 mod number;

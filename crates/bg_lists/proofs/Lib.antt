@@ -8,3 +8,4 @@ pub mod Sorts
 pub mod Searches
 pub mod Sets
 pub mod Groups
+pub mod Merges

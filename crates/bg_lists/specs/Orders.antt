@@ -1,12 +1,22 @@
 -- Orders, and lists that ascend by one.
-use Rattle.std.specs.Prelude.{Bool, if◌then◌else◌, List, [], ◌∷◌}
-use Rattle.std.specs.Ordering.{is_lt, is_eq}
+use Rattle.std.specs.Prelude.{ℕ, Bool, true, false, if◌then◌else◌, List, [], ◌∷◌}
+use Rattle.std.specs.Ordering.{nat_cmp, is_lt, is_eq, on}
 use Rattle.std.specs.declared.cmp.Ordering.{Ordering}
 use Rattle.bg_lists.specs.Lists.{Mem}
 
 -- the test by which rows are put in order
 abbrev pub before : {X : Type 0} → (X → X → Ordering) → X → X → Bool
 before cmp x y = is_lt (cmp x y)
+
+-- the order by a number of each item
+abbrev pub by_number : {X : Type 0} → (X → ℕ) → X → X → Ordering
+by_number number = on number nat_cmp
+
+-- whether the next of two lists in order is the head of the first
+unfoldable pub first_leads : {X : Type 0} → (X → ℕ) → List X → List X → Bool
+first_leads number [] ys = false
+first_leads number (x ∷ xs) [] = true
+first_leads number (x ∷ xs) (y ∷ ys) = before (by_number number) x y
 
 -- each member stands below all that come after it
 pub data Ascending {X : Type 0} (Below : X → X → Type 0) : List X → Type 0 where

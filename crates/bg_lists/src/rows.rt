@@ -102,7 +102,7 @@ impl<T: Duplicate> Duplicate for Rows<T> {
 pub fn copies<T: Duplicate>(alloc: Global, items: &[T]) -> Mem<Vec<T>>
     ensures { IfOk result (λ made. made.items ≡ items.now) }
 {
-    let mut made = Vec::new(alloc);
+    let mut made = Vec::with_capacity(alloc, items.len())?;
     for item in items {
         made.push(item.copy(alloc)?)?;
     }

@@ -1,18 +1,12 @@
 -- Laws of the rows of places: look-up, order, the rows of two bigraphs.
 use Rattle.std.proofs.Common.{◌≡◌, ℕ, ◌==◌, List, ◌++◌, length, map, get_or, nat_cmp, Some, None, Result, Ok, Err, MatchResult, refl, sym, ap, ◌∙◌}
-use Rattle.std.specs.Cmp.{IsTotalOrder}
 use Rattle.std.specs.List.Sorted.{IsSearchInRange, IsBinarySearchResult, IsStrictlySortedBy}
-use Rattle.std.proofs.lemmas.Cmp.{on_total, nat_cmp_total}
-use Rattle.std.proofs.Common.{false, is_some, IsNone, All}
-use Rattle.std.specs.Ordering.{eq_by_cmp}
-use Rattle.std.specs.List.{IsDistinct}
-use Rattle.std.proofs.lemmas.Bool.{false≢true}
+use Rattle.std.proofs.lemmas.Cmp.{nat_cmp_total}
 use Rattle.std.proofs.lemmas.List.{map-append}
 use Rattle.bg_lists.specs.Lists.{sort}
 use Rattle.bg_lists.specs.Orders.{before}
-use Rattle.bg_lists.proofs.Members.{Mem-unmap, map-map}
-use Rattle.bg_lists.proofs.Sorting.{map-sort, IsDistinct-from_Ascending, IsDistinct-append}
-use Rattle.bg_lists.proofs.Words.{All-member}
+use Rattle.bg_lists.proofs.Members.{map-map}
+use Rattle.bg_lists.proofs.Sorting.{map-sort}
 use Rattle.bg_lists.proofs.Searches.{find-search}
 use Rattle.bg_lists.proofs.Comparisons.{eqb-nat_cmp}
 use Rattle.bg_lists.proofs.Places.{At-total, get_or-At, slice_get-At}
@@ -20,17 +14,13 @@ use Rattle.bg_lists.proofs.Ascents.{Ascending-from_sorted, sorted_from_Ascending
 use Rattle.bg_base.specs.declared.names.Place.{Place}
 use Rattle.bg_base.specs.declared.big.NodeRow.{NodeRow}
 use Rattle.bg_base.specs.declared.big.Big.{Big}
-use Rattle.bg_base.specs.Bigraph.{node_cmp, row_of as node_row}
+use Rattle.bg_base.specs.Bigraph.{node_cmp}
 use Rattle.bg_base.specs.Composition as through
 use Rattle.bg_base.specs.Composition.{compose}
 use Rattle.bg_base.specs.Products.{row_beside, tensor, parallel}
-use Rattle.bg_base.proofs.LookUps.{apart_numbers, has_row}
 use Rattle.bg_place.specs.declared.graph.ParentRow.{ParentRow}
 use Rattle.bg_place.specs.Places.{parent_row, places_of, row_of, moved_row, joined_parents, parents_beside}
 use Rattle.bg_place.specs.Rows.{parent_cmp, IsRowAt}
-
-pub parent_cmp_total : IsTotalOrder parent_cmp
-parent_cmp_total = on_total (λ (row : ParentRow). row.node) nat_cmp_total
 
 -- what a binary search of ascending rows answers
 found_by : (rows : List ParentRow) (node : ℕ) → IsStrictlySortedBy parent_cmp rows → (r : Result ℕ ℕ)
@@ -55,6 +45,13 @@ parents_ascend rows up =
     sorted_from_Ascending {cmp = parent_cmp} (map parent_row rows)
     (Ascending-map parent_row rows (λ x y less. less) (Ascending-from_sorted rows up))
 
+-- and so do their rows in a bigraph of two, wherever their places move
+pub moved_ascend : (move : Place → Place) (rows : List NodeRow) → IsStrictlySortedBy node_cmp rows
+    → IsStrictlySortedBy parent_cmp (map (moved_row move) rows)
+moved_ascend move rows up =
+    sorted_from_Ascending {cmp = parent_cmp} (map (moved_row move) rows)
+    (Ascending-map (moved_row move) rows (λ x y less. less) (Ascending-from_sorted rows up))
+
 -- ---- rows of two bigraphs
 
 module _ (first second : List NodeRow) where
@@ -66,24 +63,6 @@ module _ (first second : List NodeRow) where
       map-sort (before node_cmp) (before parent_cmp) parent_row (λ x y. refl) (first ++ map shifted second)
       ∙ ap (sort (before parent_cmp)) (map-append parent_row first (map shifted second)
       ∙ ap (λ rows. map parent_row first ++ rows) (map-map shifted parent_row second))
-
-  -- they are apart, wherever the places of the second move
-  pub joined_distinct : (move : Place → Place) → IsStrictlySortedBy node_cmp first → IsStrictlySortedBy node_cmp second
-      → All (λ (row : NodeRow). IsNone (node_row first row.id)) second
-      → IsDistinct (eq_by_cmp parent_cmp) (map parent_row first ++ map (moved_row move) second)
-  joined_distinct move first_up second_up apart =
-      IsDistinct-append (eq_by_cmp parent_cmp) (map parent_row first) (map (moved_row move) second)
-      (IsDistinct-from_Ascending {cmp = parent_cmp} (map parent_row first)
-      (Ascending-map parent_row first (λ x y less. less) (Ascending-from_sorted first first_up)))
-      (IsDistinct-from_Ascending {cmp = parent_cmp} (map (moved_row move) second)
-      (Ascending-map (moved_row move) second (λ x y less. less) (Ascending-from_sorted second second_up)))
-      (λ x y m n.
-      let v = Mem-unmap parent_row first m in
-      let w = Mem-unmap (moved_row move) second n in
-      apart_numbers x.node y.node
-      (λ e. let none = All-member (λ (row : NodeRow). is_some (node_row first row.id) ≡ false) second apart w.1 in
-      false≢true (sym none ∙ has_row first v.1
-      (ap (λ (row : ParentRow). row.node) v.2 ∙ e ∙ sym (ap (λ (row : ParentRow). row.node) w.2)))))
 
 -- the parent rows of a composition
 pub compose_parents : (g f : Big) → map parent_row (compose g f).nodes ≡ sort (before parent_cmp) (joined_parents g f)

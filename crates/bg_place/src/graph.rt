@@ -5,7 +5,7 @@ ghost use Rattle.bg_place.specs.Places as defined;
 ghost use Rattle.bg_place.specs.Rows.{parent_cmp, IsRowAt};
 
 use bg_base::{Big, NodeRow, Place};
-use bg_lists::{Duplicate, Mem, Rows};
+use bg_lists::{Duplicate, Mem, Numbered, Rows};
 use std::alloc::Global;
 
 /// A node and where it lies.
@@ -30,6 +30,14 @@ impl Duplicate for ParentRow {
     }
 }
 
+impl Numbered for ParentRow {
+    ghost number = { λ row. row.node };
+
+    fn number(&self) -> u32 {
+        self.node
+    }
+}
+
 /// The place part of the bigraph. Costs time and memory in proportion to its nodes and sites.
 pub fn places_of(alloc: Global, big: &Big) -> Mem<Places>
     ensures { IfOk result (λ places. places ≡ defined.places_of big.now) }
@@ -41,11 +49,11 @@ pub fn places_of(alloc: Global, big: &Big) -> Mem<Places>
     })
 }
 
-/// The nodes with their parents.
+/// The nodes with their parents. Costs time and memory in proportion to them.
 pub fn parent_rows(alloc: Global, nodes: &[NodeRow]) -> Mem<Vec<ParentRow>>
     ensures { IfOk result (λ rows. rows.items ≡ map defined.parent_row nodes.now) }
 {
-    let mut rows = Vec::new(alloc);
+    let mut rows = Vec::with_capacity(alloc, nodes.len())?;
     for row in nodes {
         rows.push(ParentRow {
             node: row.id,

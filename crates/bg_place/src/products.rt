@@ -1,25 +1,23 @@
 //! The place part of the tensor product.
 ghost use Rattle.std.specs.Prelude.{◌≡◌, ◌++◌, ◌+◌, ◌<◌, ◌^◌, length, map, All, IsTrue, IsNone, IfOk, OnOk};
-ghost use Rattle.std.specs.List.{IsDistinct};
-ghost use Rattle.std.specs.Ordering.{eq_by_cmp};
+ghost use Rattle.std.specs.List.Sorted.{IsStrictlySortedBy};
 ghost use Rattle.bg_lists.specs.Lists.{sort};
 ghost use Rattle.bg_lists.specs.Orders.{before};
 ghost use Rattle.bg_base.specs.declared.big.NodeRow.{NodeRow as RowOfNode};
-ghost use Rattle.bg_base.specs.Bigraph.{IsValid, has_place, row_of};
+ghost use Rattle.bg_base.specs.Bigraph.{IsValid, node_cmp, has_place, row_of};
 ghost use Rattle.bg_base.specs.Products as product;
 ghost use Rattle.bg_place.specs.Places as defined;
 ghost use Rattle.bg_place.specs.Rows.{parent_cmp};
 
-use crate::composition::sorted_parents;
 use crate::graph::parent_rows;
 use crate::{ParentRow, Places};
 use bg_base::{Big, NodeRow, Place};
-use bg_lists::{Duplicate, Mem, Rows};
+use bg_lists::{Duplicate, Mem, Rows, merged};
 use std::alloc::Global;
 
 /// The place part of the tensor product of `f` and `g`, and of their parallel product: the two side by side, the regions
-/// and sites of `g` after those of `f`; no node is in both. The links of the two play no part. Costs time n log n, and memory n, in the
-/// number of nodes and sites.
+/// and sites of `g` after those of `f`; no node is in both. The links of the two play no part. Costs time and memory in
+/// proportion to nodes and sites.
 pub fn tensor_places(alloc: Global, f: &Big, g: &Big) -> Mem<Places>
     requires f_valid { IsValid f.now }
     requires g_valid { IsValid g.now }
@@ -70,29 +68,30 @@ fn push_sites_beside(f: &Big, g: &Big, places: &[Place], sites: &mut Vec<Place>)
     Ok(())
 }
 
-/// The nodes of both with their parents, by number.
+/// The nodes of both with their parents, by number. Costs time and memory in proportion to them.
 fn parents_beside(alloc: Global, f: &Big, g: &Big) -> Mem<Rows<ParentRow>>
+    requires f_ascends { IsStrictlySortedBy node_cmp f.now.nodes }
     requires g_valid { IsValid g.now }
     requires widths { f.now.regions + g.now.regions < 2 ^ 32 }
-    requires apart { IsDistinct (eq_by_cmp parent_cmp) (defined.parents_beside f.now g.now) }
     ensures { IfOk result (λ rows. rows ≡ sort (before parent_cmp) (defined.parents_beside f.now g.now)) }
 {
-    let mut rows = parent_rows(alloc, &f.nodes)?;
-    push_parents_beside(f, g, &g.nodes, &mut rows)?;
-    sorted_parents(rows)
+    let left = parent_rows(alloc, &f.nodes)?;
+    let right = right_parents(alloc, f, g, &g.nodes)?;
+    Rows::try_from_vec(merged(alloc, left, right)?)
 }
 
-/// Appends these rows of `g`, as they are beside `f`.
-fn push_parents_beside(f: &Big, g: &Big, nodes: &[NodeRow], rows: &mut Vec<ParentRow>) -> Mem<()>
+/// These nodes of `g` with their parents beside `f`. Costs time and memory in proportion to them.
+fn right_parents(alloc: Global, f: &Big, g: &Big, nodes: &[NodeRow]) -> Mem<Vec<ParentRow>>
     requires widths { f.now.regions + g.now.regions < 2 ^ 32 }
     requires there { All (λ (row : RowOfNode). IsTrue (has_place g.now row.parent)) nodes.now }
-    ensures { OnOk result (rows.new.items ≡ rows.old.items ++ map (defined.moved_row (product.place_beside f.now.regions)) nodes.now) }
+    ensures { IfOk result (λ rows. rows.items ≡ map (defined.moved_row (product.place_beside f.now.regions)) nodes.now) }
 {
+    let mut rows = Vec::with_capacity(alloc, nodes.len())?;
     for row in nodes {
         rows.push(ParentRow {
             node: row.id,
             parent: place_beside(f, g, row.parent),
         })?;
     }
-    Ok(())
+    Ok(rows)
 }

@@ -128,6 +128,22 @@ fn tied(alloc: Global) -> Mem<Big>
     Ok(big)
 }
 
+/// The pattern that is a room.
+fn room_pattern(alloc: Global) -> Mem<Pattern> {
+    match Pattern::new(room(alloc)?) {
+        Ok(pattern) => Ok(pattern),
+        Err(_fault) => Err(OutOfMemory),
+    }
+}
+
+#[test]
+fn the_copy_of_a_pattern_is_a_pattern(rt: HostRuntime) -> Result<(), Fail> {
+    let copy = room_pattern(rt.alloc())?.copy(rt.alloc())?;
+    assert_eq!(rt; copy.big().nodes.len(), 1);
+    assert_eq!(rt; copy.big().sites.len(), 1);
+    Ok(())
+}
+
 /// The rule whose redex is a room, with that reactum and that map.
 fn rule_of(alloc: Global, reactum: Big, map: Vec<u32>) -> Mem<Result<Rule, RuleFault>>
     requires valid { IsValid reactum }

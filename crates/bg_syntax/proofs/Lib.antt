@@ -3,3 +3,10 @@ pub mod Readings
 pub mod ArithmeticTrees
 pub mod ExpressionsTrees
 pub mod ModelFaults
+pub mod Rows
+pub mod NamesRows
+pub mod ArithmeticRows
+pub mod ExpressionsRows
+pub mod StatementsRows
+pub mod ModelsRows
+pub mod OneTree

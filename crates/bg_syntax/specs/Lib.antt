@@ -7,5 +7,11 @@ pub mod ArithmeticSteps
 pub mod ExpressionsSteps
 pub mod StatementsSteps
 pub mod ModelsSteps
+pub mod Trees
+pub mod NamesTrees
+pub mod ArithmeticTrees
+pub mod ExpressionsTrees
+pub mod StatementsTrees
+pub mod ModelsTrees
 pub mod Models
 pub mod Reading

@@ -3,6 +3,7 @@ use Rattle.std.specs.Prelude.{ℕ, List, map}
 use Rattle.bg_text.specs.declared.token.Token.{Token}
 use Rattle.bg_grammar.specs.Grammar.{Step, IsDerivation}
 use Rattle.bg_grammar.specs.Faults.{IsShallow, unexpected, too_deep, IsOnlyFault}
+use Rattle.bg_grammar.specs.Trees.{Trees, no_tree}
 use Rattle.bg_syntax.specs.declared.fault.SyntaxFault.{SyntaxFault}
 use Rattle.bg_syntax.specs.declared.fault.SyntaxFault.TheVariants.{Unexpected, TooDeep, OutOfMemory}
 use Rattle.bg_syntax.specs.declared.tree.models.SynModel.{SynModel}
@@ -10,6 +11,7 @@ use Rattle.bg_syntax.specs.declared.symbol.Symbol.TheVariants as symbols
 use Rattle.bg_syntax.specs.Numbers.{kind_number, symbol_number}
 use Rattle.bg_syntax.specs.Grammar.{grammar}
 use Rattle.bg_syntax.specs.ModelsSteps.{model_steps}
+use Rattle.bg_syntax.specs.ModelsTrees.{model_tree}
 
 abbrev pub kinds : List Token → List ℕ
 kinds tokens = map (λ token. kind_number token.kind) tokens
@@ -22,6 +24,10 @@ DerivesModel tokens steps = IsDerivation grammar (symbol_number symbols.Model) (
 pub record IsTreeOf (tokens : List Token) (tree : SynModel) : Type 0 where
   pub derivation : DerivesModel tokens (model_steps tree 0)
   pub shallow : IsShallow 256 (model_steps tree 0)
+
+-- the derivation tree that a tree is: its alternatives, tokens and parts, without the addresses of boxes
+abbrev pub tree_of : SynModel → Trees
+tree_of model = model_tree model no_tree
 
 -- the fault is the only first fault of the tokens, and they have no derivation without tokens too deep; or memory was wanting
 abbrev pub IsSyntaxFault : List Token → SyntaxFault → Type 0

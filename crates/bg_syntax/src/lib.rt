@@ -2,9 +2,12 @@
 //!
 //! - [`parse`]: the tree of the tokens, or their first fault ([`SyntaxFault`]).
 //! - [`tree`]: a type for each symbol of the grammar; [`Tree`] is the whole.
+//! - [`tokens_have_one_tree`], [`steps_determine_models`], [`models_are_derivation_trees`]: what the tokens and the steps
+//!   of a tree determine.
 #![tactic(auto)]
 
 mod fault;
+mod laws;
 mod parsing;
 mod read;
 mod reader;
@@ -13,6 +16,7 @@ mod table;
 pub mod tree;
 
 pub use fault::{SyntaxFault, TOO_DEEP, UNEXPECTED};
+pub use laws::{models_are_derivation_trees, steps_determine_models, tokens_have_one_tree};
 pub use parsing::parse;
 pub use symbol::Symbol;
 pub use tree::Tree;

@@ -67,6 +67,28 @@ fn stopped(stop: Stop) -> Outcome {
     }
 }
 
+/// The tokens at which the names of the parameters stand in the text, which has no other statements.
+fn name_tokens(alloc: Global, text: &str) -> Option<(u32, u32)> {
+    if text.len() > 10_000 {
+        return None;
+    }
+    let tokens = tokens(alloc, text.as_bytes()).ok()?;
+    if tokens.len() > 10_000 {
+        return None;
+    }
+    let tree = parse(alloc, &tokens).ok()?;
+    let first = name_in(&tree.part1.first()?.part1)?;
+    let last = name_in(&tree.part1.last()?.part1)?;
+    Some((first, last))
+}
+
+fn name_in(statement: &SynStmt) -> Option<u32> {
+    match statement {
+        SynStmt::Way6(parameter) => Some(parameter_name(parameter)),
+        _ => None,
+    }
+}
+
 /// What the first statement of the text comes to, a parameter; or a list in which the names have these values.
 fn read_parameter(alloc: Global, text: &str, names: &NameTable<()>, env: &[Value]) -> Outcome {
     if text.len() > 10_000 {
@@ -205,6 +227,13 @@ fn finds_values_where_names_are_visible(rt: HostRuntime) {
         read_parameter(rt.alloc(), text, &names, &env) == Outcome::Refused(Cause::UnknownName, 12),
         "{text}"
     );
+}
+
+#[test]
+fn finds_the_names_of_parameters(rt: HostRuntime) {
+    let text = "int n = {1, 2}; string s = \"a\";";
+    assert_eq!(rt; name_tokens(rt.alloc(), text), Some((1, 10)));
+    assert_eq!(rt; name_tokens(rt.alloc(), "int n = 1; ctrl K = 0;"), None);
 }
 
 #[test]

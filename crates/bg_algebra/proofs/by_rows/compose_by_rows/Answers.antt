@@ -1,17 +1,11 @@
 use Rattle.std.proofs.Common.{◌∙◌, ap, map}
 use Rattle.bg_base.specs.Composition.{compose, place_through, inner_through}
-use Rattle.bg_base.proofs.Composed.{compose_nodes_distinct, compose_edges_distinct}
+use Rattle.bg_base.proofs.Composed.{compose_nodes_distinct}
 use Rattle.bg_algebra.proofs.by_rows.compose_by_rows.Goals as goal
 
 pub composed_nodes-requires-clause-apart : goal.composed_nodes-requires-clause-apart
 composed_nodes-requires-clause-apart c =
     compose_nodes_distinct c.args.g.now c.args.f.now c.requires.g_valid.nodes_ascend c.requires.f_valid.nodes_ascend c.requires.apart
-
-pub sorted_edges-requires : goal.sorted_edges-requires
-sorted_edges-requires c =
-    record {
-      apart = compose_edges_distinct c.args.g.now c.args.f.now c.requires.g_valid.edges_ascend c.requires.f_valid.edges_ascend c.requires.apart;
-    }
 
 pub returns : goal.returns
 unfolding compose

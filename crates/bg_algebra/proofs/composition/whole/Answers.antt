@@ -1,11 +1,14 @@
 use Rattle.std.proofs.Common.{◌≡◌, ◌∙◌, subst, IfOk}
 use Rattle.bg_base.specs.Composition.{compose}
-use Rattle.bg_algebra.proofs.Joining.{slices_distinct, controls_same, compose_controls, as_many_controls, joined_is}
+use Rattle.bg_algebra.proofs.Joining.{slice_ascends, controls_same, compose_controls, as_many_controls, joined_is}
 use Rattle.bg_algebra.proofs.composition.whole.Goals as goal
 
 pub controls_of_both-requires : goal.controls_of_both-requires
 controls_of_both-requires c =
-    record { apart = slices_distinct c.args.g.now c.args.f.now c.deref.result.now c.deref-2.result.now c.deref.ensures c.deref-2.ensures c.requires.g_valid c.requires.f_valid c.requires.apart }
+    record {
+      first_ascends = slice_ascends c.args.g.now c.deref.result.now c.deref.ensures c.requires.g_valid;
+      second_ascends = slice_ascends c.args.f.now c.deref-2.result.now c.deref-2.ensures c.requires.f_valid;
+    }
 
 pub joined-requires-clause-as_many_controls : goal.joined-requires-clause-as_many_controls
 joined-requires-clause-as_many_controls c =

@@ -1,13 +1,13 @@
 use Rattle.std.proofs.Common.{◌≡◌, ◌∙◌, subst, IfOk}
 use Rattle.bg_base.specs.Products.{parallel, merge, in_one_region}
-use Rattle.bg_algebra.proofs.Joining.{slices_distinct, controls_same, parallel_controls, places_merged, as_many_ports, as_many_controls, joined_is, links_in_one, controls_in_one}
+use Rattle.bg_algebra.proofs.Joining.{slice_ascends, controls_same, parallel_controls, places_merged, as_many_ports, as_many_controls, joined_is, links_in_one, controls_in_one}
 use Rattle.bg_algebra.proofs.products.merge_whole.Goals as goal
 
 pub controls_of_both-requires : goal.controls_of_both-requires
 controls_of_both-requires c =
     record {
-      apart = slices_distinct c.args.f.now c.args.g.now c.deref.result.now c.deref-2.result.now c.deref.ensures c.deref-2.ensures
-          c.requires.f_valid c.requires.g_valid c.requires.apart;
+      first_ascends = slice_ascends c.args.f.now c.deref.result.now c.deref.ensures c.requires.f_valid;
+      second_ascends = slice_ascends c.args.g.now c.deref-2.result.now c.deref-2.ensures c.requires.g_valid;
     }
 
 pub joined-requires-clause-as_many_ports : goal.joined-requires-clause-as_many_ports

@@ -1,12 +1,15 @@
 use Rattle.std.proofs.Common.{◌≡◌, ◌∙◌, sym, subst, IfOk}
 use Rattle.bg_base.specs.Products.{parallel}
 use Rattle.bg_place.proofs.RowLaws.{parallel_places}
-use Rattle.bg_algebra.proofs.Joining.{slices_distinct, controls_same, parallel_controls, as_many_ports, as_many_controls, joined_is}
+use Rattle.bg_algebra.proofs.Joining.{slice_ascends, controls_same, parallel_controls, as_many_ports, as_many_controls, joined_is}
 use Rattle.bg_algebra.proofs.products.parallel_whole.Goals as goal
 
 pub controls_of_both-requires : goal.controls_of_both-requires
 controls_of_both-requires c =
-    record { apart = slices_distinct c.args.f.now c.args.g.now c.deref.result.now c.deref-2.result.now c.deref.ensures c.deref-2.ensures c.requires.f_valid c.requires.g_valid c.requires.apart }
+    record {
+      first_ascends = slice_ascends c.args.f.now c.deref.result.now c.deref.ensures c.requires.f_valid;
+      second_ascends = slice_ascends c.args.g.now c.deref-2.result.now c.deref-2.ensures c.requires.g_valid;
+    }
 
 pub joined-requires-clause-as_many_ports : goal.joined-requires-clause-as_many_ports
 joined-requires-clause-as_many_ports c = as_many_ports (parallel c.args.f.now c.args.g.now) c.in_ok-places.places c.in_ok-links.links (c.in_ok-places.ensures ∙ sym (parallel_places c.args.f.now c.args.g.now)) (c.in_ok-links.ensures)

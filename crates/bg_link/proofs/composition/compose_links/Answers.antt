@@ -1,18 +1,7 @@
 use Rattle.std.proofs.Common.{◌∙◌, ap, sym, map}
 use Rattle.bg_base.specs.Composition.{compose, inner_through}
-use Rattle.bg_base.proofs.Composed.{compose_edges_distinct}
-use Rattle.bg_link.proofs.WholeLaws.{joined_distinct, compose_ports}
+use Rattle.bg_link.proofs.WholeLaws.{compose_ports}
 use Rattle.bg_link.proofs.composition.compose_links.Goals as goal
-
-pub sorted_edges-requires : goal.sorted_edges-requires
-sorted_edges-requires c =
-    record {
-      apart = compose_edges_distinct c.args.g.now c.args.f.now c.requires.g_valid.edges_ascend c.requires.f_valid.edges_ascend c.requires.apart;
-    }
-
-pub ports_through-requires-clause-apart : goal.ports_through-requires-clause-apart
-ports_through-requires-clause-apart c =
-    joined_distinct c.args.g.now c.args.f.now c.requires.g_valid c.requires.f_valid c.requires.apart
 
 pub returns : goal.returns
 unfolding compose

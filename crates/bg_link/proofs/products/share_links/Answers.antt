@@ -1,20 +1,10 @@
 use Rattle.std.proofs.Common.{◌∙◌, sym}
 use Rattle.bg_base.specs.Products.{parallel}
-use Rattle.bg_base.proofs.Composed.{compose_edges_distinct}
-use Rattle.bg_link.proofs.WholeLaws.{inner_distinct, both_distinct, parallel_ports}
+use Rattle.bg_link.proofs.WholeLaws.{inner_distinct, parallel_ports}
 use Rattle.bg_link.proofs.products.share_links.Goals as goal
-
-pub sorted_edges-requires : goal.sorted_edges-requires
-sorted_edges-requires c =
-    record {
-      apart = compose_edges_distinct c.args.f.now c.args.g.now c.requires.f_valid.edges_ascend c.requires.g_valid.edges_ascend c.requires.apart;
-    }
 
 pub both_inner-requires : goal.both_inner-requires
 both_inner-requires c = record { apart = inner_distinct c.args.f.now c.args.g.now c.requires.f_valid c.requires.g_valid c.requires.inner_apart }
-
-pub both_ports-requires : goal.both_ports-requires
-both_ports-requires c = record { apart = both_distinct c.args.f.now c.args.g.now c.requires.f_valid c.requires.g_valid c.requires.apart }
 
 pub returns : goal.returns
 unfolding parallel

@@ -1,13 +1,7 @@
 use Rattle.std.proofs.Common.{◌∙◌, ap, sym, map}
 use Rattle.bg_base.specs.Composition.{compose, place_through}
-use Rattle.bg_place.proofs.RowLaws.{joined_distinct, compose_parents}
+use Rattle.bg_place.proofs.RowLaws.{compose_parents}
 use Rattle.bg_place.proofs.composition.compose_places.Goals as goal
-
-pub parents_through-requires : goal.parents_through-requires
-parents_through-requires c =
-    record {
-      apart = joined_distinct c.args.g.now.nodes c.args.f.now.nodes (place_through c.args.g.now) c.requires.g_valid.nodes_ascend c.requires.f_valid.nodes_ascend c.requires.apart;
-    }
 
 pub returns : goal.returns
 unfolding compose

@@ -1,6 +1,0 @@
-use Rattle.std.proofs.Common.{◌≡◌, ◌++◌, take, map}
-use Rattle.bg_algebra.specs.Halves.{control_row}
-use Rattle.bg_algebra.proofs.halves.push_controls.Given as goal
-
-abbrev pub invariant-loop-row : goal.invariant-loop-row
-invariant-loop-row l = l.rows.items ≡ l.initial.rows.items ++ map control_row (take l.row-index l.nodes)
