@@ -9,3 +9,4 @@ mod Labels
 mod Ordered
 mod Fitting
 mod Placed
+mod ShapesFit

@@ -7,3 +7,4 @@ pub mod Trees
 pub mod Order
 pub mod Arities
 pub mod Closures
+pub mod Shapes

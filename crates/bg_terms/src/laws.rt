@@ -1,14 +1,16 @@
 //! Laws of expressions. A call does nothing.
 ghost use Rattle.std.specs.Prelude.{◌≡◌, ◌+◌, ◌++◌, ℕ, List, Ok};
 ghost use Rattle.bg_base.specs.declared.big.Big.{Big};
+ghost use Rattle.bg_lists.specs.Lists.{Mem};
 ghost use Rattle.bg_base.specs.declared.labels.Value.{Value};
 ghost use Rattle.bg_base.specs.Bigraph.{IsValid, IsValidUnder};
 ghost use Rattle.bg_base.specs.Signatures.{IsSignature};
 ghost use Rattle.bg_terms.specs.Arities.{HaveArities, AreOneByLabel};
 ghost use Rattle.bg_terms.specs.Expressions.{Expression};
 ghost use Rattle.bg_terms.specs.declared.shape.Shape.{Shape};
-ghost use Rattle.bg_terms.specs.Expansion.{Meaning, expand, HasNoReference};
+ghost use Rattle.bg_terms.specs.Expansion.{Meaning, expand, meanings_of, HasNoReference};
 ghost use Rattle.bg_terms.specs.Closures.{StandsBehind, IsEvaluatedAt};
+ghost use Rattle.bg_terms.specs.Shapes.{AreShapes, HasPorts, AreOfShapes, FitsShapes};
 ghost use Rattle.bg_terms.specs.Terms as terms;
 ghost use Rattle.bg_terms.specs.Terms.{Term};
 ghost use Rattle.bg_terms.specs.Values.{Reached, value};
@@ -57,6 +59,18 @@ pub fn values_fit_the_signature_reached()
         → IsSignature before.signature → HaveArities term → AreOneByLabel (before.signature ++ controls_of term) → IsValidUnder after.signature big }
     ensures signature { (depth : ℕ) (term : Term) (before after : Reached) (big : Big) → value depth term before ≡ Ok (big, after)
         → IsSignature before.signature → HaveArities term → AreOneByLabel (before.signature ++ controls_of term) → IsSignature after.signature }
+{}
+
+/// Where no visible control has an arity above 16 and no word stands for two, and each control symbol of an expression and
+/// of the definitions before it has as many names as its control has ports: what the expression comes to is valid under the
+/// signature reached, and the controls of that signature are visible controls with some arguments, if those before were.
+pub fn values_of_expressions_fit_the_visible_controls()
+    ensures { (shapes : List Shape) → AreShapes shapes
+        → (definitions : List Expression) → ((e : Expression) → Mem e definitions → HasPorts shapes e)
+        → (env : List Value) (expression : Expression) → HasPorts shapes expression
+        → (depth : ℕ) (before after : Reached) (big : Big) → IsSignature before.signature → AreOfShapes shapes before.signature
+        → value depth (expand shapes (meanings_of shapes definitions) env expression) before ≡ Ok (big, after)
+        → FitsShapes shapes after.signature big }
 {}
 
 /// An expression without references expands to one term, whatever bigraphs are defined.
