@@ -6,7 +6,7 @@ ghost use Rattle.bg_values.specs.Operands.{operands_read};
 
 use bg_base::Value;
 use bg_syntax::tree::expressions::SynArgs;
-use bg_values::{Operand, Scope, Stop, operands_of};
+use bg_values::{Operand, Scope, Stop, operands_of, values_of};
 use std::alloc::Global;
 use std::marker::Model;
 
@@ -24,6 +24,18 @@ impl Model for Arguments {
     ghost Value = { List (ℕ × List Step) };
 
     ghost view = { λ arguments. map shown arguments.operands.items };
+}
+
+impl Arguments {
+    ghost use Rattle.bg_values.specs.Operands as operands;
+
+    /// What the arguments come to, where the visible names have these values. Linear in their steps.
+    pub fn values(&self, alloc: Global, env: &[Value]) -> Result<Vec<Value>, Stop>
+        ensures { operands.GivesList result (operands.outcomes env.now self.now) }
+    {
+        let values = values_of(alloc, self.operands.as_slice(), env)?;
+        Ok(values)
+    }
 }
 
 /// The formulas of arguments. Refuses the first name that is not visible. Linear in the trees.

@@ -1,3 +1,8 @@
 mod Bindings
-mod Arguments
+mod Follow
 mod Runs
+pub mod Conditions
+pub mod Counting
+pub mod Apart
+pub mod Calls
+pub mod Endings

@@ -1,33 +1,29 @@
 -- What the machine does.
-use Rattle.std.specs.Prelude.{ℕ, ◌+◌, ◌-◌, nat_lt, if◌then◌else◌, List, [], ◌∷◌, ◌++◌, Option, Some, None, Result, Ok, slice_get}
+use Rattle.std.specs.Prelude.{ℕ, ◌+◌, ◌-◌, nat_lt, Bool, true, ◌&&◌, length, option_map, if◌then◌else◌, List, [], ◌∷◌, ◌++◌, Option, Some, None, Result, Ok, slice_get}
 use Rattle.bg_base.specs.declared.big.Big.{Big}
+use Rattle.bg_base.specs.declared.big.NodeRow.{NodeRow}
 use Rattle.bg_base.specs.declared.labels.Value.{Value}
+use Rattle.bg_base.specs.declared.signature.Control.{Control}
 use Rattle.bg_base.specs.declared.names.Name.TheVariants.{Plain}
 use Rattle.bg_code.specs.declared.operation.Operation.{Operation}
 use Rattle.bg_code.specs.declared.operation.Operation.TheVariants.{Node, Reference, Names, Identity, Merger, One, Nothing, Count, Enter, Leave, Open, Close, Nest, Join}
 use Rattle.bg_machine.specs.States.{State, pushed, gone_on}
 use Rattle.bg_terms.specs.declared.shape.Shape.{Shape}
-use Rattle.bg_terms.specs.Expansion.{with_values, node_term}
+use Rattle.bg_terms.specs.Expansion.{control_of}
 use Rattle.bg_terms.specs.Terms as terms
 use Rattle.bg_terms.specs.Terms.{Term}
-use Rattle.bg_terms.specs.Values.{value, tallied, within, closed, nested, product_of}
-use Rattle.bg_values.specs.declared.formula.Step.{Step}
+use Rattle.bg_terms.specs.Values.{Reached, Come, value, tallied, entered, single, plain_names, within, closed, nested, product_of}
 use Rattle.bg_values.specs.declared.refusal.Refusal.{Refusal}
 use Rattle.bg_values.specs.declared.refusal.LimitWord.TheVariants.{Depth}
 use Rattle.bg_values.specs.declared.refusal.Cause.TheVariants.{Unexpected, UnknownName, TooLarge}
-use Rattle.bg_values.specs.Machine as arithmetic
+use Rattle.bg_values.specs.declared.formula.Step.{Step}
+use Rattle.bg_values.specs.Operands.{outcomes}
 use Rattle.bg_values.specs.Outcome.{◌>>=◌, refused, there_or}
 use Rattle.bg_values.specs.Stacks.{first, rest}
 
 -- what a call of a definition does with a state, for each list of arguments
 abbrev pub Running : Type 0
 Running = List Value → State → Result State Refusal
-
--- what formulas come to, each by its first token and its steps
-abbrev pub values_of : List Value → List (ℕ × List Step) → Result (List Value) Refusal
-values_of env [] = Ok []
-values_of env (f ∷ fs) =
-    (arithmetic.run env f.1 [] >>= arithmetic.top) >>= λ v. values_of env fs >>= λ vs. Ok (v ∷ vs)
 
 -- the value of the term on top, where the evaluation of the term begins in this state
 abbrev pub comes_to : State → Term → Result State Refusal
@@ -37,34 +33,98 @@ abbrev pub called : ℕ → Option Running → List Value → State → Result S
 called at (Some running) args s = running args s
 called at None args s = refused UnknownName at
 
--- a bigraph of the two on top, in their place
+-- the one is below the other, where both are there
+abbrev pub is_below : Option ℕ → Option ℕ → Bool
+is_below (Some x) (Some y) = nat_lt x y
+is_below (Some x) None = true
+is_below None other = true
+
+abbrev pub last_of : {A : Type 0} → List A → Option A
+last_of xs = slice_get xs (length xs - 1)
+
+-- the number of a row that is there
+abbrev pub number_of : Option NodeRow → Option ℕ
+number_of row = option_map (λ (r : NodeRow). r.id) row
+
+-- the nodes and the edges of the second have higher numbers than those of the first, as both ascend
+abbrev pub follows : Big → Big → Bool
+follows f g = is_below (number_of (last_of f.nodes)) (number_of (slice_get g.nodes 0)) && is_below (last_of f.edges) (slice_get g.edges 0)
+
+-- the edges of the bigraph have higher numbers, as they ascend
+abbrev pub lies_behind : ℕ → Big → Bool
+lies_behind edge big = is_below (Some edge) (slice_get big.edges 0)
+
+-- a bigraph of two that follow each other, on top of what is below them
+abbrev pub joined_onto : ℕ → (Big → Big → Result Big Refusal) → State → Big → Big → Result State Refusal
+joined_onto at operation below f g =
+    if follows f g then pushed below (operation f g >>= λ big. within at big below.reached) else refused Unexpected at
+
+-- a bigraph with its name closed by that edge, on top of what is below it
+abbrev pub closed_onto : ℕ → List ℕ → State → ℕ → Big → Result State Refusal
+closed_onto at word below edge big =
+    if lies_behind edge big then pushed below (within at (closed edge (Plain word) big) below.reached) else refused Unexpected at
+
+-- a bigraph of the two on top, in their place; the numbers of the one on top lie behind those of the other
 abbrev pub joined : ℕ → (Big → Big → Result Big Refusal) → State → Result State Refusal
 joined at operation s =
     there_or Unexpected at (first s.stack) >>= λ g. there_or Unexpected at (first (rest s.stack)) >>= λ f.
-    pushed (record s { stack = rest (rest s.stack) }) (operation f g >>= λ big. within at big s.reached)
+    joined_onto at operation (record s { stack = rest (rest s.stack) }) f g
 
--- the bigraph on top with its name closed, by the edge of the innermost closure that is open
+-- the bigraph on top with its name closed, by the edge of the innermost closure that is open; its edges lie behind that one
 abbrev pub closing : ℕ → List ℕ → State → Result State Refusal
 closing at word s =
     there_or Unexpected at (first s.edges_open) >>= λ edge. there_or Unexpected at (first s.stack) >>= λ big.
-    pushed (record s { stack = rest s.stack; edges_open = rest s.edges_open }) (within at (closed edge (Plain word) big) s.reached)
+    closed_onto at word (record s { stack = rest s.stack; edges_open = rest s.edges_open }) edge big
+
+-- a node of the control, which enters the signature where it is new
+abbrev pub node_made : ℕ → Control → List (List ℕ) → Reached → Come
+node_made at control words c =
+    entered at control c.signature >>= λ e.
+    within at (single control.kind e.0 c.nodes (plain_names words)) (record c { signature = e.1; nodes = c.nodes + 1 })
+
+-- the node of a shape with these arguments
+abbrev pub node_come : ℕ → Option Shape → List (List ℕ) → List Value → Reached → Come
+node_come at (Some shape) words args c = node_made at (control_of shape args) words c
+node_come at None words args c = refused UnknownName at
+
+-- a node whose arguments come to these values, or are refused
+abbrev pub evaluated_node : ℕ → Result (List Value) Refusal → Option Shape → List (List ℕ) → Reached → Come
+evaluated_node at vs found words c = vs >>= λ args. node_come at found words args c
+
+-- the same, once it is counted
+abbrev pub counted_node : ℕ → Result (List Value) Refusal → Option Shape → List (List ℕ) → Reached → Come
+counted_node at vs found words c = tallied at c >>= evaluated_node at vs found words
+
+-- one `K` more is open, of at most 1,024
+abbrev pub deeper_by_one : ℕ → State → Result State Refusal
+deeper_by_one at s = if nat_lt s.depth 1024 then Ok (record s { depth = s.depth + 1 }) else refused (TooLarge Depth) at
+
+abbrev pub back_by_one : State → State
+back_by_one s = record s { depth = s.depth - 1 }
+
+-- a closure takes the next edge number
+abbrev pub opened : State → State
+opened s = record s { edges_open = s.reached.edges ∷ s.edges_open; reached = record (s.reached) { edges = s.reached.edges + 1 } }
+
+-- a reference counts, then its arguments are evaluated, then the definition is called
+abbrev pub referred : List Shape → List Running → List Value → ℕ → ℕ → List (ℕ × List Step) → State → Result State Refusal
+referred shapes running env at definition args s =
+    gone_on s (tallied at s.reached) >>= λ t. outcomes env args >>= λ vs. called at (slice_get running definition) vs t
 
 -- one operation
 abbrev pub step : List Shape → List Running → List Value → Operation → State → Result State Refusal
 step shapes running env (Node at control args ports) s =
-    comes_to s (with_values at (values_of env args) (node_term at (slice_get shapes control) ports))
-step shapes running env (Reference at definition args) s =
-    gone_on s (tallied at s.reached) >>= λ t. values_of env args >>= λ vs. called at (slice_get running definition) vs t
+    pushed s (counted_node at (outcomes env args) (slice_get shapes control) ports s.reached)
+step shapes running env (Reference at definition args) s = referred shapes running env at definition args s
 step shapes running env (Names at words) s = comes_to s (terms.names at words)
 step shapes running env (Identity at width words) s = comes_to s (terms.identity_of at width words)
 step shapes running env (Merger at width) s = comes_to s (terms.merger_of at width)
 step shapes running env (One at) s = comes_to s (terms.one at)
 step shapes running env (Nothing at) s = comes_to s (terms.nothing at)
 step shapes running env (Count at) s = gone_on s (tallied at s.reached)
-step shapes running env (Enter at) s = if nat_lt s.depth 1024 then Ok (record s { depth = s.depth + 1 }) else refused (TooLarge Depth) at
-step shapes running env Leave s = Ok (record s { depth = s.depth - 1 })
-step shapes running env Open s =
-    Ok (record s { edges_open = s.reached.edges ∷ s.edges_open; reached = record (s.reached) { edges = s.reached.edges + 1 } })
+step shapes running env (Enter at) s = deeper_by_one at s
+step shapes running env Leave s = Ok (back_by_one s)
+step shapes running env Open s = Ok (opened s)
 step shapes running env (Close at word) s = closing at word s
 step shapes running env (Nest at is_atom) s = joined at (nested at is_atom) s
 step shapes running env (Join product at) s = joined at (product_of product at) s

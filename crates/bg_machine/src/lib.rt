@@ -1,8 +1,27 @@
-//! The machine that evaluates expressions of the model language: what each operation of their code does, and that the code
-//! of an expression comes to the value of what the expression expands to. No call here runs the machine yet.
+//! The machine that evaluates expressions of the model language: it runs their code on a stack of bigraphs, and what is left is
+//! the value of what the expression expands to, or its first refusal.
 //!
-//! - `specs/States`: a state of the machine; `specs/Machine`: a step, a run, and what a call of a definition does.
-//! - [`laws`]: what is proved of them.
+//! - [`evaluate`]: the value of an expression by its code; [`run`]: the operations in order; [`Machine`]: the state.
+//! - [`product_of`], [`nested`], [`closed`], [`single`], [`idle_names`], [`wide_identity`], [`wide_merger`], [`limited`],
+//!   [`enter`]: what the operations are made of.
+//! - [`laws`]: that the code of an expression comes to the value of its expansion.
 #![tactic(auto)]
 
+mod entering;
+mod evaluation;
+mod forms;
+mod held;
 pub mod laws;
+mod machine;
+mod operators;
+mod running;
+
+pub use entering::enter;
+pub use evaluation::evaluate;
+pub use forms::{closed, idle_names, limited, single, wide_identity, wide_merger};
+pub use machine::Machine;
+pub use operators::{nested, product_of};
+pub use running::run;
+
+#[cfg(test)]
+mod tests;

@@ -1,10 +1,10 @@
 mod Examples
 mod Numbers
-mod Numbered
+pub mod Numbered
 mod References
 mod Edges
-mod Closures
-mod Valid
+pub mod Closures
+pub mod Valid
 mod Labels
 mod Ordered
 mod Fitting

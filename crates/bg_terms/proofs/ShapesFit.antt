@@ -39,9 +39,12 @@ module _ (shapes : List Shape) (are : AreShapes shapes) where
   refused_term : (r : Refusal) → Shaped shapes (terms.refusal r)
   refused_term r = record { arities = tt; of_shapes = λ control m. elim m [ ] }
 
+  counted_shaped : (at : ℕ) (t : Term) → Shaped shapes t → Shaped shapes (terms.counted at t)
+  counted_shaped at t so = record { arities = so.arities; of_shapes = so.of_shapes }
+
   node_shaped : (at : ℕ) (found : Option Shape) (ports : List (List ℕ)) (args : List Value)
       → ((shape : Shape) → found ≡ Some shape → Mem shape shapes × (length ports ≡ shape.arity)) → Shaped shapes (node_term at found ports args)
-  node_shaped at None ports args known = refused_term _
+  node_shaped at None ports args known = counted_shaped at _ (refused_term _)
   node_shaped at (Some shape) ports args known =
       let so = known shape refl in
       record { arities = (so.1, are.small shape so.0); of_shapes = only so.0 }
@@ -57,9 +60,6 @@ module _ (shapes : List Shape) (are : AreShapes shapes) where
       by : (found : Option Meaning) → slice_get meanings number ≡ found → Shaped shapes (meant at found args)
       by (Some meaning) is = shaped number meaning is args
       by None is = refused_term _
-
-  counted_shaped : (at : ℕ) (t : Term) → Shaped shapes t → Shaped shapes (terms.counted at t)
-  counted_shaped at t so = record { arities = so.arities; of_shapes = so.of_shapes }
 
   values_shaped : (at : ℕ) (r : Result (List Value) Refusal) (f : List Value → Term) → ((args : List Value) → Shaped shapes (f args))
       → Shaped shapes (with_values at r f)

@@ -75,7 +75,7 @@ set_up names = sorted_from_Ascending (set_of name_cmp names) (Ascending-set_of n
 
 -- ---- numbers that are apart
 
-in_row : (from count n : ℕ) → Mem n (counted from count) → (from ≤ n) × (n < from + count)
+pub in_row : (from count n : ℕ) → Mem n (counted from count) → (from ≤ n) × (n < from + count)
 unfolding counted
 in_row from zero n m = elim m [ ]
 in_row from (suc count) n (here e) = (omega (arith, e), omega (arith, e))

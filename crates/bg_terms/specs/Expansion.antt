@@ -29,7 +29,7 @@ with_values at (Err refusal) f = terms.counted at (terms.refusal refusal)
 
 abbrev pub node_term : ℕ → Option Shape → List (List ℕ) → List Value → Term
 node_term at (Some shape) ports args = terms.node at (control_of shape args) ports
-node_term at None ports args = unknown at
+node_term at None ports args = terms.counted at (unknown at)
 
 abbrev pub meant : ℕ → Option Meaning → List Value → Term
 meant at (Some meaning) args = meaning args

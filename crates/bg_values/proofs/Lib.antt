@@ -5,3 +5,4 @@ pub mod Partly
 pub mod Gathering
 pub mod Ranges
 mod Told
+pub mod Outcomes

@@ -58,3 +58,7 @@ step env (Apply operator at left right) stack = apply operator at left right sta
 abbrev pub run : List Value → List Step → List Value → Result (List Value) Refusal
 run env [] stack = Ok stack
 run env (s ∷ steps) stack = step env s stack >>= run env steps
+
+-- what steps leave on top of an empty stack
+abbrev pub outcome : List Value → List Step → Result Value Refusal
+outcome env steps = run env steps [] >>= top

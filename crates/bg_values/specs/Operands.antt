@@ -11,7 +11,7 @@ use Rattle.bg_values.specs.declared.operands.Operand.{Operand as Code}
 use Rattle.bg_values.specs.declared.refusal.Refusal.{Refusal}
 use Rattle.bg_values.specs.declared.refusal.Stop.{Stop}
 use Rattle.bg_values.specs.Arithmetic.{Formula, value, whole_of}
-use Rattle.bg_values.specs.Machine.{code_of}
+use Rattle.bg_values.specs.Machine.{code_of, outcome}
 use Rattle.bg_values.specs.Outcome.{◌>>=◌, Stops}
 use Rattle.bg_values.specs.Reading.{x_read}
 use Rattle.bg_values.specs.Scopes.{ScopeParts}
@@ -58,6 +58,11 @@ coded f = (f.0, code_of f.1)
 
 abbrev pub shown : Code → ℕ × List Step
 shown operand = (operand.first, operand.formula.steps.items)
+
+-- what formulas come to, each by its first token and its steps
+abbrev pub outcomes : List Value → List (ℕ × List Step) → Result (List Value) Refusal
+outcomes env [] = Ok []
+outcomes env (f ∷ fs) = outcome env f.1 >>= λ v. outcomes env fs >>= λ vs. Ok (v ∷ vs)
 
 -- these are the formulas, as their steps
 abbrev pub AreCodesOf : List Operand → List Code → Type 0

@@ -60,7 +60,8 @@ impl Formula {
 
     /// What the formula comes to, where the visible names have these values. Linear in its steps.
     pub fn evaluate(&self, alloc: Global, env: &[Value]) -> Result<Value, Stop>
-        ensures { (formula : definition.Formula) → machine.IsCodeOf formula self.now → Gives result (definition.value env.now formula) }
+        ensures steps { Gives result (machine.outcome env.now self.now.steps.items) }
+        ensures value { (formula : definition.Formula) → machine.IsCodeOf formula self.now → Gives result (definition.value env.now formula) }
     {
         let mut stack = Stack::new(alloc);
         run(alloc, self.steps.as_slice(), env, &mut stack)?;

@@ -74,7 +74,8 @@ pub fn operand_of(alloc: Global, scope: &Scope, tree: &SynX) -> Result<Operand, 
 
 /// What the formulas come to, in order, where the visible names have these values. Linear in their steps.
 pub fn values_of(alloc: Global, operands: &[Operand], env: &[Value]) -> Result<Vec<Value>, Stop>
-    ensures { (fs : List definition.Operand) → definition.AreCodesOf fs operands.now → definition.GivesList result (definition.values env.now fs) }
+    ensures steps { definition.GivesList result (definition.outcomes env.now (map definition.shown operands.now)) }
+    ensures values { (fs : List definition.Operand) → definition.AreCodesOf fs operands.now → definition.GivesList result (definition.values env.now fs) }
 {
     let mut values = Vec::new(alloc);
     let mut others = operands;

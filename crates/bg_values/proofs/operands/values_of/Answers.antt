@@ -1,35 +1,21 @@
-use Rattle.std.proofs.Common.{rules, ◌∷◌, ap, subst}
-use Rattle.bg_base.specs.declared.labels.Value.{Value}
-use Rattle.std.proofs.Common.{List, Result}
-use Rattle.bg_values.specs.Arithmetic.{value}
-use Rattle.bg_values.specs.declared.refusal.Refusal.{Refusal}
+use Rattle.std.proofs.Common.{rules, ap, sym, subst, ◌∙◌}
 use Rattle.bg_values.specs.Operands as definition
-use Rattle.bg_values.proofs.Gathering.{Evaluated, evaluated_more, evaluation_stops, evaluation_ends}
+use Rattle.bg_values.proofs.Outcomes.{outcomes_coded, outcomes_end}
 use Rattle.bg_values.proofs.operands.values_of.Goals as goal
 
-abbrev value_comes : List Value → definition.Operand → Result Value Refusal
-value_comes env f = value env f.1
+pub returns-in_err-evaluate-clause-steps : goal.returns-in_err-evaluate-clause-steps
+returns-in_err-evaluate-clause-steps c = search rules
 
-pub returns-in_err-evaluate : goal.returns-in_err-evaluate
-returns-in_err-evaluate c = λ fs codes.
-    let comes = value_comes c.args.env.now in
-    let found = c.loop-operand.values.items in
-    let opened : Evaluated comes found (definition.each comes fs) (c.in-Some.operand.now ∷ c.in-Some.rest.now) =
-    subst (Evaluated comes found (definition.each comes fs)) c.in-Some.ensures.cases.0 (c.loop-operand.invariant fs codes) in
-    let stopped = evaluation_stops comes found (definition.each comes fs) c.in-Some.operand.now c.in-Some.rest.now
-    c.in_err-evaluate.field-0.0 opened (λ f same. c.in_err-evaluate.ensures f.1 (ap (λ p. p.1) same)) in
-    search (rules, stopped)
+pub returns-in_err-evaluate-clause-values : goal.returns-in_err-evaluate-clause-values
+returns-in_err-evaluate-clause-values c = λ fs codes.
+    subst (definition.GivesList c.from_residual.result)
+    (ap (definition.outcomes c.args.env.now) codes ∙ outcomes_coded c.args.env.now fs) (returns-in_err-evaluate-clause-steps c)
 
-pub loop-operand-preserved : goal.loop-operand-preserved
-loop-operand-preserved c = λ fs codes.
-    let comes = value_comes c.args.env.now in
-    let found = c.loop-operand.values.items in
-    let opened : Evaluated comes found (definition.each comes fs) (c.in-Some.operand.now ∷ c.in-Some.rest.now) =
-    subst (Evaluated comes found (definition.each comes fs)) c.in-Some.ensures.cases.0 (c.loop-operand.invariant fs codes) in
-    evaluated_more comes found c.push.new.self.items (definition.each comes fs) c.in-Some.operand.now c.in-Some.rest.now c.in_ok-evaluate.field-0
-    opened (λ f same. c.in_ok-evaluate.ensures f.1 (ap (λ p. p.1) same)) c.in_ok-push.ensures.items
+pub returns-clause-steps : goal.returns-clause-steps
+returns-clause-steps c =
+    c.loop-operand.invariant
+    ∙ outcomes_end c.args.env.now c.loop-operand.others.now c.loop-operand.values.items c.in_default.ensures.cases
 
-pub returns : goal.returns
-returns c = λ fs codes.
-    evaluation_ends (value_comes c.args.env.now) c.loop-operand.values.items (definition.each (value_comes c.args.env.now) fs) c.loop-operand.others.now
-    c.in_default.ensures.cases (c.loop-operand.invariant fs codes)
+pub returns-clause-values : goal.returns-clause-values
+returns-clause-values c = λ fs codes.
+    sym (ap (definition.outcomes c.args.env.now) codes ∙ outcomes_coded c.args.env.now fs) ∙ returns-clause-steps c

@@ -1,12 +1,11 @@
-use Rattle.std.proofs.Common.{List, length}
-use Rattle.bg_values.specs.Arithmetic.{value}
-use Rattle.bg_values.specs.Operands.{Operand, AreCodesOf, values}
-use Rattle.bg_values.proofs.Gathering.{Evaluated}
+use Rattle.std.proofs.Common.{◌≡◌, ◌++◌, List, length, map, Ok}
+use Rattle.bg_values.specs.Operands.{shown, outcomes}
+use Rattle.bg_values.specs.Outcome.{◌>>=◌}
 use Rattle.bg_values.proofs.operands.values_of.Given as goal
 
 abbrev pub invariant-loop-operand : goal.invariant-loop-operand
 invariant-loop-operand l =
-    (fs : List Operand) → AreCodesOf fs l.operands → Evaluated (λ f. value l.env f.1) l.values.items (values l.env fs) l.others
+    outcomes l.env (map shown l.operands) ≡ (outcomes l.env (map shown l.others) >>= λ vs. Ok (l.values.items ++ vs))
 
 abbrev pub decreases-loop-operand : goal.decreases-loop-operand
 decreases-loop-operand l = length l.others

@@ -1,0 +1,20 @@
+use Rattle.std.proofs.Common.{◌≡◌, ◌+◌, ◌*◌, length, drop}
+use Rattle.bg_machine.specs.Machine as definition
+use Rattle.bg_machine.proofs.running.+machine.Given as goal
+
+abbrev pub decreases-call : goal.decreases-call
+decreases-call l = 4 * length l.definitions.now
+
+abbrev pub decreases-refer : goal.decreases-refer
+decreases-refer l = 4 * length l.definitions.now + 1
+
+abbrev pub decreases-take_step : goal.decreases-take_step
+decreases-take_step l = 4 * length l.definitions.now + 2
+
+abbrev pub decreases-run : goal.decreases-run
+decreases-run l = 4 * length l.definitions.now + 3
+
+abbrev pub invariant-run-loop-operation : goal.invariant-run-loop-operation
+invariant-run-loop-operation l =
+    definition.run l.shapes (definition.running_of l.shapes l.definitions) l.env l.operations l.initial.machine
+    ≡ definition.run l.shapes (definition.running_of l.shapes l.definitions) l.env (drop l.operation-index l.operations) l.machine

@@ -1,0 +1,63 @@
+//! Controls that enter the signature.
+ghost use Rattle.std.specs.Prelude.{◌≡◌, ◌≤◌, IfOk, None};
+ghost use Rattle.bg_base.specs.Signatures.{number_of};
+ghost use Rattle.bg_machine.specs.Calls.{Enters};
+ghost use Rattle.bg_terms.specs.Expansion.{control_of};
+ghost use Rattle.bg_terms.specs.Values.{entered, entered_at};
+
+use bg_base::{Label, Signature, SignatureFault, Value};
+use bg_lists::{Duplicate, Mem, Rows};
+use bg_terms::Shape;
+use bg_values::{Cause, LimitWord, Stop};
+use std::alloc::Global;
+
+/// The number of the control of this shape with these arguments; it enters the signature where it is new, and 52 comes where
+/// there is no room. Costs time n log n in the number of controls and the length of labels.
+pub fn enter(
+    alloc: Global,
+    at: u32,
+    shape: &Shape,
+    args: Vec<Value>,
+    signature: &mut Signature,
+) -> Result<u32, Stop>
+    requires small { shape.now.arity ≤ 16 }
+    ensures { Enters result signature.new (entered at (control_of shape.now args.items) signature.old) }
+{
+    let label = label_of(alloc, shape, args)?;
+    match signature.find(&label) {
+        Some(number) => Ok(number),
+        None => add(alloc, at, label, shape, signature),
+    }
+}
+
+/// The label of this shape with these arguments.
+fn label_of(alloc: Global, shape: &Shape, args: Vec<Value>) -> Mem<Label>
+    ensures { IfOk result (λ label. label ≡ record { name = shape.now.word; args = args.items }) }
+{
+    let args = Rows::try_from_vec(args)?;
+    let name = shape.word.copy(alloc)?;
+    Ok(Label { name, args })
+}
+
+/// Appends a control whose label is new.
+fn add(
+    alloc: Global,
+    at: u32,
+    label: Label,
+    shape: &Shape,
+    signature: &mut Signature,
+) -> Result<u32, Stop>
+    requires small { shape.now.arity ≤ 16 }
+    requires new { number_of signature.old label ≡ None }
+    ensures { Enters result signature.new
+        (entered_at at (record { label = label; arity = shape.now.arity; kind = shape.now.kind }) signature.old None) }
+{
+    if signature.len() >= 4096 {
+        return Err(Stop::refuse(Cause::TooLarge(LimitWord::Controls), at));
+    }
+    match signature.add(alloc, label, shape.arity, shape.kind) {
+        Ok(number) => Ok(number),
+        Err(SignatureFault::OutOfMemory) => Err(Stop::OutOfMemory),
+        Err(_) => unreachable!(),
+    }
+}

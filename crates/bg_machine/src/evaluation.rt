@@ -1,0 +1,38 @@
+//! The value of an expression.
+ghost use Rattle.std.specs.Prelude.{◌≡◌, ◌≤◌, All, List, map};
+ghost use Rattle.bg_code.specs.Code.{code_of};
+ghost use Rattle.bg_machine.specs.Calls as definition;
+ghost use Rattle.bg_terms.specs.declared.shape.Shape.{Shape as ShapeValue};
+ghost use Rattle.bg_terms.specs.Expansion.{expand, meanings_of};
+ghost use Rattle.bg_terms.specs.Expressions.{Expression};
+ghost use Rattle.bg_values.specs.Outcome.{Gives};
+
+use crate::{Machine, run};
+use bg_base::{Big, Signature, Value};
+use bg_code::Operation;
+use bg_lists::Rows;
+use bg_terms::Shape;
+use bg_values::Stop;
+use std::alloc::Global;
+
+/// The bigraph that an expression comes to, by its code, and the signature then reached: where these controls are visible,
+/// the definitions before it stand as their codes, the formals have these values, and the controls of `signature` were met
+/// so far. Or its first refusal, as `value` of `bg_terms` has it. No arity is above 16.
+///
+/// Costs time and memory in proportion to the expanded expression, but that each product copies its operands.
+pub fn evaluate(
+    alloc: Global,
+    shapes: &[Shape],
+    definitions: &[Rows<Operation>],
+    env: &[Value],
+    code: &[Operation],
+    signature: Signature,
+) -> Result<(Big, Signature), Stop>
+    requires small { All (λ (shape : ShapeValue). shape.arity ≤ 16) shapes.now }
+    ensures { (es : List Expression) (e : Expression) → definitions.now ≡ map code_of es → code.now ≡ code_of e
+        → Gives result (definition.valued (definition.evaluated signature (expand shapes.now (meanings_of shapes.now es) env.now e))) }
+{
+    let mut machine = Machine::new(alloc, signature);
+    run(alloc, shapes, definitions, env, code, &mut machine)?;
+    machine.finish()
+}

@@ -1,0 +1,20 @@
+//! A bigraph on the stack.
+use bg_base::Big;
+use std::marker::Model;
+
+/// A valid bigraph within the limits of places. A contract sees the bigraph.
+#[derive(Drop)]
+pub struct Held {
+    pub big: Big,
+}
+
+impl Model for Held {
+    ghost use Rattle.bg_base.specs.declared.big.Big.{Big as BigValue};
+    ghost use Rattle.bg_machine.specs.States.{IsHeld};
+
+    ghost Value = { BigValue };
+
+    ghost view = { λ held. held.big };
+
+    ghost invariant = { λ held. IsHeld held.big };
+}

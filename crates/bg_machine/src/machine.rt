@@ -1,0 +1,418 @@
+//! The state of the machine, and what each operation does with it.
+ghost use Rattle.std.specs.Prelude.{◌≡◌, ◌≤◌, ◌∷◌, IfOk, List, All, Ok, Some, slice_get, option_copied};
+ghost use Rattle.bg_terms.specs.declared.shape.Shape.{Shape as ShapeValue};
+ghost use Rattle.bg_base.specs.declared.big.Big.{Big as BigValue};
+ghost use Rattle.bg_machine.specs.Machine as definition;
+ghost use Rattle.bg_machine.specs.States.{pushed, gone_on, IsHeld};
+ghost use Rattle.bg_terms.specs.Expansion.{control_of, with_values, node_term};
+ghost use Rattle.bg_terms.specs.Terms as terms;
+ghost use Rattle.bg_terms.specs.Values as values;
+ghost use Rattle.bg_values.specs.Operands.{outcomes};
+ghost use Rattle.bg_values.specs.Outcome.{Gives, Goes, there_or};
+ghost use Rattle.bg_values.specs.Stacks.{first, rest};
+ghost use Rattle.bg_values.specs.declared.refusal.Cause.TheVariants as causes;
+
+use crate::entering::enter;
+use crate::forms::{closed, idle_names, limited, single, wide_identity, wide_merger};
+use crate::held::Held;
+use crate::operators::{nested, product_of};
+use bg_algebra::{barren, empty};
+use bg_base::{Big, Ident, Signature, Value};
+use bg_code::Arguments;
+use bg_lists::Rows;
+use bg_terms::{Product, Shape};
+use bg_values::{Cause, LimitWord, Stack, Stop};
+use std::alloc::Global;
+use std::marker::Model;
+
+/// The state of the machine: the bigraphs that wait for their operator, the numbers of the edges of the closures that are
+/// open, how many `K` are open, and how far the evaluation has come: the signature of the controls met, and how many nodes,
+/// closures and terms.
+#[derive(Drop)]
+pub struct Machine {
+    stack: Stack<Held>,
+    edges_open: Stack<u32>,
+    depth: u32,
+    signature: Signature,
+    nodes: u32,
+    edges: u32,
+    terms: u32,
+}
+
+impl Model for Machine {
+    ghost use Rattle.bg_machine.specs.States.{State};
+
+    ghost Value = { State };
+
+    ghost view = { λ machine. record {
+      stack = machine.stack;
+      edges_open = machine.edges_open;
+      depth = machine.depth;
+      reached = record { signature = machine.signature; nodes = machine.nodes; edges = machine.edges; terms = machine.terms };
+    } };
+}
+
+impl Machine {
+    ghost use Rattle.std.specs.Prelude.{◌≡◌, ◌≤◌, ◌∷◌, [], IfOk, Ok, Some, slice_get, option_copied};
+    ghost use Rattle.bg_terms.specs.declared.shape.Shape.{Shape as ShapeValue};
+    ghost use Rattle.bg_base.specs.Bigraph.{IsValid};
+    ghost use Rattle.bg_machine.specs.Machine as definition;
+    ghost use Rattle.bg_machine.specs.Calls as calls;
+    ghost use Rattle.bg_machine.specs.States.{pushed, gone_on, IsHeld};
+    ghost use Rattle.bg_terms.specs.Expansion.{control_of, with_values, node_term};
+    ghost use Rattle.bg_terms.specs.Terms as terms;
+    ghost use Rattle.bg_terms.specs.Values as values;
+    ghost use Rattle.bg_values.specs.Operands.{outcomes};
+    ghost use Rattle.bg_values.specs.Outcome.{Gives, Goes, there_or};
+    ghost use Rattle.bg_values.specs.Stacks.{first, rest};
+    ghost use Rattle.bg_values.specs.declared.refusal.Cause.TheVariants as causes;
+
+    /// The machine before a whole expression, where these controls were met. Takes no memory.
+    pub fn new(alloc: Global, signature: Signature) -> Machine
+        ensures { result ≡ record { stack = []; edges_open = []; depth = 0; reached = record { signature = signature; nodes = 0; edges = 0; terms = 0 } } }
+    {
+        Machine {
+            stack: Stack::new(alloc),
+            edges_open: Stack::new(alloc),
+            depth: 0,
+            signature,
+            nodes: 0,
+            edges: 0,
+            terms: 0,
+        }
+    }
+
+    /// The bigraph on top, and the signature reached.
+    pub(crate) fn finish(self) -> Result<(Big, Signature), Stop>
+        ensures { Gives result (calls.finished self) }
+    {
+        let Machine {
+            mut stack,
+            signature,
+            ..
+        } = self;
+        match stack.pop() {
+            Some(held) => Ok((held.big, signature)),
+            None => Err(Stop::refuse(Cause::Unexpected, 0)),
+        }
+    }
+
+    /// One more term.
+    pub(crate) fn count(&mut self, at: u32) -> Result<(), Stop>
+        ensures { Goes result self.new (gone_on self.old (values.tallied at self.old.reached)) }
+    {
+        if self.terms >= 1_048_576 {
+            return Err(Stop::refuse(Cause::TooLarge(LimitWord::Terms), at));
+        }
+        self.terms += 1;
+        Ok(())
+    }
+
+    /// One deeper.
+    pub(crate) fn go_deeper(&mut self, at: u32) -> Result<(), Stop>
+        ensures { Goes result self.new (definition.deeper_by_one at self.old) }
+    {
+        if self.depth >= 1024 {
+            return Err(Stop::refuse(Cause::TooLarge(LimitWord::Depth), at));
+        }
+        self.depth += 1;
+        Ok(())
+    }
+
+    /// One `K` ends.
+    pub(crate) fn come_back(&mut self)
+        ensures { self.new ≡ definition.back_by_one self.old }
+    {
+        self.depth = self.depth.saturating_sub(1);
+    }
+
+    /// Takes the number of the edge of a closure.
+    pub(crate) fn open(&mut self) -> Result<(), Stop>
+        ensures { Goes result self.new (Ok (definition.opened self.old)) }
+    {
+        let Some(next) = self.edges.checked_add(1) else {
+            return Err(Stop::OutOfMemory);
+        };
+        self.edges_open.push(self.edges)?;
+        self.edges = next;
+        Ok(())
+    }
+
+    /// Puts the bigraph on top, where it is within the limits.
+    pub(crate) fn show(&mut self, at: u32, big: Big) -> Result<(), Stop>
+        requires valid { IsValid big }
+        ensures { Goes result self.new (pushed self.old (values.within at big self.old.reached)) }
+    {
+        let big = limited(at, big)?;
+        self.stack.push(Held { big })?;
+        Ok(())
+    }
+
+    /// `{x,y}`
+    #[tactic(auto, using(crate::proofs::Counting::counted_goes, crate::proofs::Counting::counted_stops))]
+    pub(crate) fn put_names(
+        &mut self,
+        alloc: Global,
+        at: u32,
+        words: &Rows<Ident>,
+    ) -> Result<(), Stop>
+        ensures { Goes result self.new (definition.comes_to self.old (terms.names at words.now)) }
+    {
+        self.count(at)?;
+        let big = idle_names(alloc, words.as_slice())?;
+        self.show(at, big)
+    }
+
+    /// `id(n,{x})`
+    #[tactic(auto, using(crate::proofs::Counting::counted_goes, crate::proofs::Counting::counted_stops))]
+    pub(crate) fn put_identity(
+        &mut self,
+        alloc: Global,
+        at: u32,
+        width: u64,
+        words: &Rows<Ident>,
+    ) -> Result<(), Stop>
+        ensures { Goes result self.new (definition.comes_to self.old (terms.identity_of at width words.now)) }
+    {
+        self.count(at)?;
+        let big = wide_identity(alloc, at, width, words.as_slice())?;
+        self.show(at, big)
+    }
+
+    /// `merge(n)`
+    #[tactic(auto, using(crate::proofs::Counting::counted_goes, crate::proofs::Counting::counted_stops))]
+    pub(crate) fn put_merger(&mut self, alloc: Global, at: u32, width: u64) -> Result<(), Stop>
+        ensures { Goes result self.new (definition.comes_to self.old (terms.merger_of at width)) }
+    {
+        self.count(at)?;
+        let big = wide_merger(alloc, at, width)?;
+        self.show(at, big)
+    }
+
+    /// `1`
+    #[tactic(auto, using(crate::proofs::Counting::counted_goes, crate::proofs::Counting::counted_stops))]
+    pub(crate) fn put_one(&mut self, alloc: Global, at: u32) -> Result<(), Stop>
+        ensures { Goes result self.new (definition.comes_to self.old (terms.one at)) }
+    {
+        self.count(at)?;
+        self.show(at, barren(alloc))
+    }
+
+    /// `0`
+    #[tactic(auto, using(crate::proofs::Counting::counted_goes, crate::proofs::Counting::counted_stops))]
+    pub(crate) fn put_nothing(&mut self, alloc: Global, at: u32) -> Result<(), Stop>
+        ensures { Goes result self.new (definition.comes_to self.old (terms.nothing at)) }
+    {
+        self.count(at)?;
+        self.show(at, empty(alloc))
+    }
+
+    /// `K(..){a,b}`
+    #[tactic(auto, using(crate::proofs::Counting::counted_goes, crate::proofs::Counting::counted_stops))]
+    pub(crate) fn put_node(
+        &mut self,
+        alloc: Global,
+        shape: Option<&Shape>,
+        env: &[Value],
+        at: u32,
+        arguments: &Arguments,
+        ports: &Rows<Ident>,
+    ) -> Result<(), Stop>
+        requires small { (found : ShapeValue) → option_copied shape ≡ Some found → found.arity ≤ 16 }
+        ensures { Goes result self.new (pushed self.old (definition.counted_node at (outcomes env.now arguments.now) (option_copied shape.entry) ports.now self.old.reached)) }
+    {
+        self.count(at)?;
+        self.put_evaluated(alloc, shape, env, at, arguments, ports)
+    }
+
+    fn put_evaluated(
+        &mut self,
+        alloc: Global,
+        shape: Option<&Shape>,
+        env: &[Value],
+        at: u32,
+        arguments: &Arguments,
+        ports: &Rows<Ident>,
+    ) -> Result<(), Stop>
+        requires small { (found : ShapeValue) → option_copied shape ≡ Some found → found.arity ≤ 16 }
+        ensures { Goes result self.new (pushed self.old (definition.evaluated_node at (outcomes env.now arguments.now) (option_copied shape.entry) ports.now self.old.reached)) }
+    {
+        let args = arguments.values(alloc, env)?;
+        match shape {
+            Some(shape) => self.put_shape(alloc, at, shape, args, ports),
+            None => Err(Stop::refuse(Cause::UnknownName, at)),
+        }
+    }
+
+    /// A node of this shape with these arguments.
+    fn put_shape(
+        &mut self,
+        alloc: Global,
+        at: u32,
+        shape: &Shape,
+        args: Vec<Value>,
+        ports: &Rows<Ident>,
+    ) -> Result<(), Stop>
+        requires small { shape.now.arity ≤ 16 }
+        ensures { Goes result self.new (pushed self.old (definition.node_made at (control_of shape.now args.items) ports.now self.old.reached)) }
+    {
+        let node = self.nodes;
+        let Some(next) = node.checked_add(1) else {
+            return Err(Stop::OutOfMemory);
+        };
+        let number = enter(alloc, at, shape, args, &mut self.signature)?;
+        self.nodes = next;
+        let big = single(alloc, shape.kind, number, node, ports)?;
+        self.show(at, big)
+    }
+
+    /// Takes the bigraph on top.
+    pub(crate) fn take(&mut self, at: u32) -> Result<Big, Stop>
+        ensures top { Gives result (there_or causes.Unexpected at (first self.old.stack)) }
+        ensures left { self.new ≡ record self.old { stack = rest self.old.stack } }
+        ensures held { IfOk result IsHeld }
+    {
+        match self.stack.pop() {
+            Some(held) => Ok(held.big),
+            None => Err(Stop::refuse(Cause::Unexpected, at)),
+        }
+    }
+
+    /// Takes the number of the edge of the innermost closure that is open.
+    pub(crate) fn take_edge(&mut self, at: u32) -> Result<u32, Stop>
+        ensures top { Gives result (there_or causes.Unexpected at (first self.old.edges_open)) }
+        ensures left { self.new ≡ record self.old { edges_open = rest self.old.edges_open } }
+    {
+        match self.edges_open.pop() {
+            Some(edge) => Ok(edge),
+            None => Err(Stop::refuse(Cause::Unexpected, at)),
+        }
+    }
+
+    /// The product of the two on top, in their place.
+    pub(crate) fn join(&mut self, alloc: Global, product: Product, at: u32) -> Result<(), Stop>
+        ensures { Goes result self.new (definition.joined at (values.product_of product at) self.old) }
+    {
+        let g = self.take(at)?;
+        let f = self.take(at)?;
+        self.join_these(alloc, product, at, &f, &g)
+    }
+
+    /// The product of these two on top.
+    #[tactic(auto, using(crate::proofs::Apart::apart))]
+    fn join_these(
+        &mut self,
+        alloc: Global,
+        product: Product,
+        at: u32,
+        f: &Big,
+        g: &Big,
+    ) -> Result<(), Stop>
+        requires f_held { IsHeld f.now }
+        requires g_held { IsHeld g.now }
+        ensures { Goes result self.new (definition.joined_onto at (values.product_of product at) self.old f.now g.now) }
+    {
+        if !follows(f, g) {
+            return Err(Stop::refuse(Cause::Unexpected, at));
+        }
+        let big = product_of(alloc, product, at, f, g)?;
+        self.show(at, big)
+    }
+
+    /// The bigraph on top, nested in the one below it, in their place.
+    pub(crate) fn nest(&mut self, alloc: Global, at: u32, is_atom: bool) -> Result<(), Stop>
+        ensures { Goes result self.new (definition.joined at (values.nested at is_atom) self.old) }
+    {
+        let g = self.take(at)?;
+        let f = self.take(at)?;
+        self.nest_these(alloc, at, is_atom, &f, &g)
+    }
+
+    /// The second nested in the first, on top.
+    #[tactic(auto, using(crate::proofs::Apart::apart))]
+    fn nest_these(
+        &mut self,
+        alloc: Global,
+        at: u32,
+        is_atom: bool,
+        f: &Big,
+        g: &Big,
+    ) -> Result<(), Stop>
+        requires f_held { IsHeld f.now }
+        requires g_held { IsHeld g.now }
+        ensures { Goes result self.new (definition.joined_onto at (values.nested at is_atom) self.old f.now g.now) }
+    {
+        if !follows(f, g) {
+            return Err(Stop::refuse(Cause::Unexpected, at));
+        }
+        let big = nested(alloc, at, is_atom, f, g)?;
+        self.show(at, big)
+    }
+
+    /// Closes the name in the bigraph on top.
+    pub(crate) fn close(&mut self, alloc: Global, at: u32, word: &Ident) -> Result<(), Stop>
+        ensures { Goes result self.new (definition.closing at word.now self.old) }
+    {
+        let edge = self.take_edge(at)?;
+        let big = self.take(at)?;
+        self.close_this(alloc, at, word, edge, big)
+    }
+
+    /// This bigraph with the name closed, on top.
+    #[tactic(auto, using(crate::proofs::Apart::new_edge))]
+    fn close_this(
+        &mut self,
+        alloc: Global,
+        at: u32,
+        word: &Ident,
+        edge: u32,
+        big: Big,
+    ) -> Result<(), Stop>
+        requires held { IsHeld big }
+        ensures { Goes result self.new (definition.closed_onto at word.now self.old edge big) }
+    {
+        if !lies_behind(edge, &big) {
+            return Err(Stop::refuse(Cause::Unexpected, at));
+        }
+        let whole = closed(alloc, big, word, edge)?;
+        self.show(at, whole)
+    }
+}
+
+/// Whether the numbers of the second lie behind those of the first. Takes constant time.
+fn follows(f: &Big, g: &Big) -> bool
+    ensures { result ≡ definition.follows f.now g.now }
+{
+    nodes_follow(f, g) && is_below(f.edges.last(), g.edges.first())
+}
+
+fn nodes_follow(f: &Big, g: &Big) -> bool
+    ensures { result ≡ definition.is_below (definition.number_of (definition.last_of f.now.nodes)) (definition.number_of (slice_get g.now.nodes 0)) }
+{
+    match (f.nodes.last(), g.nodes.first()) {
+        (Some(left), Some(right)) => left.id < right.id,
+        (Some(_), None) => true,
+        (None, _) => true,
+    }
+}
+
+/// Whether the one is below the other, where both are there.
+fn is_below(left: Option<&u32>, right: Option<&u32>) -> bool
+    ensures { result ≡ definition.is_below (option_copied left.entry) (option_copied right.entry) }
+{
+    match (left, right) {
+        (Some(left), Some(right)) => left < right,
+        (Some(_), None) => true,
+        (None, _) => true,
+    }
+}
+
+/// Whether the edges of the bigraph lie behind that one. Takes constant time.
+fn lies_behind(edge: u32, big: &Big) -> bool
+    ensures { result ≡ definition.lies_behind edge big.now }
+{
+    match big.edges.first() {
+        Some(other) => edge < *other,
+        None => true,
+    }
+}

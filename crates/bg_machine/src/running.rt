@@ -1,0 +1,162 @@
+//! A run of the machine.
+ghost use Rattle.std.specs.Prelude.{◌≡◌, ◌≤◌, ◌<◌, All, length, slice_get, option_copied};
+ghost use Rattle.bg_machine.specs.Machine as definition;
+ghost use Rattle.bg_terms.specs.declared.shape.Shape.{Shape as ShapeValue};
+ghost use Rattle.bg_values.specs.Outcome.{Goes};
+
+use crate::Machine;
+use bg_base::Value;
+use bg_code::{Arguments, Operation};
+use bg_lists::Rows;
+use bg_terms::Shape;
+use bg_values::{Cause, Stop};
+use std::alloc::Global;
+
+/// Takes the operations in order, where these controls are visible, the definitions stand as their codes, and the formals
+/// have these values. No arity is above 16. A call of a definition runs its code on the same machine.
+#[cycle(machine)]
+pub fn run(
+    alloc: Global,
+    shapes: &[Shape],
+    definitions: &[Rows<Operation>],
+    env: &[Value],
+    operations: &[Operation],
+    machine: &mut Machine,
+) -> Result<(), Stop>
+    requires small { All (λ (shape : ShapeValue). shape.arity ≤ 16) shapes.now }
+    ensures { Goes result machine.new (definition.run shapes.now (definition.running_of shapes.now definitions.now) env.now operations.now machine.old) }
+{
+    for operation in operations {
+        take_step(alloc, shapes, definitions, env, operation, machine)?;
+    }
+    Ok(())
+}
+
+/// Takes one operation.
+#[cycle(machine)]
+fn take_step(
+    alloc: Global,
+    shapes: &[Shape],
+    definitions: &[Rows<Operation>],
+    env: &[Value],
+    operation: &Operation,
+    machine: &mut Machine,
+) -> Result<(), Stop>
+    requires small { All (λ (shape : ShapeValue). shape.arity ≤ 16) shapes.now }
+    ensures { Goes result machine.new (definition.step shapes.now (definition.running_of shapes.now definitions.now) env.now operation.now machine.old) }
+{
+    match operation {
+        Operation::Node {
+            at,
+            control,
+            arguments,
+            ports,
+        } => machine.put_node(
+            alloc,
+            find_shape(shapes, *control),
+            env,
+            *at,
+            arguments,
+            ports,
+        ),
+        Operation::Reference {
+            at,
+            definition,
+            arguments,
+        } => refer(
+            alloc,
+            shapes,
+            definitions,
+            env,
+            *at,
+            *definition,
+            arguments,
+            machine,
+        ),
+        Operation::Names { at, names } => machine.put_names(alloc, *at, names),
+        Operation::Identity { at, width, names } => {
+            machine.put_identity(alloc, *at, *width, names)
+        }
+        Operation::Merger { at, width } => machine.put_merger(alloc, *at, *width),
+        Operation::One(at) => machine.put_one(alloc, *at),
+        Operation::Nothing(at) => machine.put_nothing(alloc, *at),
+        Operation::Count(at) => machine.count(*at),
+        Operation::Enter(at) => machine.go_deeper(*at),
+        Operation::Leave => {
+            machine.come_back();
+            Ok(())
+        }
+        Operation::Open => machine.open(),
+        Operation::Close { at, name } => machine.close(alloc, *at, name),
+        Operation::Nest { at, is_atom } => machine.nest(alloc, *at, *is_atom),
+        Operation::Join { product, at } => machine.join(alloc, *product, *at),
+    }
+}
+
+/// A reference: a term, its arguments, then the definition.
+#[cycle(machine)]
+fn refer(
+    alloc: Global,
+    shapes: &[Shape],
+    definitions: &[Rows<Operation>],
+    env: &[Value],
+    at: u32,
+    number: u32,
+    arguments: &Arguments,
+    machine: &mut Machine,
+) -> Result<(), Stop>
+    requires small { All (λ (shape : ShapeValue). shape.arity ≤ 16) shapes.now }
+    ensures { Goes result machine.new (definition.referred shapes.now (definition.running_of shapes.now definitions.now) env.now at number arguments.now machine.old) }
+{
+    machine.count(at)?;
+    let args = arguments.values(alloc, env)?;
+    call(
+        alloc,
+        shapes,
+        definitions,
+        args.as_slice(),
+        at,
+        number,
+        machine,
+    )
+}
+
+/// Runs the code of a definition, which may call those before it.
+#[cycle(machine)]
+#[tactic(auto, using(crate::proofs::Calls::called_at, crate::proofs::Calls::not_called))]
+fn call(
+    alloc: Global,
+    shapes: &[Shape],
+    definitions: &[Rows<Operation>],
+    args: &[Value],
+    at: u32,
+    number: u32,
+    machine: &mut Machine,
+) -> Result<(), Stop>
+    requires small { All (λ (shape : ShapeValue). shape.arity ≤ 16) shapes.now }
+    ensures { Goes result machine.new (definition.called at (slice_get (definition.running_of shapes.now definitions.now) number) args.now machine.old) }
+{
+    match find_definition(definitions, number) {
+        Some(code) => run(
+            alloc,
+            shapes,
+            &definitions[..number as usize],
+            args,
+            code.as_slice(),
+            machine,
+        ),
+        None => Err(Stop::refuse(Cause::UnknownName, at)),
+    }
+}
+
+fn find_shape(shapes: &[Shape], number: u32) -> Option<&Shape>
+    ensures { option_copied result ≡ slice_get shapes.now number }
+{
+    shapes.get(number as usize)
+}
+
+fn find_definition(definitions: &[Rows<Operation>], number: u32) -> Option<&Rows<Operation>>
+    ensures { option_copied result ≡ slice_get definitions.now number }
+{
+    definitions.get(number as usize)
+}

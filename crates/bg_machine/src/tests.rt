@@ -1,0 +1,231 @@
+ghost use Rattle.std.specs.Prelude.{◌≡◌, ◌≤◌, All, IfOk};
+ghost use Rattle.bg_terms.specs.declared.shape.Shape.{Shape as ShapeValue};
+
+use super::*;
+use bg_base::{Big, Ident, Kind, Link, Signature, Value};
+use bg_code::{Operation, Visible, code_of};
+use bg_lists::{Mem, Rows};
+use bg_syntax::parse;
+use bg_syntax::tree::statements::SynStmt;
+use bg_terms::{ControlEntry, Shape};
+use bg_text::tokens;
+use bg_values::{Cause, LimitWord, NameTable, Scope, Stop};
+use std::alloc::Global;
+use std::test::*;
+
+/// What the expression of a text comes to.
+#[derive(Clone, Copy, Debug, PartialEq, Eq)]
+enum Outcome {
+    /// How many nodes, edges, regions, outer names and controls; and the edge of the first port of the first node, 9 for none.
+    Value([u32; 6]),
+    /// The cause, and the token.
+    Refused(Cause, u32),
+    NoMemory,
+    NoExpression,
+}
+
+/// The edge of the first port of the first node, 9 for none.
+fn first_edge(big: &Big) -> u32 {
+    match big.nodes.first() {
+        Some(row) => match row.links.as_slice().first() {
+            Some(Link::Edge(edge)) => *edge,
+            Some(Link::Outer(_)) => 9,
+            None => 9,
+        },
+        None => 9,
+    }
+}
+
+fn outcome_of(come: Result<(Big, Signature), Stop>) -> Outcome {
+    match come {
+        Ok((big, signature)) => Outcome::Value([
+            big.nodes.len(),
+            big.edges.len(),
+            big.regions,
+            big.outer.len(),
+            signature.len(),
+            first_edge(&big),
+        ]),
+        Err(stop) => stopped(stop),
+    }
+}
+
+fn stopped(stop: Stop) -> Outcome {
+    match stop {
+        Stop::Refused(refusal) => Outcome::Refused(refusal.cause, refusal.token),
+        Stop::OutOfMemory => Outcome::NoMemory,
+    }
+}
+
+/// What is defined where an expression is read.
+#[derive(Drop)]
+struct Tables {
+    controls: NameTable<ControlEntry>,
+    bigraphs: NameTable<u32>,
+    formals: NameTable<()>,
+}
+
+fn entry_of(alloc: Global, formals: u32, arity: u32, kind: Kind) -> Mem<ControlEntry> {
+    let word = Ident::from_bytes(alloc, b"K")?;
+    Ok(ControlEntry {
+        formals,
+        shape: Shape { word, arity, kind },
+    })
+}
+
+/// `atomic ctrl A = 0; ctrl B = 2; fun ctrl K(n) = 1; fun big c(n) = ..;`, and `n` is a formal.
+fn tables_here(alloc: Global) -> Mem<Tables> {
+    let mut controls = NameTable::new(alloc);
+    controls.add(alloc, b"A", entry_of(alloc, 0, 0, Kind::Atomic)?)?;
+    controls.add(alloc, b"B", entry_of(alloc, 0, 2, Kind::Normal)?)?;
+    controls.add(alloc, b"K", entry_of(alloc, 1, 1, Kind::Normal)?)?;
+    let mut bigraphs = NameTable::new(alloc);
+    bigraphs.add(alloc, b"c", 1)?;
+    let mut formals = NameTable::new(alloc);
+    formals.add(alloc, b"n", ())?;
+    Ok(Tables {
+        controls,
+        bigraphs,
+        formals,
+    })
+}
+
+/// The shapes of these controls.
+fn shapes_here(alloc: Global) -> Mem<Vec<Shape>>
+    ensures { IfOk result (λ shapes. All (λ (shape : ShapeValue). shape.arity ≤ 16) shapes.items) }
+{
+    let mut shapes = Vec::new(alloc);
+    shapes.push(Shape {
+        word: Ident::from_bytes(alloc, b"A")?,
+        arity: 0,
+        kind: Kind::Atomic,
+    })?;
+    shapes.push(Shape {
+        word: Ident::from_bytes(alloc, b"B")?,
+        arity: 2,
+        kind: Kind::Normal,
+    })?;
+    shapes.push(Shape {
+        word: Ident::from_bytes(alloc, b"K")?,
+        arity: 1,
+        kind: Kind::Normal,
+    })?;
+    Ok(shapes)
+}
+
+/// The code of the expression of the text's first statement, a bigraph's.
+fn read(alloc: Global, tables: &Tables, text: &str) -> Result<Vec<Operation>, Outcome> {
+    if text.len() > 10_000 {
+        return Err(Outcome::NoExpression);
+    }
+    let Ok(tokens) = tokens(alloc, text.as_bytes()) else {
+        return Err(Outcome::NoExpression);
+    };
+    if tokens.len() > 10_000 {
+        return Err(Outcome::NoExpression);
+    }
+    let Ok(tree) = parse(alloc, &tokens) else {
+        return Err(Outcome::NoExpression);
+    };
+    let visible = Visible {
+        scope: Scope {
+            bytes: text.as_bytes(),
+            tokens: tokens.as_slice(),
+            names: &tables.formals,
+        },
+        controls: &tables.controls,
+        bigraphs: &tables.bigraphs,
+    };
+    match tree.part1.first() {
+        Some(item) => match &item.part1 {
+            SynStmt::Way4(_, bigraph) => match code_of(alloc, &visible, &bigraph.part4) {
+                Ok(code) => Ok(code),
+                Err(stop) => Err(stopped(stop)),
+            },
+            _ => Err(Outcome::NoExpression),
+        },
+        None => Err(Outcome::NoExpression),
+    }
+}
+
+/// What the text's first statement comes to, where `c(n)` is `K(n){x}`.
+fn come(alloc: Global, tables: &Tables, shapes: &[Shape], text: &str) -> Outcome
+    requires small { All (λ (shape : ShapeValue). shape.arity ≤ 16) shapes.now }
+{
+    let Ok(definition) = read(alloc, tables, "big c = K(n){x};") else {
+        return Outcome::NoExpression;
+    };
+    let Ok(definition) = Rows::try_from_vec(definition) else {
+        return Outcome::NoMemory;
+    };
+    let code = match read(alloc, tables, text) {
+        Ok(code) => code,
+        Err(outcome) => return outcome,
+    };
+    let mut definitions = Vec::new(alloc);
+    let Ok(()) = definitions.push(definition) else {
+        return Outcome::NoMemory;
+    };
+    outcome_of(evaluate(
+        alloc,
+        shapes,
+        definitions.as_slice(),
+        &[Value::Int(7)],
+        code.as_slice(),
+        Signature::new(alloc),
+    ))
+}
+
+#[test]
+fn finds_the_values_of_expressions(rt: HostRuntime) {
+    let alloc = rt.alloc();
+    let Ok(tables) = tables_here(alloc) else {
+        return;
+    };
+    let Ok(shapes) = shapes_here(alloc) else {
+        return;
+    };
+    for (text, wanted) in [
+        ("big s = B{x,y}.A;", [2, 0, 1, 2, 2, 9]),
+        ("big s = A | A | A;", [3, 0, 1, 0, 1, 9]),
+        ("big s = A || A;", [2, 0, 2, 0, 1, 9]),
+        ("big s = /x /y B{x,y};", [1, 2, 1, 0, 1, 0]),
+        ("big s = /x (B{x,y} | B{y,x});", [2, 1, 1, 1, 1, 0]),
+        ("big s = c(3) | c(4) | c(n) | c(3);", [4, 0, 1, 1, 3, 9]),
+        ("big s = merge(2) * (A + A);", [2, 0, 1, 0, 1, 9]),
+        ("big s = {x,x} || 1;", [0, 0, 1, 1, 0, 9]),
+    ] {
+        assert!(rt;
+            come(alloc, &tables, shapes.as_slice(), text) == Outcome::Value(wanted),
+            "{text}"
+        );
+    }
+}
+
+#[test]
+fn refuses_at_the_first_place(rt: HostRuntime) {
+    let alloc = rt.alloc();
+    let Ok(tables) = tables_here(alloc) else {
+        return;
+    };
+    let Ok(shapes) = shapes_here(alloc) else {
+        return;
+    };
+    for (text, cause, token) in [
+        ("big s = A.1;", Cause::AtomicHasChild, 4),
+        ("big s = A.0;", Cause::AtomicHasChild, 4),
+        ("big s = (A).1;", Cause::WidthsDiffer, 6),
+        ("big s = id{x}.A;", Cause::HasInnerNames, 7),
+        ("big s = A * A;", Cause::FacesDiffer, 4),
+        ("big s = {x} + {x};", Cause::NamesMeet, 6),
+        ("big s = id{x} || id{x};", Cause::InnerNamesMeet, 7),
+        ("big s = id(70000);", Cause::TooLarge(LimitWord::Places), 3),
+        ("big s = A.1 | c(1/0);", Cause::AtomicHasChild, 4),
+        ("big s = c(1/0) | A.1;", Cause::ZeroDivisor, 6),
+    ] {
+        assert!(rt;
+            come(alloc, &tables, shapes.as_slice(), text) == Outcome::Refused(cause, token),
+            "{text}"
+        );
+    }
+}
