@@ -2,6 +2,7 @@
 //!
 //! - [`Visible`]: what an expression is read in: the text, its tokens and formals, the controls and the bigraphs.
 //! - [`code_of`]: the code of the expression that a tree of the grammar is, or the first name that cannot stand.
+//! - [`word_at`]: the identifier that a token spells.
 //! - [`Operation`]: what the machine does at a time; [`Arguments`]: formulas in a row.
 #![tactic(auto)]
 
@@ -15,6 +16,7 @@ pub use arguments::Arguments;
 pub use lowering::code_of;
 pub use operation::Operation;
 pub use visible::Visible;
+pub use words::word_at;
 
 #[cfg(test)]
 mod tests;

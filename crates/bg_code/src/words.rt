@@ -12,7 +12,7 @@ use bg_values::{Cause, Stop, number_at, number_token};
 use std::alloc::Global;
 
 /// The identifier that the token spells, or 31. Linear in the token.
-pub(crate) fn word_at(alloc: Global, visible: &Visible, token: u32) -> Result<Ident, Stop>
+pub fn word_at(alloc: Global, visible: &Visible, token: u32) -> Result<Ident, Stop>
     ensures { Gives result (definition.word_at visible.now token) }
 {
     let bytes = visible.scope.spelling(token);

@@ -6,3 +6,4 @@ pub mod Counting
 pub mod Apart
 pub mod Calls
 pub mod Endings
+pub mod Wholes

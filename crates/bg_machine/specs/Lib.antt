@@ -1,3 +1,4 @@
 pub mod States
 pub mod Machine
 pub mod Calls
+pub mod Whole

@@ -4,6 +4,7 @@ ghost use Rattle.bg_code.specs.Code.{code_of};
 ghost use Rattle.bg_machine.specs.Calls as definition;
 ghost use Rattle.bg_terms.specs.declared.shape.Shape.{Shape as ShapeValue};
 ghost use Rattle.bg_terms.specs.Expansion.{expand, meanings_of};
+ghost use Rattle.bg_terms.specs.Shapes.{shapes_of};
 ghost use Rattle.bg_terms.specs.Expressions.{Expression};
 ghost use Rattle.bg_values.specs.Outcome.{Gives};
 
@@ -11,8 +12,8 @@ use crate::{Machine, run};
 use bg_base::{Big, Signature, Value};
 use bg_code::Operation;
 use bg_lists::Rows;
-use bg_terms::Shape;
-use bg_values::Stop;
+use bg_terms::ControlEntry;
+use bg_values::{NameTable, Stop};
 use std::alloc::Global;
 
 /// The bigraph that an expression comes to, by its code, and the signature then reached: where these controls are visible,
@@ -22,17 +23,17 @@ use std::alloc::Global;
 /// Costs time and memory in proportion to the expanded expression, but that each product copies its operands.
 pub fn evaluate(
     alloc: Global,
-    shapes: &[Shape],
+    controls: &NameTable<ControlEntry>,
     definitions: &[Rows<Operation>],
     env: &[Value],
     code: &[Operation],
     signature: Signature,
 ) -> Result<(Big, Signature), Stop>
-    requires small { All (λ (shape : ShapeValue). shape.arity ≤ 16) shapes.now }
+    requires small { All (λ (shape : ShapeValue). shape.arity ≤ 16) (shapes_of controls.now) }
     ensures { (es : List Expression) (e : Expression) → definitions.now ≡ map code_of es → code.now ≡ code_of e
-        → Gives result (definition.valued (definition.evaluated signature (expand shapes.now (meanings_of shapes.now es) env.now e))) }
+        → Gives result (definition.valued (definition.evaluated signature (expand (shapes_of controls.now) (meanings_of (shapes_of controls.now) es) env.now e))) }
 {
     let mut machine = Machine::new(alloc, signature);
-    run(alloc, shapes, definitions, env, code, &mut machine)?;
+    run(alloc, controls, definitions, env, code, &mut machine)?;
     machine.finish()
 }

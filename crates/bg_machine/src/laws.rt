@@ -1,5 +1,11 @@
 //! Laws of the machine. A call does nothing.
-ghost use Rattle.std.specs.Prelude.{◌≡◌, List, map};
+ghost use Rattle.std.specs.Prelude.{◌≡◌, List, length, map};
+ghost use Rattle.bg_base.specs.Bigraph.{IsValid};
+ghost use Rattle.bg_base.specs.Elementary.{counted};
+ghost use Rattle.bg_base.specs.Products.{lean};
+ghost use Rattle.bg_base.specs.Translation.{node_numbers};
+ghost use Rattle.bg_base.specs.declared.big.Big.{Big};
+ghost use Rattle.bg_machine.specs.Whole.{whole};
 ghost use Rattle.bg_base.specs.declared.labels.Value.{Value};
 ghost use Rattle.bg_code.specs.Code.{code_of};
 ghost use Rattle.bg_machine.specs.States.{State};
@@ -14,4 +20,10 @@ pub fn code_comes_to_the_value_of_its_expression()
     ensures { (shapes : List Shape) (definitions : List Expression) (env : List Value) (expression : Expression) (state : State)
         → run shapes (running_of shapes (map code_of definitions)) env (code_of expression) state
         ≡ comes_to state (expand shapes (meanings_of shapes definitions) env expression) }
+{}
+
+/// The nodes of a whole expression have the numbers that they had, and its edges are numbered 0, 1, 2 and so on.
+pub fn edges_of_a_whole_expression_are_numbered_in_a_row()
+    ensures nodes { (big : Big) → IsValid big → node_numbers (whole big).nodes ≡ node_numbers big.nodes }
+    ensures edges { (big : Big) → (whole big).edges ≡ counted 0 (length (lean big).edges) }
 {}

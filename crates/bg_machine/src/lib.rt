@@ -4,6 +4,7 @@
 //! - [`evaluate`]: the value of an expression by its code; [`run`]: the operations in order; [`Machine`]: the state.
 //! - [`product_of`], [`nested`], [`closed`], [`single`], [`idle_names`], [`wide_identity`], [`wide_merger`], [`limited`],
 //!   [`enter`]: what the operations are made of.
+//! - [`whole`]: the bigraph of a whole expression, without idle edges.
 //! - [`laws`]: that the code of an expression comes to the value of its expansion.
 #![tactic(auto)]
 
@@ -15,6 +16,7 @@ pub mod laws;
 mod machine;
 mod operators;
 mod running;
+mod whole;
 
 pub use entering::enter;
 pub use evaluation::evaluate;
@@ -22,6 +24,7 @@ pub use forms::{closed, idle_names, limited, single, wide_identity, wide_merger}
 pub use machine::Machine;
 pub use operators::{nested, product_of};
 pub use running::run;
+pub use whole::whole;
 
 #[cfg(test)]
 mod tests;

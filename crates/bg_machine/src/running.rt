@@ -1,6 +1,7 @@
 //! A run of the machine.
 ghost use Rattle.std.specs.Prelude.{◌≡◌, ◌≤◌, ◌<◌, All, length, slice_get, option_copied};
 ghost use Rattle.bg_machine.specs.Machine as definition;
+ghost use Rattle.bg_terms.specs.Shapes.{shapes_of};
 ghost use Rattle.bg_terms.specs.declared.shape.Shape.{Shape as ShapeValue};
 ghost use Rattle.bg_values.specs.Outcome.{Goes};
 
@@ -8,8 +9,8 @@ use crate::Machine;
 use bg_base::Value;
 use bg_code::{Arguments, Operation};
 use bg_lists::Rows;
-use bg_terms::Shape;
-use bg_values::{Cause, Stop};
+use bg_terms::{ControlEntry, Shape};
+use bg_values::{Cause, NameTable, Stop};
 use std::alloc::Global;
 
 /// Takes the operations in order, where these controls are visible, the definitions stand as their codes, and the formals
@@ -17,17 +18,17 @@ use std::alloc::Global;
 #[cycle(machine)]
 pub fn run(
     alloc: Global,
-    shapes: &[Shape],
+    controls: &NameTable<ControlEntry>,
     definitions: &[Rows<Operation>],
     env: &[Value],
     operations: &[Operation],
     machine: &mut Machine,
 ) -> Result<(), Stop>
-    requires small { All (λ (shape : ShapeValue). shape.arity ≤ 16) shapes.now }
-    ensures { Goes result machine.new (definition.run shapes.now (definition.running_of shapes.now definitions.now) env.now operations.now machine.old) }
+    requires small { All (λ (shape : ShapeValue). shape.arity ≤ 16) (shapes_of controls.now) }
+    ensures { Goes result machine.new (definition.run (shapes_of controls.now) (definition.running_of (shapes_of controls.now) definitions.now) env.now operations.now machine.old) }
 {
     for operation in operations {
-        take_step(alloc, shapes, definitions, env, operation, machine)?;
+        take_step(alloc, controls, definitions, env, operation, machine)?;
     }
     Ok(())
 }
@@ -36,14 +37,14 @@ pub fn run(
 #[cycle(machine)]
 fn take_step(
     alloc: Global,
-    shapes: &[Shape],
+    controls: &NameTable<ControlEntry>,
     definitions: &[Rows<Operation>],
     env: &[Value],
     operation: &Operation,
     machine: &mut Machine,
 ) -> Result<(), Stop>
-    requires small { All (λ (shape : ShapeValue). shape.arity ≤ 16) shapes.now }
-    ensures { Goes result machine.new (definition.step shapes.now (definition.running_of shapes.now definitions.now) env.now operation.now machine.old) }
+    requires small { All (λ (shape : ShapeValue). shape.arity ≤ 16) (shapes_of controls.now) }
+    ensures { Goes result machine.new (definition.step (shapes_of controls.now) (definition.running_of (shapes_of controls.now) definitions.now) env.now operation.now machine.old) }
 {
     match operation {
         Operation::Node {
@@ -53,7 +54,7 @@ fn take_step(
             ports,
         } => machine.put_node(
             alloc,
-            find_shape(shapes, *control),
+            find_shape(controls, *control),
             env,
             *at,
             arguments,
@@ -65,7 +66,7 @@ fn take_step(
             arguments,
         } => refer(
             alloc,
-            shapes,
+            controls,
             definitions,
             env,
             *at,
@@ -97,7 +98,7 @@ fn take_step(
 #[cycle(machine)]
 fn refer(
     alloc: Global,
-    shapes: &[Shape],
+    controls: &NameTable<ControlEntry>,
     definitions: &[Rows<Operation>],
     env: &[Value],
     at: u32,
@@ -105,14 +106,14 @@ fn refer(
     arguments: &Arguments,
     machine: &mut Machine,
 ) -> Result<(), Stop>
-    requires small { All (λ (shape : ShapeValue). shape.arity ≤ 16) shapes.now }
-    ensures { Goes result machine.new (definition.referred shapes.now (definition.running_of shapes.now definitions.now) env.now at number arguments.now machine.old) }
+    requires small { All (λ (shape : ShapeValue). shape.arity ≤ 16) (shapes_of controls.now) }
+    ensures { Goes result machine.new (definition.referred (shapes_of controls.now) (definition.running_of (shapes_of controls.now) definitions.now) env.now at number arguments.now machine.old) }
 {
     machine.count(at)?;
     let args = arguments.values(alloc, env)?;
     call(
         alloc,
-        shapes,
+        controls,
         definitions,
         args.as_slice(),
         at,
@@ -126,20 +127,20 @@ fn refer(
 #[tactic(auto, using(crate::proofs::Calls::called_at, crate::proofs::Calls::not_called))]
 fn call(
     alloc: Global,
-    shapes: &[Shape],
+    controls: &NameTable<ControlEntry>,
     definitions: &[Rows<Operation>],
     args: &[Value],
     at: u32,
     number: u32,
     machine: &mut Machine,
 ) -> Result<(), Stop>
-    requires small { All (λ (shape : ShapeValue). shape.arity ≤ 16) shapes.now }
-    ensures { Goes result machine.new (definition.called at (slice_get (definition.running_of shapes.now definitions.now) number) args.now machine.old) }
+    requires small { All (λ (shape : ShapeValue). shape.arity ≤ 16) (shapes_of controls.now) }
+    ensures { Goes result machine.new (definition.called at (slice_get (definition.running_of (shapes_of controls.now) definitions.now) number) args.now machine.old) }
 {
     match find_definition(definitions, number) {
         Some(code) => run(
             alloc,
-            shapes,
+            controls,
             &definitions[..number as usize],
             args,
             code.as_slice(),
@@ -149,10 +150,14 @@ fn call(
     }
 }
 
-fn find_shape(shapes: &[Shape], number: u32) -> Option<&Shape>
-    ensures { option_copied result ≡ slice_get shapes.now number }
+/// The shape of the control with that number.
+fn find_shape(controls: &NameTable<ControlEntry>, number: u32) -> Option<&Shape>
+    ensures { option_copied result ≡ slice_get (shapes_of controls.now) number }
 {
-    shapes.get(number as usize)
+    match controls.entry(number) {
+        Some(found) => Some(&found.value.shape),
+        None => None,
+    }
 }
 
 fn find_definition(definitions: &[Rows<Operation>], number: u32) -> Option<&Rows<Operation>>

@@ -1,4 +1,5 @@
 ghost use Rattle.std.specs.Prelude.{◌≡◌, ◌≤◌, All, IfOk};
+ghost use Rattle.bg_terms.specs.Shapes.{shapes_of};
 ghost use Rattle.bg_terms.specs.declared.shape.Shape.{Shape as ShapeValue};
 
 use super::*;
@@ -74,7 +75,9 @@ fn entry_of(alloc: Global, formals: u32, arity: u32, kind: Kind) -> Mem<ControlE
 }
 
 /// `atomic ctrl A = 0; ctrl B = 2; fun ctrl K(n) = 1; fun big c(n) = ..;`, and `n` is a formal.
-fn tables_here(alloc: Global) -> Mem<Tables> {
+fn tables_here(alloc: Global) -> Mem<Tables>
+    ensures { IfOk result (λ tables. All (λ (shape : ShapeValue). shape.arity ≤ 16) (shapes_of tables.controls)) }
+{
     let mut controls = NameTable::new(alloc);
     controls.add(alloc, b"A", entry_of(alloc, 0, 0, Kind::Atomic)?)?;
     controls.add(alloc, b"B", entry_of(alloc, 0, 2, Kind::Normal)?)?;
@@ -88,29 +91,6 @@ fn tables_here(alloc: Global) -> Mem<Tables> {
         bigraphs,
         formals,
     })
-}
-
-/// The shapes of these controls.
-fn shapes_here(alloc: Global) -> Mem<Vec<Shape>>
-    ensures { IfOk result (λ shapes. All (λ (shape : ShapeValue). shape.arity ≤ 16) shapes.items) }
-{
-    let mut shapes = Vec::new(alloc);
-    shapes.push(Shape {
-        word: Ident::from_bytes(alloc, b"A")?,
-        arity: 0,
-        kind: Kind::Atomic,
-    })?;
-    shapes.push(Shape {
-        word: Ident::from_bytes(alloc, b"B")?,
-        arity: 2,
-        kind: Kind::Normal,
-    })?;
-    shapes.push(Shape {
-        word: Ident::from_bytes(alloc, b"K")?,
-        arity: 1,
-        kind: Kind::Normal,
-    })?;
-    Ok(shapes)
 }
 
 /// The code of the expression of the text's first statement, a bigraph's.
@@ -149,8 +129,8 @@ fn read(alloc: Global, tables: &Tables, text: &str) -> Result<Vec<Operation>, Ou
 }
 
 /// What the text's first statement comes to, where `c(n)` is `K(n){x}`.
-fn come(alloc: Global, tables: &Tables, shapes: &[Shape], text: &str) -> Outcome
-    requires small { All (λ (shape : ShapeValue). shape.arity ≤ 16) shapes.now }
+fn come(alloc: Global, tables: &Tables, text: &str) -> Outcome
+    requires small { All (λ (shape : ShapeValue). shape.arity ≤ 16) (shapes_of tables.now.controls) }
 {
     let Ok(definition) = read(alloc, tables, "big c = K(n){x};") else {
         return Outcome::NoExpression;
@@ -168,7 +148,7 @@ fn come(alloc: Global, tables: &Tables, shapes: &[Shape], text: &str) -> Outcome
     };
     outcome_of(evaluate(
         alloc,
-        shapes,
+        &tables.controls,
         definitions.as_slice(),
         &[Value::Int(7)],
         code.as_slice(),
@@ -182,9 +162,6 @@ fn finds_the_values_of_expressions(rt: HostRuntime) {
     let Ok(tables) = tables_here(alloc) else {
         return;
     };
-    let Ok(shapes) = shapes_here(alloc) else {
-        return;
-    };
     for (text, wanted) in [
         ("big s = B{x,y}.A;", [2, 0, 1, 2, 2, 9]),
         ("big s = A | A | A;", [3, 0, 1, 0, 1, 9]),
@@ -196,7 +173,7 @@ fn finds_the_values_of_expressions(rt: HostRuntime) {
         ("big s = {x,x} || 1;", [0, 0, 1, 1, 0, 9]),
     ] {
         assert!(rt;
-            come(alloc, &tables, shapes.as_slice(), text) == Outcome::Value(wanted),
+            come(alloc, &tables, text) == Outcome::Value(wanted),
             "{text}"
         );
     }
@@ -206,9 +183,6 @@ fn finds_the_values_of_expressions(rt: HostRuntime) {
 fn refuses_at_the_first_place(rt: HostRuntime) {
     let alloc = rt.alloc();
     let Ok(tables) = tables_here(alloc) else {
-        return;
-    };
-    let Ok(shapes) = shapes_here(alloc) else {
         return;
     };
     for (text, cause, token) in [
@@ -224,7 +198,7 @@ fn refuses_at_the_first_place(rt: HostRuntime) {
         ("big s = c(1/0) | A.1;", Cause::ZeroDivisor, 6),
     ] {
         assert!(rt;
-            come(alloc, &tables, shapes.as_slice(), text) == Outcome::Refused(cause, token),
+            come(alloc, &tables, text) == Outcome::Refused(cause, token),
             "{text}"
         );
     }

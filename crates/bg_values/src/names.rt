@@ -1,5 +1,5 @@
 //! Tables of names.
-ghost use Rattle.std.specs.Prelude.{◌≡◌, ◌++◌, ◌∷◌, [], IfOk, OnErr, MatchBool, is_none, Some};
+ghost use Rattle.std.specs.Prelude.{◌≡◌, ◌++◌, ◌∷◌, ◌↔◌, [], length, IfOk, IsTrue, OnErr, MatchBool, is_none, Some};
 ghost use Rattle.bg_values.specs.Names as definition;
 
 use bg_lists::{Mem, OutOfMemory};
@@ -50,6 +50,20 @@ impl<T: Drop> NameTable<T> {
         }
     }
 
+    /// How many names there are. Takes constant time.
+    pub fn len(&self) -> u32
+        ensures { result ≡ length self.now }
+    {
+        self.entries.len() as u32
+    }
+
+    /// Whether there is no name. Takes constant time.
+    pub fn is_empty(&self) -> bool
+        ensures { IsTrue result ↔ (length self.now ≡ 0) }
+    {
+        self.entries.is_empty()
+    }
+
     /// The number of the name, counted from 0. Takes as long as the name has bytes, on average.
     pub fn find(&self, word: &[u8]) -> Option<u32>
         ensures { result ≡ definition.number_of word.now self.now }
@@ -70,8 +84,8 @@ impl<T: Drop> NameTable<T> {
         }
     }
 
-    /// The number of an entry, and what its name stands for.
-    fn entry(&self, number: u32) -> Option<Found<'_, T>>
+    /// The entry with that number: its number, and what its name stands for. Takes constant time.
+    pub fn entry(&self, number: u32) -> Option<Found<'_, T>>
         ensures { result ≡ definition.entry_at self.now (Some number) }
     {
         match self.entries.get_index(number as usize) {

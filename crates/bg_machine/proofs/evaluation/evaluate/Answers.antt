@@ -1,22 +1,23 @@
 use Rattle.std.proofs.Common.{rules, ◌≡◌, Ok, subst, ap, ◌∙◌, sym}
 use Rattle.bg_machine.specs.Machine.{run, running_of}
 use Rattle.bg_machine.proofs.Endings.{fresh, ended, stopped}
+use Rattle.bg_terms.specs.Shapes.{shapes_of}
 use Rattle.bg_values.specs.Outcome.{Gives, Stops}
 use Rattle.bg_machine.proofs.evaluation.evaluate.Goals as goal
 
 pub returns-in_err-run : goal.returns-in_err-run
 returns-in_err-run c = λ es e definitions_are code_is.
-    let halted : Stops c.in_err-run.field-0.0 (run c.args.shapes.now (running_of c.args.shapes.now c.args.definitions.now) c.args.env.now c.args.code.now (fresh c.args.signature)) =
-    subst (λ s. Stops c.in_err-run.field-0.0 (run c.args.shapes.now (running_of c.args.shapes.now c.args.definitions.now) c.args.env.now c.args.code.now s)) c.new-machine.ensures
+    let halted : Stops c.in_err-run.field-0.0 (run (shapes_of c.args.controls.now) (running_of (shapes_of c.args.controls.now) c.args.definitions.now) c.args.env.now c.args.code.now (fresh c.args.signature)) =
+    subst (λ s. Stops c.in_err-run.field-0.0 (run (shapes_of c.args.controls.now) (running_of (shapes_of c.args.controls.now) c.args.definitions.now) c.args.env.now c.args.code.now s)) c.new-machine.ensures
     c.in_err-run.ensures in
-    let stops = stopped c.args.shapes.now c.args.definitions.now c.args.env.now c.args.code.now c.args.signature es e definitions_are code_is
+    let stops = stopped (shapes_of c.args.controls.now) c.args.definitions.now c.args.env.now c.args.code.now c.args.signature es e definitions_are code_is
     c.in_err-run.field-0.0 halted in
     search (rules, stops)
 
 pub returns : goal.returns
 returns c = λ es e definitions_are code_is.
-    let ran : run c.args.shapes.now (running_of c.args.shapes.now c.args.definitions.now) c.args.env.now c.args.code.now (fresh c.args.signature) ≡ Ok c.run.new.machine =
-    ap (run c.args.shapes.now (running_of c.args.shapes.now c.args.definitions.now) c.args.env.now c.args.code.now) (sym c.new-machine.ensures) ∙ c.in_ok-run.ensures in
+    let ran : run (shapes_of c.args.controls.now) (running_of (shapes_of c.args.controls.now) c.args.definitions.now) c.args.env.now c.args.code.now (fresh c.args.signature) ≡ Ok c.run.new.machine =
+    ap (run (shapes_of c.args.controls.now) (running_of (shapes_of c.args.controls.now) c.args.definitions.now) c.args.env.now c.args.code.now) (sym c.new-machine.ensures) ∙ c.in_ok-run.ensures in
     subst (Gives c.finish.result)
-    (ended c.args.shapes.now c.args.definitions.now c.args.env.now c.args.code.now c.args.signature es e definitions_are code_is c.run.new.machine ran)
+    (ended (shapes_of c.args.controls.now) c.args.definitions.now c.args.env.now c.args.code.now c.args.signature es e definitions_are code_is c.run.new.machine ran)
     c.finish.ensures

@@ -1,5 +1,6 @@
 use Rattle.std.proofs.Common.{◌≡◌, ◌+◌, ◌*◌, length, drop}
 use Rattle.bg_machine.specs.Machine as definition
+use Rattle.bg_terms.specs.Shapes.{shapes_of}
 use Rattle.bg_machine.proofs.running.+machine.Given as goal
 
 abbrev pub decreases-call : goal.decreases-call
@@ -16,5 +17,5 @@ decreases-run l = 4 * length l.definitions.now + 3
 
 abbrev pub invariant-run-loop-operation : goal.invariant-run-loop-operation
 invariant-run-loop-operation l =
-    definition.run l.shapes (definition.running_of l.shapes l.definitions) l.env l.operations l.initial.machine
-    ≡ definition.run l.shapes (definition.running_of l.shapes l.definitions) l.env (drop l.operation-index l.operations) l.machine
+    definition.run (shapes_of l.controls) (definition.running_of (shapes_of l.controls) l.definitions) l.env l.operations l.initial.machine
+    ≡ definition.run (shapes_of l.controls) (definition.running_of (shapes_of l.controls) l.definitions) l.env (drop l.operation-index l.operations) l.machine

@@ -1,0 +1,131 @@
+//! Defines the statements of a model from the standard input, so that `bench/run` can time the calls of `bg_statements`.
+//! Rules and the block are read and passed over. It writes how many controls have entered the signature, or the code, the
+//! line and the column of the first refusal, and no times.
+#![tactic(auto)]
+
+use bg_base::Kind;
+use bg_io::{StdSource, read_all};
+use bg_statements::Definitions;
+use bg_syntax::parse;
+use bg_syntax::tree::statements::{SynAfterFun, SynStmt};
+use bg_text::{place_of, tokens};
+use bg_values::{NameTable, Refusal, Scope, Stop};
+use std::alloc::Global;
+use std::process::ExitCode;
+
+/// The most bytes of a model.
+const MOST: u32 = 8_388_608;
+
+/// What is written.
+#[derive(Clone, Copy, Debug)]
+enum Answer {
+    /// How many controls the signature has.
+    Defined(u32),
+    /// The code, the line and the column.
+    Refused(u8, u32, u32),
+    /// The text is no model.
+    NoModel,
+    NoMemory,
+}
+
+fn define(
+    alloc: Global,
+    definitions: &mut Definitions,
+    text: &Scope,
+    statement: &SynStmt,
+) -> Result<(), Stop> {
+    match statement {
+        SynStmt::Way1(_, _, _, control) => {
+            definitions.add_control(alloc, text, Kind::Atomic, control)
+        }
+        SynStmt::Way2(_, after) => define_after_fun(alloc, definitions, text, after),
+        SynStmt::Way3(_, control) => definitions.add_control(alloc, text, Kind::Normal, control),
+        SynStmt::Way4(_, bigraph) => definitions.add_bigraph(alloc, text, bigraph),
+        SynStmt::Way5(_, _) => Ok(()),
+        SynStmt::Way6(parameter) => definitions.add_parameter(alloc, text, parameter),
+    }
+}
+
+fn define_after_fun(
+    alloc: Global,
+    definitions: &mut Definitions,
+    text: &Scope,
+    after: &SynAfterFun,
+) -> Result<(), Stop> {
+    match after {
+        SynAfterFun::Way1(_, _, control) => {
+            definitions.add_control(alloc, text, Kind::Atomic, control)
+        }
+        SynAfterFun::Way2(_, control) => {
+            definitions.add_control(alloc, text, Kind::Normal, control)
+        }
+        SynAfterFun::Way3(_, bigraph) => definitions.add_bigraph(alloc, text, bigraph),
+        SynAfterFun::Way4(_, _) => Ok(()),
+    }
+}
+
+fn refused(text: &Scope, refusal: &Refusal) -> Answer {
+    let offset = match text.tokens.get(refusal.token as usize) {
+        Some(token) => token.start,
+        None => text.bytes.len() as u32,
+    };
+    if offset as usize > text.bytes.len() || text.bytes.len() > MOST as usize {
+        return Answer::NoModel;
+    }
+    let place = place_of(text.bytes, offset);
+    Answer::Refused(refusal.cause.code(), place.line, place.column)
+}
+
+fn answer_to(alloc: Global, bytes: &[u8]) -> Answer {
+    if bytes.len() > MOST as usize {
+        return Answer::NoModel;
+    }
+    let Ok(tokens) = tokens(alloc, bytes) else {
+        return Answer::NoModel;
+    };
+    if tokens.len() > MOST as usize {
+        return Answer::NoModel;
+    }
+    let Ok(tree) = parse(alloc, &tokens) else {
+        return Answer::NoModel;
+    };
+    let nothing = NameTable::new(alloc);
+    let text = Scope {
+        bytes,
+        tokens: tokens.as_slice(),
+        names: &nothing,
+    };
+    let mut definitions = Definitions::new(alloc);
+    for item in tree.part1.iter() {
+        match define(alloc, &mut definitions, &text, &item.part1) {
+            Ok(()) => {}
+            Err(Stop::Refused(refusal)) => return refused(&text, &refusal),
+            Err(Stop::OutOfMemory) => return Answer::NoMemory,
+        }
+    }
+    Answer::Defined(definitions.signature().len())
+}
+
+/// Writes the answer; whether it was written.
+fn is_written(rt: &HostRuntime, answer: Answer) -> bool {
+    match answer {
+        Answer::Defined(controls) => println!(rt; "defined, {} controls", controls).is_ok(),
+        Answer::Refused(code, line, column) => {
+            println!(rt; "refused {} at {}:{}", code, line, column).is_ok()
+        }
+        Answer::NoModel => println!(rt; "no model").is_ok(),
+        Answer::NoMemory => false,
+    }
+}
+
+fn main(rt: HostRuntime) -> ExitCode {
+    let mut source = StdSource::new(rt.stdin());
+    let Ok(bytes) = read_all(rt.alloc(), &mut source, MOST) else {
+        return ExitCode::FAILURE;
+    };
+    if is_written(&rt, answer_to(rt.alloc(), bytes.as_slice())) {
+        ExitCode::SUCCESS
+    } else {
+        ExitCode::FAILURE
+    }
+}

@@ -1,0 +1,58 @@
+//! The end of a whole expression.
+ghost use Rattle.std.specs.Prelude.{◌≡◌, IfOk, length, map};
+ghost use Rattle.bg_base.specs.Bigraph.{IsValid};
+ghost use Rattle.bg_base.specs.Elementary.{counted};
+ghost use Rattle.bg_base.specs.Translation.{node_numbers};
+ghost use Rattle.bg_machine.specs.Whole as definition;
+
+use bg_algebra::{lean, rename};
+use bg_base::{Big, NodeRow};
+use bg_lists::Mem;
+use std::alloc::Global;
+
+/// The bigraph of a whole expression, by what its term comes to: its idle edges are dropped, and the others numbered 0, 1,
+/// 2 and so on in their order, which is that of their closures in the expanded text. Costs time n log n in its size.
+pub fn whole(alloc: Global, big: &Big) -> Mem<Big>
+    requires valid { IsValid big.now }
+    ensures value { IfOk result (λ made. made ≡ definition.whole big.now) }
+    ensures valid { IfOk result IsValid }
+{
+    let lean = lean(alloc, big)?;
+    edges_counted(alloc, &lean)
+}
+
+/// The bigraph with its edges numbered 0, 1, 2 and so on.
+#[tactic(auto, using(crate::proofs::Wholes::edges_differ, crate::proofs::Wholes::as_many_edges, crate::proofs::Wholes::nodes_differ, crate::proofs::Wholes::as_many_nodes))]
+fn edges_counted(alloc: Global, big: &Big) -> Mem<Big>
+    requires valid { IsValid big.now }
+    ensures value { IfOk result (λ made. made ≡ definition.edges_counted big.now) }
+    ensures valid { IfOk result IsValid }
+{
+    let nodes = numbers_of(alloc, big.nodes.as_slice())?;
+    let edges = numbers_below(alloc, big.edges.len())?;
+    let made = rename(alloc, big, nodes.as_slice(), edges.as_slice())?;
+    Ok(made)
+}
+
+/// The numbers of the nodes, in their order.
+fn numbers_of(alloc: Global, rows: &[NodeRow]) -> Mem<Vec<u32>>
+    ensures { IfOk result (λ numbers. numbers.items ≡ node_numbers rows.now) }
+{
+    let mut numbers = Vec::with_capacity(alloc, rows.len())?;
+    for row in rows {
+        numbers.push(row.id)?;
+    }
+    Ok(numbers)
+}
+
+/// 0, 1, 2 and so on, so many.
+#[tactic(auto, using(bg_algebra::proofs::Nested::counted_more))]
+fn numbers_below(alloc: Global, count: u32) -> Mem<Vec<u32>>
+    ensures { IfOk result (λ numbers. numbers.items ≡ counted 0 count) }
+{
+    let mut numbers = Vec::new(alloc);
+    for number in 0..count {
+        numbers.push(number)?;
+    }
+    Ok(numbers)
+}

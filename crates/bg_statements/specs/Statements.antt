@@ -1,0 +1,96 @@
+-- What each statement defines, where others stand before it, or its first refusal.
+use Rattle.std.specs.Prelude.{ℕ, zero, suc, nat_lt, is_some, nat_abs, if◌then◌else◌, List, [], ◌∷◌, ◌++◌, map, length, Result, Ok}
+use Rattle.bg_base.specs.declared.signature.Kind.{Kind}
+use Rattle.bg_machine.specs.Calls.{evaluated}
+use Rattle.bg_statements.specs.Defined.{Defined, scope_with, visible_with}
+use Rattle.bg_syntax.specs.declared.tree.names.SynFormals.{SynFormals}
+use Rattle.bg_syntax.specs.declared.tree.names.SynFormals.TheVariants as formals_ways
+use Rattle.bg_syntax.specs.declared.tree.names.SynMoreLowItem.{SynMoreLowItem}
+use Rattle.bg_syntax.specs.declared.tree.names.SynNumber.{SynNumber}
+use Rattle.bg_syntax.specs.declared.tree.statements.SynBigraph.{SynBigraph}
+use Rattle.bg_syntax.specs.declared.tree.statements.SynControl.{SynControl}
+use Rattle.bg_syntax.specs.declared.tree.statements.SynParam.{SynParam}
+use Rattle.bg_terms.specs.declared.shape.Shape.{Shape}
+use Rattle.bg_terms.specs.Expansion.{control_of, expand, meanings_of}
+use Rattle.bg_terms.specs.Expressions.{Expression}
+use Rattle.bg_terms.specs.Shapes.{shapes_of}
+use Rattle.bg_terms.specs.Trees.{word_at, e_read}
+use Rattle.bg_terms.specs.Values.{entered}
+use Rattle.bg_values.specs.declared.refusal.Refusal.{Refusal}
+use Rattle.bg_values.specs.declared.refusal.LimitWord.TheVariants.{Arity}
+use Rattle.bg_values.specs.declared.refusal.Cause.TheVariants.{DuplicateName, TooLarge}
+use Rattle.bg_values.specs.Names.{Entry, number_of}
+use Rattle.bg_values.specs.Outcome.{◌>>=◌, refused}
+use Rattle.bg_values.specs.Parameters.{parameter_values, name_token}
+use Rattle.bg_values.specs.Reading.{number_at, number_token}
+use Rattle.bg_values.specs.Scopes.{ScopeParts, spelling}
+
+-- the word that the token spells, which no name of the space is yet
+abbrev pub new_word : {T : Type 0} → ScopeParts → List (Entry T) → ℕ → Result (List ℕ) Refusal
+new_word text entries token =
+    if is_some (number_of (spelling text token) entries) then refused DuplicateName token else Ok (spelling text token)
+
+-- the tokens of the formals
+abbrev pub formal_tokens : SynFormals → List ℕ
+formal_tokens (formals_ways.Way1 bracket first more end) = first ∷ map (λ (item : SynMoreLowItem). item.part2) more.items
+formal_tokens formals_ways.Way2 = []
+
+-- formals behind others, none of which repeats
+abbrev pub formals_behind : ScopeParts → List (Entry (Unit {0})) → List ℕ → Result (List (Entry (Unit {0}))) Refusal
+formals_behind text formals [] = Ok formals
+formals_behind text formals (token ∷ tokens) =
+    new_word text formals token >>= λ word. formals_behind text (formals ++ (word, tt) ∷ []) tokens
+
+-- ---- `ctrl K(n) = 2;`
+
+-- an arity is at most 16
+abbrev pub arity_at : ScopeParts → ℕ → Result ℕ Refusal
+arity_at text token = number_at text token >>= λ z. if nat_lt 16 (nat_abs z) then refused (TooLarge Arity) token else Ok (nat_abs z)
+
+-- a control without formals enters the signature at its statement
+abbrev pub entered_at_once : ℕ → ℕ → Shape → Defined → Result Defined Refusal
+entered_at_once at zero shape d = entered at (control_of shape []) d.signature >>= λ e. Ok (record d { signature = e.1 })
+entered_at_once at (suc n) shape d = Ok d
+
+-- a control with so many formals and that shape
+abbrev pub with_shape : ℕ → List ℕ → ℕ → Shape → Defined → Result Defined Refusal
+with_shape at word formals shape d =
+    entered_at_once at formals shape d >>= λ t.
+    Ok (record t { controls = t.controls ++ (word, record { formals = formals; shape = shape }) ∷ [] })
+
+abbrev pub with_control : ScopeParts → Kind → SynControl → Defined → Result Defined Refusal
+with_control text kind tree d =
+    new_word text d.controls tree.part1 >>= λ word.
+    word_at (visible_with text [] d) tree.part1 >>= λ name.
+    formals_behind text [] (formal_tokens tree.part2) >>= λ formals.
+    arity_at text (number_token tree.part4) >>= λ arity.
+    with_shape tree.part1 word (length formals) (record { word = name; arity = arity; kind = kind }) d
+
+-- ---- `big b(n) = E;`
+
+-- a definition without formals is evaluated at its statement, for its refusals and for the controls that enter
+abbrev pub tried : ℕ → Expression → Defined → Result Defined Refusal
+tried zero e d =
+    evaluated d.signature (expand (shapes_of d.controls) (meanings_of (shapes_of d.controls) d.expressions) [] e) >>= λ v.
+    Ok (record d { signature = v.1.signature })
+tried (suc n) e d = Ok d
+
+-- a bigraph with so many formals and that expression
+abbrev pub with_expression : List ℕ → ℕ → Expression → Defined → Result Defined Refusal
+with_expression word formals e d =
+    tried formals e d >>= λ t. Ok (record t { bigraphs = t.bigraphs ++ (word, formals) ∷ []; expressions = t.expressions ++ e ∷ [] })
+
+abbrev pub with_bigraph : ScopeParts → SynBigraph → Defined → Result Defined Refusal
+with_bigraph text tree d =
+    new_word text d.bigraphs tree.part1 >>= λ word.
+    formals_behind text [] (formal_tokens tree.part2) >>= λ formals.
+    (e_read tree.part4).1 (visible_with text formals d) >>= λ e.
+    with_expression word (length formals) e d
+
+-- ---- `int n = 1;`
+
+abbrev pub with_parameter : ScopeParts → SynParam → Defined → Result Defined Refusal
+with_parameter text tree d =
+    new_word text d.parameters (name_token tree) >>= λ word.
+    parameter_values text tree >>= λ values.
+    Ok (record d { parameters = d.parameters ++ (word, values) ∷ [] })

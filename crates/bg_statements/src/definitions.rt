@@ -1,0 +1,64 @@
+//! What the statements of a model define.
+ghost use Rattle.std.specs.Prelude.{◌≡◌, [], IfOk};
+
+use bg_base::{Signature, Value};
+use bg_code::Operation;
+use bg_lists::Rows;
+use bg_terms::ControlEntry;
+use bg_values::NameTable;
+use std::alloc::Global;
+use std::marker::Model;
+
+/// What the statements of a model so far define: the controls, the bigraphs with the code of their expressions, the
+/// parameters with their values, and the signature of the controls that have entered it. No arity is above 16.
+#[derive(Drop)]
+pub struct Definitions {
+    pub(crate) controls: NameTable<ControlEntry>,
+    pub(crate) bigraphs: NameTable<u32>,
+    pub(crate) codes: Vec<Rows<Operation>>,
+    pub(crate) parameters: NameTable<Rows<Value>>,
+    pub(crate) signature: Signature,
+}
+
+impl Model for Definitions {
+    ghost use Rattle.std.specs.Prelude.{◌≤◌, All};
+    ghost use Rattle.bg_statements.specs.Calls.{Kept};
+    ghost use Rattle.bg_terms.specs.declared.shape.Shape.{Shape as ShapeValue};
+    ghost use Rattle.bg_terms.specs.Shapes.{shapes_of};
+
+    ghost Value = { Kept };
+
+    ghost view = { λ definitions. record {
+      controls = definitions.controls;
+      bigraphs = definitions.bigraphs;
+      codes = definitions.codes.items;
+      parameters = definitions.parameters;
+      signature = definitions.signature;
+    } };
+
+    ghost invariant = { λ definitions. All (λ (shape : ShapeValue). shape.arity ≤ 16) (shapes_of definitions.controls) };
+}
+
+impl Definitions {
+    ghost use Rattle.std.specs.Prelude.{◌≡◌, []};
+
+    /// Nothing is defined. Takes no memory.
+    pub fn new(alloc: Global) -> Definitions
+        ensures { result ≡ record { controls = []; bigraphs = []; codes = []; parameters = []; signature = [] } }
+    {
+        Definitions {
+            controls: NameTable::new(alloc),
+            bigraphs: NameTable::new(alloc),
+            codes: Vec::new(alloc),
+            parameters: NameTable::new(alloc),
+            signature: Signature::new(alloc),
+        }
+    }
+
+    /// The controls that have entered the signature.
+    pub fn signature(&self) -> &Signature
+        ensures { result.now ≡ self.now.signature }
+    {
+        &self.signature
+    }
+}

@@ -1,0 +1,16 @@
+//! The statements of a model: what each defines behind those before it, or its first refusal.
+//!
+//! - [`Definitions`]: what the statements so far define: controls, bigraphs, parameters, and the signature reached.
+//! - [`Definitions::add_control`], [`Definitions::add_bigraph`], [`Definitions::add_parameter`]: one statement.
+#![tactic(auto)]
+
+mod bigraphs;
+mod controls;
+mod definitions;
+mod names;
+mod parameters;
+
+pub use definitions::Definitions;
+
+#[cfg(test)]
+mod tests;

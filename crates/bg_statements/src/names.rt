@@ -1,0 +1,75 @@
+//! The names that statements define.
+ghost use Rattle.std.specs.Prelude.{◌≡◌, ◌∷◌, ◌++◌, [], map, drop};
+ghost use Rattle.bg_statements.specs.Statements as definition;
+ghost use Rattle.bg_syntax.specs.declared.tree.names.SynMoreLowItem.{SynMoreLowItem as MoreItem};
+ghost use Rattle.bg_values.specs.Outcome.{Gives, Goes};
+ghost use Rattle.bg_values.specs.Scopes.{spelling};
+
+use bg_syntax::tree::names::{SynFormals, SynMoreLowItem};
+use bg_values::{Cause, NameTable, Scope, Stop};
+use std::alloc::Global;
+
+/// Refuses with 42 where the word of the token is there already.
+pub(crate) fn check_new<T: Drop>(
+    text: &Scope,
+    entries: &NameTable<T>,
+    token: u32,
+) -> Result<(), Stop>
+    ensures { Goes result (spelling text.now token) (definition.new_word text.now entries.now token) }
+{
+    match entries.find(text.spelling(token)) {
+        Some(_) => Err(Stop::refuse(Cause::DuplicateName, token)),
+        None => Ok(()),
+    }
+}
+
+/// The formals, in order. Refuses with 42 the first that repeats. Linear in them.
+pub(crate) fn formals_of(
+    alloc: Global,
+    text: &Scope,
+    tree: &SynFormals,
+) -> Result<NameTable<()>, Stop>
+    ensures { Gives result (definition.formals_behind text.now [] (definition.formal_tokens tree.now)) }
+{
+    let mut formals = NameTable::new(alloc);
+    match tree {
+        SynFormals::Way1(_, first, more, _) => {
+            add_formals(alloc, text, *first, more.as_slice(), &mut formals)?;
+        }
+        SynFormals::Way2 => {}
+    }
+    Ok(formals)
+}
+
+/// Adds the first formal and those behind it.
+fn add_formals(
+    alloc: Global,
+    text: &Scope,
+    first: u32,
+    more: &[SynMoreLowItem],
+    formals: &mut NameTable<()>,
+) -> Result<(), Stop>
+    ensures { Goes result formals.new (definition.formals_behind text.now formals.old (first ∷ map (λ (item : MoreItem). item.part2) more.now)) }
+{
+    add_formal(alloc, text, first, formals)?;
+    for item in more {
+        add_formal(alloc, text, item.part2, formals)?;
+    }
+    Ok(())
+}
+
+/// Adds a formal, or refuses with 42 where it is there.
+fn add_formal(
+    alloc: Global,
+    text: &Scope,
+    token: u32,
+    formals: &mut NameTable<()>,
+) -> Result<(), Stop>
+    ensures { Goes result formals.new (definition.formals_behind text.now formals.old (token ∷ [])) }
+{
+    if formals.add(alloc, text.spelling(token), ())? {
+        Ok(())
+    } else {
+        Err(Stop::refuse(Cause::DuplicateName, token))
+    }
+}

@@ -1,0 +1,29 @@
+//! Statements of parameters.
+use crate::Definitions;
+use crate::names::check_new;
+use bg_lists::Rows;
+use bg_syntax::tree::statements::SynParam;
+use bg_values::{Scope, Stop, parameter_name, parameter_values};
+use std::alloc::Global;
+
+impl Definitions {
+    ghost use Rattle.bg_statements.specs.Calls.{Defines};
+    ghost use Rattle.bg_statements.specs.Statements as definition;
+
+    /// A parameter with its values. It refuses with the first cause: 42 at its name where it is there, then what
+    /// [`parameter_values`] refuses. Linear in the statement and the values.
+    pub fn add_parameter(
+        &mut self,
+        alloc: Global,
+        text: &Scope,
+        tree: &SynParam,
+    ) -> Result<(), Stop>
+        ensures { Defines result self.old self.new (definition.with_parameter text.now tree.now) }
+    {
+        let token = parameter_name(tree);
+        check_new(text, &self.parameters, token)?;
+        let values = Rows::try_from_vec(parameter_values(alloc, text, tree)?)?;
+        self.parameters.add(alloc, text.spelling(token), values)?;
+        Ok(())
+    }
+}

@@ -1,0 +1,394 @@
+use super::*;
+use bg_base::Kind;
+use bg_syntax::parse;
+use bg_syntax::tree::statements::{SynAfterFun, SynStmt};
+use bg_text::tokens;
+use bg_values::{Cause, LimitWord, NameTable, Refusal, Scope, Stop};
+use std::alloc::{AllocError, Global};
+use std::test::*;
+
+/// What the statements of a text come to.
+#[derive(Clone, Copy, Debug, PartialEq, Eq)]
+enum Outcome {
+    /// How many controls the signature has.
+    Defined(u32),
+    /// The cause, and the first byte of the token.
+    Refused(Cause, u32),
+    NoMemory,
+    /// The text is no model.
+    NoModel,
+}
+
+fn define(
+    alloc: Global,
+    definitions: &mut Definitions,
+    text: &Scope,
+    statement: &SynStmt,
+) -> Result<(), Stop> {
+    match statement {
+        SynStmt::Way1(_, _, _, control) => {
+            definitions.add_control(alloc, text, Kind::Atomic, control)
+        }
+        SynStmt::Way2(_, after) => define_after_fun(alloc, definitions, text, after),
+        SynStmt::Way3(_, control) => definitions.add_control(alloc, text, Kind::Normal, control),
+        SynStmt::Way4(_, bigraph) => definitions.add_bigraph(alloc, text, bigraph),
+        SynStmt::Way5(_, _) => Ok(()),
+        SynStmt::Way6(parameter) => definitions.add_parameter(alloc, text, parameter),
+    }
+}
+
+fn define_after_fun(
+    alloc: Global,
+    definitions: &mut Definitions,
+    text: &Scope,
+    after: &SynAfterFun,
+) -> Result<(), Stop> {
+    match after {
+        SynAfterFun::Way1(_, _, control) => {
+            definitions.add_control(alloc, text, Kind::Atomic, control)
+        }
+        SynAfterFun::Way2(_, control) => {
+            definitions.add_control(alloc, text, Kind::Normal, control)
+        }
+        SynAfterFun::Way3(_, bigraph) => definitions.add_bigraph(alloc, text, bigraph),
+        SynAfterFun::Way4(_, _) => Ok(()),
+    }
+}
+
+/// What the statements of the text come to.
+fn outcome(alloc: Global, bytes: &[u8]) -> Outcome {
+    if bytes.len() > 100_000_000 {
+        return Outcome::NoModel;
+    }
+    let Ok(tokens) = tokens(alloc, bytes) else {
+        return Outcome::NoModel;
+    };
+    if tokens.len() > 100_000_000 {
+        return Outcome::NoModel;
+    }
+    let Ok(tree) = parse(alloc, &tokens) else {
+        return Outcome::NoModel;
+    };
+    let nothing = NameTable::new(alloc);
+    let text = Scope {
+        bytes,
+        tokens: tokens.as_slice(),
+        names: &nothing,
+    };
+    let mut definitions = Definitions::new(alloc);
+    for item in tree.part1.iter() {
+        match define(alloc, &mut definitions, &text, &item.part1) {
+            Ok(()) => {}
+            Err(Stop::Refused(refusal)) => {
+                return Outcome::Refused(refusal.cause, byte_of(&text, &refusal));
+            }
+            Err(Stop::OutOfMemory) => return Outcome::NoMemory,
+        }
+    }
+    Outcome::Defined(definitions.signature().len())
+}
+
+/// The first byte of the refused token.
+fn byte_of(text: &Scope, refusal: &Refusal) -> u32 {
+    match text.tokens.get(refusal.token as usize) {
+        Some(token) => token.start,
+        None => 0,
+    }
+}
+
+/// The text without the mark `$`, and where the mark stood.
+fn unmarked(alloc: Global, marked: &str) -> Option<(Vec<u8>, u32)> {
+    let mut bytes = Vec::new(alloc);
+    let mut mark = 0;
+    for byte in marked.as_bytes() {
+        if *byte == b'$' {
+            mark = bytes.len() as u32;
+        } else if bytes.push(*byte).is_err() {
+            return None;
+        }
+    }
+    Some((bytes, mark))
+}
+
+/// What defines the names that the cases use.
+const BEFORE: &str = "ctrl A = 0; ctrl B = 2; atomic ctrl D = 0; atomic ctrl E = 1; fun ctrl K(n) = 1; \
+    fun big c(n) = K(n){x}; big d = D; ";
+
+/// The case behind the names that it uses.
+fn outcome_behind(alloc: Global, marked: &str) -> Option<(Outcome, u32)> {
+    let (case, mark) = unmarked(alloc, marked)?;
+    let mut bytes = Vec::new(alloc);
+    if bytes.extend_from_slice(BEFORE.as_bytes()).is_err() {
+        return None;
+    }
+    if bytes.extend_from_slice(case.as_slice()).is_err() {
+        return None;
+    }
+    Some((
+        outcome(alloc, bytes.as_slice()),
+        mark.wrapping_add(BEFORE.len() as u32),
+    ))
+}
+
+/// Statements that are refused, with a mark before the token of the refusal.
+const REFUSED: [(&str, Cause); 54] = [
+    // names
+    ("big s = $Room.1;", Cause::UnknownName),
+    ("big s = $s;", Cause::UnknownName),
+    ("ctrl $A = 0;", Cause::DuplicateName),
+    ("big $d = D;", Cause::DuplicateName),
+    ("int n = 1; string $n = \"a\";", Cause::DuplicateName),
+    ("fun ctrl N(a, b, $a) = 0;", Cause::DuplicateName),
+    ("fun big e(a, $a) = Z;", Cause::DuplicateName),
+    ("big $d = Z;", Cause::DuplicateName),
+    ("big s = $B{x};", Cause::WrongPorts),
+    ("big s = $B;", Cause::WrongPorts),
+    ("big s = $K{x};", Cause::WrongArguments),
+    ("big s = $K(1, m){x, y};", Cause::WrongArguments),
+    ("big s = $K(m);", Cause::WrongPorts),
+    ("big s = K($m){x};", Cause::UnknownName),
+    ("big s = $c;", Cause::WrongArguments),
+    ("big s = $c(m, 1);", Cause::WrongArguments),
+    ("big s = c($m);", Cause::UnknownName),
+    ("fun big e(a) = c(a + $b);", Cause::UnknownName),
+    ("int n = 1; int k = $n;", Cause::UnknownName),
+    // names before values
+    ("big s = D.1 | $Z;", Cause::UnknownName),
+    ("big s = c(1/0) | $B{x};", Cause::WrongPorts),
+    ("int n = {1/0, $k};", Cause::UnknownName),
+    ("fun ctrl N(a, $a) = 17;", Cause::DuplicateName),
+    // arithmetic
+    ("big s = c(9223372036854775807 $+ 1);", Cause::NumberOverflow),
+    ("big s = c(1 $/ 0);", Cause::ZeroDivisor),
+    ("big s = c(\"a\" + 1 $/ 0);", Cause::ZeroDivisor),
+    ("big s = c($\"a\" / 0);", Cause::WrongKind),
+    ("big s = c($\"a\" - \"b\");", Cause::WrongKind),
+    ("int n = $\"a\";", Cause::WrongKind),
+    ("int n = {1, $\"a\", 1/0};", Cause::WrongKind),
+    ("int n = [\"a\":1 $/ 0:1];", Cause::ZeroDivisor),
+    ("int n = [3:$\"a\":2];", Cause::WrongKind),
+    ("int n = $[3:1:2];", Cause::EmptyRange),
+    ("int n = $[1:0:1];", Cause::EmptyRange),
+    ("int $n = [1:1:4097];", Cause::TooLarge(LimitWord::Values)),
+    (
+        "int $n = [-9223372036854775807:1:9223372036854775807];",
+        Cause::TooLarge(LimitWord::Values),
+    ),
+    // controls
+    ("ctrl N = $17;", Cause::TooLarge(LimitWord::Arity)),
+    ("fun ctrl N(n) = $17;", Cause::TooLarge(LimitWord::Arity)),
+    // expressions
+    ("big s = D$.1;", Cause::AtomicHasChild),
+    ("big s = D$.0;", Cause::AtomicHasChild),
+    ("big s = E{x}$.(1 | D);", Cause::AtomicHasChild),
+    ("big s = D.(D$.1);", Cause::AtomicHasChild),
+    ("big s = (D)$.1;", Cause::WidthsDiffer),
+    ("big s = d$.1;", Cause::WidthsDiffer),
+    ("big s = id{x}$.A;", Cause::HasInnerNames),
+    ("big s = A $* 0;", Cause::FacesDiffer),
+    ("big s = {x} $+ {x};", Cause::NamesMeet),
+    ("big s = id{x} $|| id{x};", Cause::InnerNamesMeet),
+    ("big s = id{x} $| id{x};", Cause::InnerNamesMeet),
+    ("big s = $id(65537);", Cause::TooLarge(LimitWord::Places)),
+    ("big s = $merge(9223372036854775807);", Cause::TooLarge(LimitWord::Places)),
+    ("big s = id(65536) $|| id;", Cause::TooLarge(LimitWord::Places)),
+    // in the text of the definition that is referred to
+    ("fun big e(a) = c(1 $/ a); big s = e(1) | e(0);", Cause::ZeroDivisor),
+    ("fun big e(a) = D$.c(a); big s = e(1);", Cause::AtomicHasChild),
+];
+
+/// Statements that are accepted, and how many controls enter the signature by them.
+const DEFINED: [(&str, u32); 22] = [
+    ("", 0),
+    ("ctrl N = 16;", 1),
+    ("fun ctrl N(a) = 16;", 0),
+    ("big s = A{};", 0),
+    ("big s = {};", 0),
+    ("big s = id{};", 0),
+    ("big s = id(2,{});", 0),
+    ("big s = {x,x};", 0),
+    ("big s = B{x,x};", 0),
+    ("big s = /x /y B{x,y};", 0),
+    ("big s = /x A;", 0),
+    ("big s = id(65536);", 0),
+    ("big s = merge(65536);", 0),
+    ("big s = A.A.1;", 0),
+    ("big s = merge(2) * (A || A);", 0),
+    ("big s = c(1) | c(2) | c(1);", 2),
+    ("big s = c(1 + 1) | c(4 / 2) | c(-2);", 2),
+    ("big s = c(\"a\") | c(\"b\");", 2),
+    ("fun big e(a) = c(1/0);", 0),
+    ("int n = [9223372036854775806:2:9223372036854775807];", 0),
+    ("int n = [1:1:4096]; int k = {1, 1, 2}; string t = {\"a\", \"b\"};", 0),
+    ("big n = A; int n = 1; ctrl N = 0; fun big x(x) = c(x); big y = x(1);", 2),
+];
+
+#[test]
+fn refuses_at_the_first_place(rt: HostRuntime) {
+    for (case, cause) in REFUSED {
+        let Some((found, mark)) = outcome_behind(rt.alloc(), case) else {
+            return;
+        };
+        assert!(rt; found == Outcome::Refused(cause, mark), "{case}");
+    }
+}
+
+#[test]
+fn accepts_what_is_allowed(rt: HostRuntime) {
+    for (case, controls) in DEFINED {
+        let Some((found, _)) = outcome_behind(rt.alloc(), case) else {
+            return;
+        };
+        // A, B, D and E enter at their statements.
+        assert!(rt; found == Outcome::Defined(controls.wrapping_add(4)), "{case}");
+    }
+}
+
+/// A text that is written piece by piece.
+#[derive(Drop)]
+struct Writing {
+    bytes: Vec<u8>,
+}
+
+impl Writing {
+    fn new(alloc: Global) -> Writing {
+        Writing {
+            bytes: Vec::new(alloc),
+        }
+    }
+
+    fn word(&mut self, word: &str) -> Result<(), AllocError> {
+        self.bytes.extend_from_slice(word.as_bytes())
+    }
+
+    /// A number below 100,000, in five digits.
+    fn number(&mut self, number: u32) -> Result<(), AllocError> {
+        for unit in [10_000, 1000, 100, 10, 1] {
+            self.bytes.push((number / unit % 10) as u8 + b'0')?;
+        }
+        Ok(())
+    }
+
+    fn len(&self) -> u32 {
+        self.bytes.len() as u32
+    }
+}
+
+/// `first`, which defines p00000, and so many bigraphs behind it, each of which joins the one before it with itself.
+fn doublings(
+    alloc: Global,
+    first: &str,
+    operator: &str,
+    count: u32,
+) -> Result<Writing, AllocError> {
+    let mut text = Writing::new(alloc);
+    text.word(first)?;
+    for number in 0..count {
+        text.word("big p")?;
+        text.number(number.wrapping_add(1))?;
+        text.word(" = p")?;
+        text.number(number)?;
+        text.word(operator)?;
+        text.word(" p")?;
+        text.number(number)?;
+        text.word(";\n")?;
+    }
+    Ok(text)
+}
+
+/// A bigraph, and so many behind it, each of which refers to the one before it.
+fn references(alloc: Global, count: u32) -> Result<Writing, AllocError> {
+    let mut text = Writing::new(alloc);
+    text.word("ctrl A = 0; big p00000 = A;\n")?;
+    for number in 0..count {
+        text.word("big p")?;
+        text.number(number.wrapping_add(1))?;
+        text.word(" = p")?;
+        text.number(number)?;
+        text.word(";\n")?;
+    }
+    Ok(text)
+}
+
+/// So many controls.
+fn controls(alloc: Global, count: u32) -> Result<Writing, AllocError> {
+    let mut text = Writing::new(alloc);
+    for number in 0..count {
+        text.word("ctrl K")?;
+        text.number(number)?;
+        text.word(" = 0;\n")?;
+    }
+    Ok(text)
+}
+
+/// A control with so many arguments.
+fn arguments(alloc: Global, count: u32) -> Result<Writing, AllocError> {
+    let mut text = Writing::new(alloc);
+    text.word("fun ctrl K(n) = 0; big s = 1")?;
+    for number in 0..count {
+        text.word(" | K(")?;
+        text.number(number)?;
+        text.word(")")?;
+    }
+    text.word(";\n")?;
+    Ok(text)
+}
+
+fn outcome_of(alloc: Global, text: &Writing) -> Outcome {
+    outcome(alloc, text.bytes.as_slice())
+}
+
+fn is_too_large(found: Outcome, limit: LimitWord, place: u32) -> bool {
+    found == Outcome::Refused(Cause::TooLarge(limit), place)
+}
+
+#[test]
+fn values_have_limits(rt: HostRuntime) {
+    let alloc = rt.alloc();
+    let Ok(nodes) = doublings(alloc, "atomic ctrl A = 0; big p00000 = A;\n", " |", 17) else {
+        return;
+    };
+    let bar = nodes.len().wrapping_sub(10);
+    assert!(rt; is_too_large(outcome_of(alloc, &nodes), LimitWord::Nodes, bar));
+    let Ok(edges) = doublings(alloc, "big p00000 = /x {x};\n", " ||", 17) else {
+        return;
+    };
+    let bars = edges.len().wrapping_sub(11);
+    assert!(rt; is_too_large(outcome_of(alloc, &edges), LimitWord::Edges, bars));
+    let Ok(most) = doublings(alloc, "atomic ctrl A = 0; big p00000 = A;\n", " |", 16) else {
+        return;
+    };
+    assert!(rt; outcome_of(alloc, &most) == Outcome::Defined(1));
+}
+
+#[test]
+fn references_have_limits(rt: HostRuntime) {
+    let alloc = rt.alloc();
+    let Ok(deepest) = references(alloc, 1023) else {
+        return;
+    };
+    assert!(rt; outcome_of(alloc, &deepest) == Outcome::Defined(1));
+    let Ok(deeper) = references(alloc, 1024) else {
+        return;
+    };
+    assert!(rt; is_too_large(outcome_of(alloc, &deeper), LimitWord::Depth, 25));
+}
+
+#[test]
+fn a_signature_has_a_limit(rt: HostRuntime) {
+    let alloc = rt.alloc();
+    let Ok(most) = controls(alloc, 4096) else {
+        return;
+    };
+    assert!(rt; outcome_of(alloc, &most) == Outcome::Defined(4096));
+    let Ok(more) = controls(alloc, 4097) else {
+        return;
+    };
+    let name = more.len().wrapping_sub(12);
+    assert!(rt; is_too_large(outcome_of(alloc, &more), LimitWord::Controls, name));
+    let Ok(evaluated) = arguments(alloc, 4097) else {
+        return;
+    };
+    let symbol = evaluated.len().wrapping_sub(10);
+    assert!(rt; is_too_large(outcome_of(alloc, &evaluated), LimitWord::Controls, symbol));
+}
