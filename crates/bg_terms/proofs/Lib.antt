@@ -10,3 +10,8 @@ mod Ordered
 mod Fitting
 mod Placed
 mod ShapesFit
+mod Made
+mod Claims
+mod Ports
+mod Controls
+mod Later

@@ -35,6 +35,9 @@ shape_member [] (suc number) shape is = absurd cc
 shape_member (s ∷ shapes) zero shape is = here cc
 shape_member (s ∷ shapes) (suc number) shape is = there (shape_member shapes number shape is)
 
+same_arity : (x y : Shape) → ◌≡◌ {A = Option Shape} (Some x) (Some y) → x.arity ≡ y.arity
+same_arity x y is = let same : x ≡ y = cc in ap (λ (s : Shape). s.arity) same
+
 module _ (shapes : List Shape) (are : AreShapes shapes) where
   refused_term : (r : Refusal) → Shaped shapes (terms.refusal r)
   refused_term r = record { arities = tt; of_shapes = λ control m. elim m [ ] }
@@ -77,7 +80,7 @@ module _ (shapes : List Shape) (are : AreShapes shapes) where
       → Shaped shapes (expand shapes meanings env e)
   shaped meanings known env (node at number args ports) ports_fit =
       values_shaped at (values env args) (node_term at (slice_get shapes number) ports)
-      (λ vs. node_shaped at (slice_get shapes number) ports vs (λ shape is. (shape_member shapes number shape is, ports_fit shape is)))
+      (λ vs. node_shaped at (slice_get shapes number) ports vs (λ shape is. (shape_member shapes number shape is, ports_fit.2 ∙ same_arity ports_fit.0 shape (sym ports_fit.1 ∙ is))))
   shaped meanings known env (reference at number args) ports_fit =
       values_shaped at (values env args) (λ vs. terms.counted at (meant at (slice_get meanings number) vs))
       (λ vs. counted_shaped at _ (meant_shaped meanings known at number vs))

@@ -8,3 +8,4 @@ pub mod Order
 pub mod Arities
 pub mod Closures
 pub mod Shapes
+pub mod Read

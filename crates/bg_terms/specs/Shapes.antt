@@ -21,9 +21,9 @@ pub record AreShapes (shapes : List Shape) : Type 0 where
   pub small : (shape : Shape) → Mem shape shapes → shape.arity ≤ 16
   pub once : (x y : Shape) → Mem x shapes → Mem y shapes → x.word ≡ y.word → x ≡ y
 
--- each control symbol has as many names as the control with its number has ports
+-- each control symbol is of a control that is there, and has as many names as that has ports
 abbrev pub HasPorts : List Shape → Expression → Type 0
-HasPorts shapes (node at number args ports) = (shape : Shape) → slice_get shapes number ≡ Some shape → length ports ≡ shape.arity
+HasPorts shapes (node at number args ports) = (shape : Shape) × (slice_get shapes number ≡ Some shape) × (length ports ≡ shape.arity)
 HasPorts shapes (reference at number args) = Unit {0}
 HasPorts shapes (names at words) = Unit {0}
 HasPorts shapes (identity_of at width words) = Unit {0}

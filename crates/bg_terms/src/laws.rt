@@ -1,5 +1,5 @@
 //! Laws of expressions. A call does nothing.
-ghost use Rattle.std.specs.Prelude.{◌≡◌, ◌+◌, ◌++◌, ℕ, List, Ok};
+ghost use Rattle.std.specs.Prelude.{◌≡◌, ◌≤◌, ◌+◌, ◌++◌, ◌∷◌, [], ℕ, List, length, None, Ok};
 ghost use Rattle.bg_base.specs.declared.big.Big.{Big};
 ghost use Rattle.bg_lists.specs.Lists.{Mem};
 ghost use Rattle.bg_base.specs.declared.labels.Value.{Value};
@@ -10,6 +10,11 @@ ghost use Rattle.bg_terms.specs.Expressions.{Expression};
 ghost use Rattle.bg_terms.specs.declared.shape.Shape.{Shape};
 ghost use Rattle.bg_terms.specs.Expansion.{Meaning, expand, meanings_of, HasNoReference};
 ghost use Rattle.bg_terms.specs.Closures.{StandsBehind, IsEvaluatedAt};
+ghost use Rattle.bg_syntax.specs.declared.tree.expressions.SynE.{SynE};
+ghost use Rattle.bg_values.specs.Names.{Entry, number_of};
+ghost use Rattle.bg_terms.specs.declared.shape.ControlEntry.{ControlEntry};
+ghost use Rattle.bg_terms.specs.Read.{AreControls, shapes_of, IsRead, RefersBelow};
+ghost use Rattle.bg_terms.specs.Trees.{Visible, e_read};
 ghost use Rattle.bg_terms.specs.Shapes.{AreShapes, HasPorts, AreOfShapes, FitsShapes};
 ghost use Rattle.bg_terms.specs.Terms as terms;
 ghost use Rattle.bg_terms.specs.Terms.{Term};
@@ -71,6 +76,50 @@ pub fn values_of_expressions_fit_the_visible_controls()
         → (depth : ℕ) (before after : Reached) (big : Big) → IsSignature before.signature → AreOfShapes shapes before.signature
         → value depth (expand shapes (meanings_of shapes definitions) env expression) before ≡ Ok (big, after)
         → FitsShapes shapes after.signature big }
+{}
+
+/// The expression that a tree is has at each control symbol as many names as its control has ports: of the controls that
+/// were visible, and of more behind them.
+pub fn expressions_of_trees_have_their_ports()
+    ensures at_once { (tree : SynE) (visible : Visible) (expression : Expression) → (e_read tree).1 visible ≡ Ok expression
+        → HasPorts (shapes_of visible.controls) expression }
+    ensures later { (shapes others : List Shape) (expression : Expression) → HasPorts shapes expression → HasPorts (shapes ++ others) expression }
+    ensures read { (shapes : List Shape) (expression : Expression) → IsRead shapes expression → HasPorts shapes expression }
+{}
+
+/// A control whose word is not in the table, with an arity of at most 16, may become visible: no word stands for two.
+pub fn controls_become_visible_one_by_one()
+    ensures none { AreControls [] }
+    ensures more { (controls : List (Entry ControlEntry)) (word : List ℕ) (entry : ControlEntry) → AreControls controls
+        → number_of word controls ≡ None → entry.shape.word ≡ word → entry.shape.arity ≤ 16 → AreControls (controls ++ (word, entry) ∷ []) }
+    ensures shapes { (controls : List (Entry ControlEntry)) → AreControls controls → AreShapes (shapes_of controls) }
+{}
+
+/// Where no visible control has an arity above 16 and no word stands for two, and an expression and the definitions before it
+/// were each read from a tree under the first ones of these controls: what the expression comes to is valid under the
+/// signature reached, and the controls of that signature are visible controls with some arguments, if those before were.
+pub fn values_of_trees_fit_the_visible_controls()
+    ensures { (shapes : List Shape) → AreShapes shapes
+        → (definitions : List Expression) → ((e : Expression) → Mem e definitions → IsRead shapes e)
+        → (env : List Value) (expression : Expression) → IsRead shapes expression
+        → (depth : ℕ) (before after : Reached) (big : Big) → IsSignature before.signature → AreOfShapes shapes before.signature
+        → value depth (expand shapes (meanings_of shapes definitions) env expression) before ≡ Ok (big, after)
+        → FitsShapes shapes after.signature big }
+{}
+
+/// Controls and definitions that follow those which are there leave an expression its term, where its control symbols are of
+/// controls that are there and its references to definitions that are there. Those of the expression of a tree are.
+pub fn expressions_keep_their_terms()
+    ensures controls { (shapes others : List Shape) (definitions : List Expression) → ((e : Expression) → Mem e definitions → HasPorts shapes e)
+        → (env : List Value) (expression : Expression) → HasPorts shapes expression
+        → expand (shapes ++ others) (meanings_of (shapes ++ others) definitions) env expression
+        ≡ expand shapes (meanings_of shapes definitions) env expression }
+    ensures definitions { (shapes : List Shape) (definitions others : List Expression) (env : List Value) (expression : Expression)
+        → RefersBelow (length definitions) expression
+        → expand shapes (meanings_of shapes (definitions ++ others)) env expression
+        ≡ expand shapes (meanings_of shapes definitions) env expression }
+    ensures references { (tree : SynE) (visible : Visible) (expression : Expression) → (e_read tree).1 visible ≡ Ok expression
+        → RefersBelow (length visible.bigraphs) expression }
 {}
 
 /// An expression without references expands to one term, whatever bigraphs are defined.

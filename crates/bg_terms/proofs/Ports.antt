@@ -1,0 +1,103 @@
+-- The control symbols of expressions that are trees have as many names as their controls have ports.
+use Rattle.std.proofs.Common.{◌≡◌, ◌++◌, ℕ, List, Option, Some, None, Ok, refl, sym, ap, subst, ◌∙◌, slice_get}
+use Rattle.std.specs.Prelude.{IfOk, option_map}
+use Rattle.std.proofs.lemmas.Option.{slice_get-map}
+use Rattle.bg_lists.specs.Lists.{Mem}
+use Rattle.bg_lists.proofs.Places.{At-slice_get, slice_get-At, At-append_left}
+use Rattle.bg_base.specs.declared.big.Big.{Big}
+use Rattle.bg_base.specs.declared.labels.Value.{Value}
+use Rattle.bg_base.specs.Signatures.{IsSignature}
+use Rattle.bg_syntax.specs.declared.tree.expressions.SynE.{SynE}
+use Rattle.bg_values.specs.Names.{Entry, number_of, entry_at, look_up}
+use Rattle.bg_values.specs.Scopes.{spelling}
+use Rattle.bg_terms.specs.declared.shape.ControlEntry.{ControlEntry}
+use Rattle.bg_terms.specs.declared.shape.Shape.{Shape}
+use Rattle.bg_terms.specs.Expansion.{expand, meanings_of}
+use Rattle.bg_terms.specs.Expressions.{Expression, node, reference, names, identity_of, merger_of, one, nothing, brackets, deeper, closure, nesting, product}
+use Rattle.bg_terms.specs.Read.{shapes_of, IsRead}
+use Rattle.bg_terms.specs.Shapes.{AreShapes, HasPorts, AreOfShapes, FitsShapes}
+use Rattle.bg_terms.specs.Trees.{Visible, e_read}
+use Rattle.bg_terms.specs.Values.{Reached, value}
+use Rattle.bg_terms.proofs.Claims.{IsKept, tree_says}
+use Rattle.bg_terms.proofs.ShapesFit.{fits}
+
+-- ---- names of a table
+
+-- what a name was found to stand for, stands at its number
+pub entry_there : {T : Type 0} (entries : List (Entry T)) (found : Option ℕ) (number : ℕ) (x : T) → entry_at entries found ≡ Some (number, x)
+    → option_map (λ (e : Entry T). e.1) (slice_get entries number) ≡ Some x
+entry_there {T} entries None number x is = absurd cc
+entry_there {T} entries (Some n) number x is = by (slice_get entries n) refl is
+  where
+    by : (o : Option (Entry T)) → slice_get entries n ≡ o → option_map {U = ℕ × T} (λ (e : Entry T). (n, e.1)) o ≡ Some (number, x)
+        → option_map (λ (e : Entry T). e.1) (slice_get entries number) ≡ Some x
+    by None stands made = absurd cc
+    by (Some e) stands made =
+        let pair : (n, e.1) ≡ (number, x) = cc in
+        let number_is : n ≡ number = ap (λ (p : ℕ × T). p.0) pair in
+        let x_is : e.1 ≡ x = ap (λ (p : ℕ × T). p.1) pair in
+        ap (λ k. option_map (λ (e : Entry T). e.1) (slice_get entries k)) (sym number_is) ∙ ap (option_map (λ (e : Entry T). e.1)) stands ∙ ap Some x_is
+
+shape_there : (controls : List (Entry ControlEntry)) (word : List ℕ) (number : ℕ) (entry : ControlEntry)
+    → look_up word controls ≡ Some (number, entry) → slice_get (shapes_of controls) number ≡ Some entry.shape
+shape_there controls word number entry is =
+    slice_get-map (λ (control : Entry ControlEntry). control.1.shape) controls number
+    ∙ by (slice_get controls number) (entry_there controls (number_of word controls) number entry is)
+  where
+    by : (o : Option (Entry ControlEntry)) → option_map (λ (e : Entry ControlEntry). e.1) o ≡ Some entry
+        → option_map (λ (control : Entry ControlEntry). control.1.shape) o ≡ Some entry.shape
+    by None made = absurd cc
+    by (Some e) made = let same : e.1 ≡ entry = cc in ap (λ (x : ControlEntry). Some x.shape) same
+
+-- ---- trees
+
+ports_kept : (visible : Visible) → IsKept visible (HasPorts (shapes_of visible.controls))
+ports_kept visible = record {
+  of_node = λ at number entry args words is same. (entry.shape, shape_there visible.controls (spelling visible.scope at) number entry is, same);
+  of_reference = λ at number formals args is. tt;
+  of_names = λ at words. tt;
+  of_identity = λ at width words. tt;
+  of_merger = λ at width. tt;
+  of_one = λ at. tt;
+  of_nothing = λ at. tt;
+  in_brackets = λ at e p. p;
+  in_deeper = λ at e p. p;
+  in_closure = λ at word e p. p;
+  in_nesting = λ at is_atom e d p q. (p, q);
+  in_product = λ kind at e d p q. (p, q);
+}
+
+pub ports_read : (tree : SynE) (visible : Visible) (e : Expression) → (e_read tree).1 visible ≡ Ok e → HasPorts (shapes_of visible.controls) e
+ports_read tree visible e is =
+    subst (λ r. IfOk r (HasPorts (shapes_of visible.controls))) is (tree_says visible (HasPorts (shapes_of visible.controls)) (ports_kept visible) tree)
+
+-- ---- more controls behind those that are visible
+
+pub HasPorts-more : (shapes others : List Shape) (e : Expression) → HasPorts shapes e → HasPorts (shapes ++ others) e
+HasPorts-more shapes others (node at number args ports) has =
+    (has.0, slice_get-At (shapes ++ others) (At-append_left shapes others (At-slice_get number shapes has.1)), has.2)
+HasPorts-more shapes others (reference at number args) has = tt
+HasPorts-more shapes others (names at words) has = tt
+HasPorts-more shapes others (identity_of at width words) has = tt
+HasPorts-more shapes others (merger_of at width) has = tt
+HasPorts-more shapes others (one at) has = tt
+HasPorts-more shapes others (nothing at) has = tt
+HasPorts-more shapes others (brackets at e) has = HasPorts-more shapes others e has
+HasPorts-more shapes others (deeper at e) has = HasPorts-more shapes others e has
+HasPorts-more shapes others (closure at word e) has = HasPorts-more shapes others e has
+HasPorts-more shapes others (nesting at is_atom e d) has = (HasPorts-more shapes others e has.0, HasPorts-more shapes others d has.1)
+HasPorts-more shapes others (product kind at e d) has = (HasPorts-more shapes others e has.0, HasPorts-more shapes others d has.1)
+
+pub IsRead-has_ports : (shapes : List Shape) (e : Expression) → IsRead shapes e → HasPorts shapes e
+IsRead-has_ports shapes e read =
+    subst (λ s. HasPorts s e) (sym read.begins)
+    (HasPorts-more (shapes_of read.visible.controls) read.later e (ports_read read.tree read.visible e read.is))
+
+pub read_fits : (shapes : List Shape) → AreShapes shapes
+    → (definitions : List Expression) → ((e : Expression) → Mem e definitions → IsRead shapes e)
+    → (env : List Value) (e : Expression) → IsRead shapes e
+    → (depth : ℕ) (before after : Reached) (big : Big) → IsSignature before.signature → AreOfShapes shapes before.signature
+    → value depth (expand shapes (meanings_of shapes definitions) env e) before ≡ Ok (big, after)
+    → FitsShapes shapes after.signature big
+read_fits shapes are definitions are_read env e is_read =
+    fits shapes are definitions (λ d m. IsRead-has_ports shapes d (are_read d m)) env e (IsRead-has_ports shapes e is_read)

@@ -1,0 +1,42 @@
+-- Expressions that were read from trees, while more and more controls became visible.
+use Rattle.std.specs.Prelude.{◌≡◌, ◌≤◌, ◌<◌, ℕ, List, ◌++◌, map, Ok}
+use Rattle.bg_lists.specs.Lists.{Mem}
+use Rattle.bg_syntax.specs.declared.tree.expressions.SynE.{SynE}
+use Rattle.bg_values.specs.Names.{Entry}
+use Rattle.bg_terms.specs.declared.shape.ControlEntry.{ControlEntry}
+use Rattle.bg_terms.specs.declared.shape.Shape.{Shape}
+use Rattle.bg_terms.specs.Expressions.{Expression, node, reference, names, identity_of, merger_of, one, nothing, brackets, deeper, closure, nesting, product}
+use Rattle.bg_terms.specs.Trees.{Visible, e_read}
+
+-- the shapes of controls
+abbrev pub shapes_of : List (Entry ControlEntry) → List Shape
+shapes_of controls = map (λ (control : Entry ControlEntry). control.1.shape) controls
+
+-- the expression is what a tree says where the controls were visible that these shapes begin with
+pub record IsRead (shapes : List Shape) (expression : Expression) : Type 0 where
+  pub tree : SynE
+  pub visible : Visible
+  pub is : (e_read tree).1 visible ≡ Ok expression
+  pub later : List Shape
+  pub begins : shapes ≡ shapes_of visible.controls ++ later
+
+-- the controls of a table: each is found by its word, no arity is above 16, and no word stands for two
+pub record AreControls (controls : List (Entry ControlEntry)) : Type 0 where
+  pub named : (control : Entry ControlEntry) → Mem control controls → control.1.shape.word ≡ control.0
+  pub small : (control : Entry ControlEntry) → Mem control controls → control.1.shape.arity ≤ 16
+  pub once : (x y : Entry ControlEntry) → Mem x controls → Mem y controls → x.0 ≡ y.0 → x ≡ y
+
+-- each reference is to one of the first definitions, so many
+abbrev pub RefersBelow : ℕ → Expression → Type 0
+RefersBelow count (node at number args ports) = Unit {0}
+RefersBelow count (reference at number args) = number < count
+RefersBelow count (names at words) = Unit {0}
+RefersBelow count (identity_of at width words) = Unit {0}
+RefersBelow count (merger_of at width) = Unit {0}
+RefersBelow count (one at) = Unit {0}
+RefersBelow count (nothing at) = Unit {0}
+RefersBelow count (brackets at e) = RefersBelow count e
+RefersBelow count (deeper at e) = RefersBelow count e
+RefersBelow count (closure at word e) = RefersBelow count e
+RefersBelow count (nesting at is_atom e d) = RefersBelow count e × RefersBelow count d
+RefersBelow count (product kind at e d) = RefersBelow count e × RefersBelow count d
