@@ -4,7 +4,7 @@ ghost use Rattle.bg_code.specs.Code.{code_of};
 ghost use Rattle.bg_machine.specs.Calls as definition;
 ghost use Rattle.bg_terms.specs.declared.shape.Shape.{Shape as ShapeValue};
 ghost use Rattle.bg_terms.specs.Expansion.{expand, meanings_of};
-ghost use Rattle.bg_terms.specs.Shapes.{shapes_of};
+ghost use Rattle.bg_terms.specs.Read.{shapes_of};
 ghost use Rattle.bg_terms.specs.Expressions.{Expression};
 ghost use Rattle.bg_values.specs.Outcome.{Gives};
 

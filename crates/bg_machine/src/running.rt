@@ -1,7 +1,7 @@
 //! A run of the machine.
 ghost use Rattle.std.specs.Prelude.{◌≡◌, ◌≤◌, ◌<◌, All, length, slice_get, option_copied};
 ghost use Rattle.bg_machine.specs.Machine as definition;
-ghost use Rattle.bg_terms.specs.Shapes.{shapes_of};
+ghost use Rattle.bg_terms.specs.Read.{shapes_of};
 ghost use Rattle.bg_terms.specs.declared.shape.Shape.{Shape as ShapeValue};
 ghost use Rattle.bg_values.specs.Outcome.{Goes};
 

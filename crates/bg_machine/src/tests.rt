@@ -1,5 +1,5 @@
 ghost use Rattle.std.specs.Prelude.{◌≡◌, ◌≤◌, All, IfOk};
-ghost use Rattle.bg_terms.specs.Shapes.{shapes_of};
+ghost use Rattle.bg_terms.specs.Read.{shapes_of};
 ghost use Rattle.bg_terms.specs.declared.shape.Shape.{Shape as ShapeValue};
 
 use super::*;

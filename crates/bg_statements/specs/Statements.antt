@@ -13,7 +13,7 @@ use Rattle.bg_syntax.specs.declared.tree.statements.SynParam.{SynParam}
 use Rattle.bg_terms.specs.declared.shape.Shape.{Shape}
 use Rattle.bg_terms.specs.Expansion.{control_of, expand, meanings_of}
 use Rattle.bg_terms.specs.Expressions.{Expression}
-use Rattle.bg_terms.specs.Shapes.{shapes_of}
+use Rattle.bg_terms.specs.Read.{shapes_of}
 use Rattle.bg_terms.specs.Trees.{word_at, e_read}
 use Rattle.bg_terms.specs.Values.{entered}
 use Rattle.bg_values.specs.declared.refusal.Refusal.{Refusal}

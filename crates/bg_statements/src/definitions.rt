@@ -24,7 +24,7 @@ impl Model for Definitions {
     ghost use Rattle.std.specs.Prelude.{◌≤◌, All};
     ghost use Rattle.bg_statements.specs.Calls.{Kept};
     ghost use Rattle.bg_terms.specs.declared.shape.Shape.{Shape as ShapeValue};
-    ghost use Rattle.bg_terms.specs.Shapes.{shapes_of};
+    ghost use Rattle.bg_terms.specs.Read.{shapes_of};
 
     ghost Value = { Kept };
 

@@ -8,7 +8,7 @@ use Rattle.bg_terms.specs.declared.shape.Shape.{Shape}
 use Rattle.bg_terms.specs.Expressions.{Expression, node, reference, names, identity_of, merger_of, one, nothing, brackets, deeper, closure, nesting, product}
 use Rattle.bg_terms.specs.Trees.{Visible, e_read}
 
--- the shapes of controls
+-- the shapes of the controls of a table, in their order
 abbrev pub shapes_of : List (Entry ControlEntry) → List Shape
 shapes_of controls = map (λ (control : Entry ControlEntry). control.1.shape) controls
 

@@ -1,20 +1,14 @@
 -- What visible controls and an expression are to have, so that values fit the signature reached.
-use Rattle.std.specs.Prelude.{◌≡◌, ◌≤◌, List, Some, length, map, slice_get}
+use Rattle.std.specs.Prelude.{◌≡◌, ◌≤◌, List, Some, length, slice_get}
 use Rattle.bg_lists.specs.Lists.{Mem}
 use Rattle.bg_base.specs.declared.big.Big.{Big}
 use Rattle.bg_base.specs.declared.labels.Value.{Value}
 use Rattle.bg_base.specs.declared.signature.Control.{Control}
 use Rattle.bg_base.specs.Bigraph.{IsValidUnder}
 use Rattle.bg_base.specs.Signatures.{IsSignature}
-use Rattle.bg_values.specs.Names.{Entry}
-use Rattle.bg_terms.specs.declared.shape.ControlEntry.{ControlEntry}
 use Rattle.bg_terms.specs.declared.shape.Shape.{Shape}
 use Rattle.bg_terms.specs.Expansion.{control_of}
 use Rattle.bg_terms.specs.Expressions.{Expression, node, reference, names, identity_of, merger_of, one, nothing, brackets, deeper, closure, nesting, product}
-
--- the shapes of the controls of a table, in their order
-abbrev pub shapes_of : List (Entry ControlEntry) → List Shape
-shapes_of controls = map (λ (e : Entry ControlEntry). e.1.shape) controls
 
 -- no arity is above 16, and no word stands for two controls
 pub record AreShapes (shapes : List Shape) : Type 0 where

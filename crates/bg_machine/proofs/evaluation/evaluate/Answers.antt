@@ -1,7 +1,7 @@
 use Rattle.std.proofs.Common.{rules, ◌≡◌, Ok, subst, ap, ◌∙◌, sym}
 use Rattle.bg_machine.specs.Machine.{run, running_of}
 use Rattle.bg_machine.proofs.Endings.{fresh, ended, stopped}
-use Rattle.bg_terms.specs.Shapes.{shapes_of}
+use Rattle.bg_terms.specs.Read.{shapes_of}
 use Rattle.bg_values.specs.Outcome.{Gives, Stops}
 use Rattle.bg_machine.proofs.evaluation.evaluate.Goals as goal
 

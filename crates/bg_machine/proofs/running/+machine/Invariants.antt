@@ -1,6 +1,6 @@
 use Rattle.std.proofs.Common.{◌≡◌, ◌+◌, ◌*◌, length, drop}
 use Rattle.bg_machine.specs.Machine as definition
-use Rattle.bg_terms.specs.Shapes.{shapes_of}
+use Rattle.bg_terms.specs.Read.{shapes_of}
 use Rattle.bg_machine.proofs.running.+machine.Given as goal
 
 abbrev pub decreases-call : goal.decreases-call
