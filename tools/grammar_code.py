@@ -61,14 +61,11 @@ def write_types():
     for topic, about, _ in TOPICS:
         lines, used = [], set()
         for s in symbols_of(topic):
-            if is_list(s):
-                lines += type_lines(s, f'Syn{s}Item', item_ways(s), f'An item of `{rule(s)}`')
-            else:
-                lines += type_lines(s, f'Syn{s}', WAYS[s], f'`{rule(s)}`')
+            lines += type_lines(s, type_name(s), ways_of(s), f'An item of `{rule(s)}`' if is_list(s) else f'`{rule(s)}`')
             used |= {p for w in WAYS[s] for p in w if is_symbol(p) and topic_of(p) != topic}
         uses = {}
         for p in sorted(used, key=SYMBOL_NUMBER.get):
-            uses.setdefault(topic_of(p), []).append(f'Syn{p}Item' if is_list(p) else f'Syn{p}')
+            uses.setdefault(topic_of(p), []).append(type_name(p))
         head = [f'use crate::tree::{t}::{{{", ".join(sorted(names))}}};' for t, names in sorted(uses.items())]
         rust(f'src/tree/{topic}.rt', about, '\n'.join(head + lines))
 
@@ -140,21 +137,23 @@ def write_plan():
 
 def cycle_types(s):
     """The types of the symbol's cycle in the order of its folds: enums by name, then structs by name."""
-    names = []
-    for t in CYCLE[s]:
-        ways = item_ways(t) if is_list(t) else WAYS[t]
-        names.append((len(ways) == 1, f'Syn{t}Item' if is_list(t) else f'Syn{t}', t))
+    names = [(not many(t), type_name(t), t) for t in CYCLE[s]]
     return [(name, t, single) for single, name, t in sorted(names)]
+
+
+def type_name(s):
+    """The name of the symbol's type; of a list that of an item's."""
+    return f'Syn{s}Item' if is_list(s) else f'Syn{s}'
 
 
 def module_of(s):
     """The generated module of the symbol's type; a cycle's is that of its first enum."""
-    name = cycle_types(s)[0][0] if s in CYCLE else (f'Syn{s}Item' if is_list(s) else f'Syn{s}')
+    name = cycle_types(s)[0][0] if s in CYCLE else type_name(s)
     return f'Rattle.bg_syntax.specs.declared.tree.{topic_of(s)}.{name}'
 
 
 def type_module(s):
-    name = f'Syn{s}Item' if is_list(s) else f'Syn{s}'
+    name = type_name(s)
     return f'Rattle.bg_syntax.specs.declared.tree.{topic_of(s)}.{name}', name
 
 
@@ -185,60 +184,90 @@ def steps_term(s, i, way, names, read):
 
 def variant_name(s, i):
     """The name of a variant's layer: bare where no other enum of the cycle has one of that name."""
-    owners = [t for _, t, single in cycle_types(s) if not single and len(item_ways(t) if is_list(t) else WAYS[t]) > i]
-    return f'Way{i + 1}' if len(owners) == 1 else f'Syn{s}{"Item" if is_list(s) else ""}::Way{i + 1}'
+    owners = [t for _, t, single in cycle_types(s) if not single and len(ways_of(t)) > i]
+    return f'Way{i + 1}' if len(owners) == 1 else f'{type_name(s)}::Way{i + 1}'
+
+
+class Uses:
+    """What a file imports, in the order in which it is asked for."""
+
+    def __init__(self):
+        self.modules = {}
+
+    def add(self, module, name):
+        """Imports a name of a module; without a name the module itself, of the variants of an enum."""
+        names = self.modules.setdefault(module, [])
+        if name not in names:
+            names.append(name)
+
+    def lines(self):
+        found = []
+        for module, names in self.modules.items():
+            if names == [None]:
+                found.append(f'use {module} as {snake(re.sub("^Syn|Item$", "", module.split(".")[-2]))}_ways')
+            else:
+                found.append(f'use {module}.{{{", ".join(names)}}}')
+        return found
+
+
+def part_names(way):
+    return [f'part{i + 1}' for i in range(len(way))]
+
+
+def record_case(s, x):
+    """The one case of a struct, which is x."""
+    way = ways_of(s)[0]
+    return x, 0, way, [f'{x}.{name}' for name in part_names(way)]
+
+
+def cases(s):
+    """Of each alternative of the symbol's type: its pattern, its number, its parts and their names."""
+    if not many(s):
+        return [record_case(s, 'x')]
+    return [(f'({" ".join([f"{snake(s)}_ways.Way{i + 1}"] + part_names(w))})', i, w, part_names(w)) for i, w in enumerate(ways_of(s))]
+
+
+def layer_cases(s, uses, x='x'):
+    """The same of a layer of a type in a cycle; each variant is imported when its case is asked for."""
+    if not many(s):
+        yield record_case(s, x)
+        return
+    for i, w in enumerate(ways_of(s)):
+        uses.add(f'{module_of(s)}.TheOpen.{type_name(s)}-F', f'{variant_name(s, i)} as {snake(s)}_{i + 1}')
+        yield f'({" ".join([f"{snake(s)}_{i + 1}"] + part_names(w))})', i, w, part_names(w)
 
 
 def write_steps():
     for topic, about, _ in TOPICS:
-        lines, uses = [], {}
-
-        def use(module, name):
-            uses.setdefault(module, [])
-            if name not in uses[module]:
-                uses[module].append(name)
+        lines, uses, done = [], Uses(), set()
 
         def steps_of(p):
             if topic_of(p) != topic:
-                use(f'Rattle.bg_syntax.specs.{topic_of(p).capitalize()}Steps', steps_name(p))
+                uses.add(f'Rattle.bg_syntax.specs.{topic_of(p).capitalize()}Steps', steps_name(p))
             return steps_name(p)
 
-        done = set()
+        def read(p, value, d):
+            return f'{steps_of(p)} {value}{".items" if is_list(p) else ""} {d}'
+
         for s in ordered(topic):
             if s in CYCLE:
                 if s not in done:
-                    lines += cycle_steps(s, use, steps_of)
+                    lines += cycle_steps(s, uses, read)
                     done |= CYCLE[s]
                 continue
             module, name = type_module(s)
-            use(module, name)
-            ways = item_ways(s) if is_list(s) else WAYS[s]
+            uses.add(module, name)
             lines += ['', f'-- {rule(s)}', f'unfoldable pub {item_name(s)} : {name} → Steps']
-
-            def read(p, value, d):
-                return f'{steps_of(p)} {value}{".items" if is_list(p) else ""} {d}'
-
-            if len(ways) == 1:
-                names = [f'x.part{i + 1}' for i in range(len(ways[0]))]
-                lines.append(f'{item_name(s)} x d = {steps_term(s, 0, ways[0], names, read)}')
-            else:
-                for i, w in enumerate(ways):
-                    names = [f'part{j + 1}' for j in range(len(w))]
-                    pattern = ' '.join([f'{snake(s)}_ways.Way{i + 1}'] + names)
-                    lines.append(f'{item_name(s)} ({pattern}) d = {steps_term(s, i, w, names, read)}')
-                use(f'{module}.TheVariants', None)
+            for pattern, i, w, names in cases(s):
+                lines.append(f'{item_name(s)} {pattern} d = {steps_term(s, i, w, names, read)}')
+            if many(s):
+                uses.add(f'{module}.TheVariants', None)
             if is_list(s):
                 lines += list_steps(s, name)
         head = ['use Rattle.std.specs.Prelude.{ℕ, ◌+◌, List, [], ◌∷◌, ◌++◌, map}', 'use Rattle.bg_text.specs.declared.token.TokenKind.TheVariants as kinds',
                 'use Rattle.bg_syntax.specs.declared.symbol.Symbol.TheVariants as symbols', 'use Rattle.bg_grammar.specs.Grammar.{Step}',
                 'use Rattle.bg_syntax.specs.Steps.{Steps, opens, takes, in_turn}']
-        for module, names in uses.items():
-            if names == [None]:
-                owner = module.split('.')[-2]
-                head.append(f'use {module} as {snake(re.sub("^Syn|Item$", "", owner))}_ways')
-            else:
-                head.append(f'use {module}.{{{", ".join(n for n in names if n)}}}')
-        antt(f'specs/{topic.capitalize()}Steps.antt', f'The steps of trees: {topic}.', '\n'.join(head + lines))
+        antt(f'specs/{topic.capitalize()}Steps.antt', f'The steps of trees: {topic}.', '\n'.join(head + uses.lines() + lines))
 
 
 def list_steps(s, name):
@@ -246,33 +275,26 @@ def list_steps(s, name):
             f'{steps_name(s)} items = in_turn (opens symbols.{s} {len(WAYS[s]) - 1}) (map {item_name(s)} items)']
 
 
-def cycle_steps(first, use, steps_of):
+def cycle_steps(first, uses, read):
     types = cycle_types(first)
     module = module_of(first)
     results = ' '.join(['Steps'] * len(types))
     layers = ' '.join(layer_name(t) for _, t, _ in types)
     lines = ['', '-- the types of this cycle are read by folds; a layer has the steps of its parts in place of the parts']
+
+    def part(p, value, d):
+        if p in CYCLE[first]:
+            return f'in_turn (opens symbols.{p} {len(WAYS[p]) - 1}) {value}.items {d}' if is_list(p) else f'{value}.value {d}'
+        return read(p, value, d)
+
     for name, t, single in types:
-        ways = item_ways(t) if is_list(t) else WAYS[t]
-        use(f'{module}.TheOpen', f'{name}-F')
+        uses.add(f'{module}.TheOpen', f'{name}-F')
         lines += ['', f'-- {rule(t)}', f'abbrev pub {layer_name(t)} : {name}-F {results} → Steps']
-
-        def read(p, value, d):
-            if p in CYCLE[first]:
-                return f'in_turn (opens symbols.{p} {len(WAYS[p]) - 1}) {value}.items {d}' if is_list(p) else f'{value}.value {d}'
-            return f'{steps_of(p)} {value}{".items" if is_list(p) else ""} {d}'
-
-        if single:
-            names = [f'x.part{i + 1}' for i in range(len(ways[0]))]
-            lines.append(f'{layer_name(t)} x d = {steps_term(t, 0, ways[0], names, read)}')
-        else:
-            for i, w in enumerate(ways):
-                names = [f'part{j + 1}' for j in range(len(w))]
-                use(f'{module}.TheOpen.{name}-F', f'{variant_name(t, i)} as {snake(t)}_{i + 1}')
-                lines.append(f'{layer_name(t)} ({" ".join([f"{snake(t)}_{i + 1}"] + names)}) d = {steps_term(t, i, w, names, read)}')
+        for pattern, i, w, names in layer_cases(t, uses):
+            lines.append(f'{layer_name(t)} {pattern} d = {steps_term(t, i, w, names, part)}')
     for name, t, single in types:
-        use(type_module(t)[0], name)
-        use(f'{module}.TheFolds', f'fold-{name}')
+        uses.add(type_module(t)[0], name)
+        uses.add(f'{module}.TheFolds', f'fold-{name}')
         lines += ['', f'unfoldable pub {item_name(t)} : {name} → Steps', f'{item_name(t)} = fold-{name} {results} {layers}']
     for name, t, single in types:
         if is_list(t):
@@ -397,7 +419,7 @@ def write_readers():
         lines, names = ['', "impl Reader<'_> {"], []
         for s in symbols_of(topic):
             lines += (read_list(s) if is_list(s) else read_symbol(s)) + ['']
-            names.append(f'Syn{s}Item' if is_list(s) else f'Syn{s}')
+            names.append(type_name(s))
         lines[-1] = '}'
         words = [n for s in symbols_of(topic) for n in ([item_name(s), steps_name(s)] if is_list(s) else [steps_name(s)])]
         head = ['ghost use Rattle.std.specs.Prelude.{◌+◌, ◌≤◌, [], ◌∷◌, length};',

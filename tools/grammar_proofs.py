@@ -184,7 +184,7 @@ def cycle_ranks(first):
                 called = [(f'{snake(s)}_item', s, True)]
             else:
                 called = []
-                for w in item_ways(s) if is_list(s) else WAYS[s]:
+                for w in ways_of(s):
                     for p in w:
                         if not is_symbol(p):
                             break
@@ -213,7 +213,7 @@ def cycle_answers(first):
             answers += item_answers(s, f'{name}_item') + loop_answers(s, name)
         else:
             answers += symbol_answers(s, name)
-        laws += [law_name(s, i) for i, _ in enumerate(item_ways(s) if is_list(s) else WAYS[s])]
+        laws += [law_name(s, i) for i, _ in enumerate(ways_of(s))]
     words = [n for s in cycle_members(first) for n in home(s)[0][1]]
     uses = [(home(first)[0][0], words), (f'Rattle.bg_syntax.proofs.{topic_of(first).capitalize()}Trees', laws)]
     proof_file(folder, 'Invariants', uses, lines)
@@ -242,17 +242,11 @@ def cycle_laws(first):
     layers = ' '.join(layer_name(t) for _, t, _ in types)
     opened = ' '.join(item_name(t) for _, t, _ in types) + ' ' + ' '.join(steps_name(t) for _, t, _ in types if is_list(t))
     lines = []
-    records = [t for _, t, single in types if single and all(not is_symbol(p) or p not in CYCLE[first] or many(p) for p in (item_ways(t) if is_list(t) else WAYS[t])[0])]
-    uses = {}
-
-    def use(m, name):
-        uses.setdefault(m, [])
-        if name not in uses[m]:
-            uses[m].append(name)
-
+    records = [t for _, t, single in types if single and all(not is_symbol(p) or p not in CYCLE[first] or many(p) for p in ways_of(t)[0])]
+    uses = Uses()
     for name, s, single in types:
-        ways = item_ways(s) if is_list(s) else WAYS[s]
-        use(type_module(s)[0], name)
+        ways = ways_of(s)
+        uses.add(type_module(s)[0], name)
         for i, w in enumerate(ways):
             binders, values, equations, terms, boxes = [], [], [], [], []
             for j, p in enumerate(w):
@@ -262,24 +256,23 @@ def cycle_laws(first):
                     values.append(v)
                     terms.append((p, v))
                 elif is_boxed(s, p):
-                    use(type_module(p)[0], f'Syn{p}')
+                    uses.add(type_module(p)[0], f'Syn{p}')
                     binders.append(f'(box{j + 1} : Box Syn{p} Global) ({v} : Syn{p})')
                     values.append(f'box{j + 1}')
                     equations.append(f'box{j + 1}.value ≡ {v}')
                     boxes.append((j, p))
                     terms.append((p, v))
                 else:
-                    type_name = f'Syn{p}Item' if is_list(p) else f'Syn{p}'
-                    use(type_module(p)[0], type_name)
-                    binders.append(f'({v} : Vec {type_name} Global)' if is_list(p) else f'({v} : {type_name})')
+                    uses.add(*type_module(p))
+                    binders.append(f'({v} : Vec {type_name(p)} Global)' if is_list(p) else f'({v} : {type_name(p)})')
                     values.append(v)
                     terms.append((p, v))
 
             def read(p, value, d):
                 if topic_of(p) != topic:
-                    use(f'Rattle.bg_syntax.specs.{topic_of(p).capitalize()}Steps', steps_name(p))
+                    uses.add(f'Rattle.bg_syntax.specs.{topic_of(p).capitalize()}Steps', steps_name(p))
                 else:
-                    use(f'Rattle.bg_syntax.specs.{topic.capitalize()}Steps', steps_name(p))
+                    uses.add(f'Rattle.bg_syntax.specs.{topic.capitalize()}Steps', steps_name(p))
                 return f'{steps_name(p)} {value}{".items" if is_list(p) else ""} {d}'
 
             names = [v for _, v in terms]
@@ -288,20 +281,20 @@ def cycle_laws(first):
                 if s in records:
                     value, start = f'({layer})', ''
                     law = f'fold_out-{name} {results} {layers} ({layer})'
-                    use(f'{module}.TheFolds', f'fold_out-{name}')
+                    uses.add(f'{module}.TheFolds', f'fold_out-{name}')
                 else:
                     value, start = f'(roll-{name} ({layer}))', ''
                     law = f'fold-roll-{name} {results} {layers} ({layer})'
-                    use(f'{module}.TheViews', f'roll-{name}')
-                    use(f'{module}.TheFolds', f'fold-roll-{name}')
+                    uses.add(f'{module}.TheViews', f'roll-{name}')
+                    uses.add(f'{module}.TheFolds', f'fold-roll-{name}')
             else:
                 arguments = ''.join(' ' + v for v in values)
                 value = f'({snake(s)}_ways.Way{i + 1}{arguments})'
                 start = f'ap (λ z. {item_name(s)} z d) (sym {f"({snake(s)}_ways.rolls-Way{i + 1}{arguments})" if values else f"{snake(s)}_ways.rolls-Way{i + 1}"}) ∙ '
-                use(f'{module}.TheOpen.{name}-F', f'{variant_name(s, i)} as {snake(s)}_{i + 1}')
+                uses.add(f'{module}.TheOpen.{name}-F', f'{variant_name(s, i)} as {snake(s)}_{i + 1}')
                 law = f'fold-roll-{name} {results} {layers} ' + (f'({snake(s)}_{i + 1}{arguments})' if values else f'{snake(s)}_{i + 1}')
-                use(f'{module}.TheFolds', f'fold-roll-{name}')
-                use(f'{type_module(s)[0]}.TheVariants', None)
+                uses.add(f'{module}.TheFolds', f'fold-roll-{name}')
+                uses.add(f'{type_module(s)[0]}.TheVariants', None)
             right = steps_term(s, i, w, names, read)
             end = ''
             for n, (j, p) in enumerate(boxes):
@@ -309,25 +302,15 @@ def cycle_laws(first):
                 now = [f'box{k + 1}.value' if (k, w[k]) in boxes[n + 1:] else ('z' if k == j else v) for k, v in enumerate(names)]
                 end += f' ∙ ap (λ z. {steps_term(s, i, w, now, read)}) e{j + 1}'
             head = ' '.join([law_name(s, i)] + [b.replace('(', '').replace(')', '').split(' : ')[0] for b in re.findall(r'\([^()]*\)', ' '.join(binders))] + ['d'] + [f'e{j + 1}' for j, _ in boxes])
-            use(f'Rattle.bg_syntax.specs.{topic.capitalize()}Steps', item_name(s))
-            use(f'Rattle.bg_syntax.specs.{topic.capitalize()}Steps', layer_name(s))
+            uses.add(f'Rattle.bg_syntax.specs.{topic.capitalize()}Steps', item_name(s))
+            uses.add(f'Rattle.bg_syntax.specs.{topic.capitalize()}Steps', layer_name(s))
             if is_list(s):
-                use(f'Rattle.bg_syntax.specs.{topic.capitalize()}Steps', steps_name(s))
+                uses.add(f'Rattle.bg_syntax.specs.{topic.capitalize()}Steps', steps_name(s))
             lines += ['', f'pub {law_name(s, i)} : {" ".join(binders)}{" " if binders else ""}(d : ℕ) → {"".join(e + " → " for e in equations)}{item_name(s)} {value} d ≡ {right}',
                       f'unfolding {opened}', f'{head} = {start}ap (λ z. z d) ({law}){end}']
     head = ['use Rattle.std.proofs.Common.{◌≡◌, ℕ, ◌+◌, List, [], ◌∷◌, ◌++◌, Vec, Box, Global, refl, sym, ap, ◌∙◌}', 'use Rattle.bg_text.specs.declared.token.TokenKind.TheVariants as kinds',
             'use Rattle.bg_syntax.specs.declared.symbol.Symbol.TheVariants as symbols', 'use Rattle.bg_syntax.specs.Steps.{Steps, opens, takes, in_turn}']
-    for m, names in uses.items():
-        if names == [None]:
-            head.append(f'use {m} as {snake(re.sub("^Syn|Item$", "", m.split(".")[-2]))}_ways')
-        else:
-            head.append(f'use {m}.{{{", ".join(names)}}}')
-    antt(f'proofs/{topic.capitalize()}Trees.antt', f'The steps of trees of a cycle of types: {topic}.', '\n'.join(head + lines))
-
-
-def many(p):
-    """Whether the type is an enum."""
-    return len(item_ways(p) if is_list(p) else WAYS[p]) > 1
+    antt(f'proofs/{topic.capitalize()}Trees.antt', f'The steps of trees of a cycle of types: {topic}.', '\n'.join(head + uses.lines() + lines))
 
 
 def write():

@@ -124,6 +124,16 @@ def item_ways(s):
     return [w[:-1] for w in WAYS[s] if w]
 
 
+def ways_of(s):
+    """The alternatives of the symbol's type; of a list those of an item."""
+    return item_ways(s) if is_list(s) else WAYS[s]
+
+
+def many(s):
+    """Whether the symbol's type is an enum."""
+    return len(ways_of(s)) > 1
+
+
 def leads_to(s):
     found, todo = set(), [s]
     while todo:

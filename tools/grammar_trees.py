@@ -1,7 +1,5 @@
 """Writes the derivation trees that the typed trees are, and the proofs that they have the same steps: see grammar.py."""
 
-import re
-
 from grammar_code import *
 
 PRELUDE = 'use Rattle.std.specs.Prelude.{ℕ, List, [], ◌∷◌, map}'
@@ -20,10 +18,6 @@ def tree_layer(s):
     return f'{snake(s)}_item_tree_layer' if is_list(s) else f'{snake(s)}_tree_layer'
 
 
-def ways_of(s):
-    return item_ways(s) if is_list(s) else WAYS[s]
-
-
 def growth(s):
     return 'ItemGrowth' if is_list(s) else 'Growth'
 
@@ -38,25 +32,6 @@ def tree_term(s, i, way, names, read):
     for p, name in list(zip(way, names))[::-1]:
         term = f'({read(p, name)} {term})' if is_symbol(p) else f'(token kinds.{KIND[p]} {name} {term})'
     return f'node symbols.{s} {i} {term} behind'
-
-
-class Uses:
-    def __init__(self):
-        self.modules = {}
-
-    def add(self, module, name):
-        names = self.modules.setdefault(module, [])
-        if name not in names:
-            names.append(name)
-
-    def lines(self):
-        found = []
-        for module, names in self.modules.items():
-            if names == [None]:
-                found.append(f'use {module} as {snake(re.sub("^Syn|Item$", "", module.split(".")[-2]))}_ways')
-            else:
-                found.append(f'use {module}.{{{", ".join(names)}}}')
-        return found
 
 
 # ---- the definitions
@@ -82,15 +57,10 @@ def write_trees():
             module, name = type_module(s)
             uses.add(module, name)
             lines += ['', f'-- {rule(s)}', f'unfoldable pub {item_tree(s)} : {name} → {growth(s)}']
-            if len(ways_of(s)) == 1:
-                names = [f'x.part{i + 1}' for i in range(len(ways_of(s)[0]))]
-                lines.append(f'{item_tree(s)} x {arguments(s)} = {tree_term(s, 0, ways_of(s)[0], names, read)}')
-            else:
+            if many(s):
                 uses.add(f'{module}.TheVariants', None)
-                for i, w in enumerate(ways_of(s)):
-                    names = [f'part{j + 1}' for j in range(len(w))]
-                    pattern = ' '.join([f'{snake(s)}_ways.Way{i + 1}'] + names)
-                    lines.append(f'{item_tree(s)} ({pattern}) {arguments(s)} = {tree_term(s, i, w, names, read)}')
+            for pattern, i, w, names in cases(s):
+                lines.append(f'{item_tree(s)} {pattern} {arguments(s)} = {tree_term(s, i, w, names, read)}')
             if is_list(s):
                 lines += list_tree(s, name)
         head = [PRELUDE] + NAMES + ['use Rattle.bg_grammar.specs.Trees.{no_tree}', 'use Rattle.bg_syntax.specs.Trees.{Growth, ItemGrowth, token, node, nested}']
@@ -120,14 +90,8 @@ def cycle_trees(first, uses, read):
     for name, t, single in types:
         uses.add(f'{module}.TheOpen', f'{name}-F')
         lines += ['', f'-- {rule(t)}', f'abbrev pub {tree_layer(t)} : {name}-F {cycle_results(first)} → {growth(t)}']
-        if single:
-            names = [f'x.part{i + 1}' for i in range(len(ways_of(t)[0]))]
-            lines.append(f'{tree_layer(t)} x {arguments(t)} = {tree_term(t, 0, ways_of(t)[0], names, part)}')
-        else:
-            for i, w in enumerate(ways_of(t)):
-                names = [f'part{j + 1}' for j in range(len(w))]
-                uses.add(f'{module}.TheOpen.{name}-F', f'{variant_name(t, i)} as {snake(t)}_{i + 1}')
-                lines.append(f'{tree_layer(t)} ({" ".join([f"{snake(t)}_{i + 1}"] + names)}) {arguments(t)} = {tree_term(t, i, w, names, part)}')
+        for pattern, i, w, names in layer_cases(t, uses):
+            lines.append(f'{tree_layer(t)} {pattern} {arguments(t)} = {tree_term(t, i, w, names, part)}')
     for name, t, single in types:
         uses.add(type_module(t)[0], name)
         uses.add(f'{module}.TheFolds', f'fold-{name}')
@@ -199,15 +163,10 @@ def write_rows():
             uses.add(f'Rattle.bg_syntax.specs.{topic.capitalize()}Steps', item_name(s))
             uses.add(f'Rattle.bg_syntax.specs.{topic.capitalize()}Trees', item_tree(s))
             lines += ['', f'pub {item_row(s)} : (x : {name}) → {claim(s, "x")}', f'unfolding {GRAMMAR_WORDS} {item_name(s)} {item_tree(s)}']
-            if len(ways_of(s)) == 1:
-                names = [f'x.part{i + 1}' for i in range(len(ways_of(s)[0]))]
-                lines.append(f'{item_row(s)} x = {row_term(s, 0, ways_of(s)[0], names, row)}')
-            else:
+            if many(s):
                 uses.add(f'{module}.TheVariants', None)
-                for i, w in enumerate(ways_of(s)):
-                    names = [f'part{j + 1}' for j in range(len(w))]
-                    pattern = ' '.join([f'{snake(s)}_ways.Way{i + 1}'] + names)
-                    lines.append(f'{item_row(s)} ({pattern}) = {row_term(s, i, w, names, row)}')
+            for pattern, i, w, names in cases(s):
+                lines.append(f'{item_row(s)} {pattern} = {row_term(s, i, w, names, row)}')
             if is_list(s):
                 lines += list_row(s, name, uses, topic)
         head = ['use Rattle.std.proofs.Common.{◌≡◌, ℕ, List, [], ◌∷◌, map, refl, sym, ap, subst, ◌∙◌}'] + NAMES + [
@@ -262,21 +221,13 @@ def cycle_rows(first, uses, row):
         bare = f'{snake(t)}_layer_of'
         lines += ['', f'abbrev {bare} : {name}-F {pairs} → {name}-F {plain}', f'{bare} = map-{name} {pairs} {plain} {firsts}']
 
-        def clause(pattern, value, i, w, names):
-            mapped = f'({bare} {value})'
-            return (f'{snake(t)}_grown {pattern} = {same} (fold-roll-{name} {steps_results} {steps_layers} {mapped}) (fold-roll-{name} {cycle_results(first)} {tree_layers} {mapped}) '
-                    f'({row_term(t, i, w, names, part)})')
-
         lines += ['', f'{snake(t)}_grown : (y : {name}-F {pairs}) → {name}Row (roll-{name} ({bare} y))', f'unfolding {GRAMMAR_WORDS} {opened}']
-        if single:
-            names = [f'y.part{i + 1}' for i in range(len(ways_of(t)[0]))]
-            lines.append(clause('y', 'y', 0, ways_of(t)[0], names))
-        else:
-            for i, w in enumerate(ways_of(t)):
-                names = [f'part{j + 1}' for j in range(len(w))]
-                uses.add(f'{module}.TheOpen.{name}-F', f'{variant_name(t, i)} as {snake(t)}_{i + 1}')
-                value = f'({" ".join([f"{snake(t)}_{i + 1}"] + names)})' if names else f'{snake(t)}_{i + 1}'
-                lines.append(clause(value, value, i, w, names))
+        for pattern, i, w, names in layer_cases(t, uses, 'y'):
+            y = pattern if names else pattern.strip('()')
+            mapped = f'({bare} {y})'
+            lines.append(
+                f'{snake(t)}_grown {y} = {same} (fold-roll-{name} {steps_results} {steps_layers} {mapped}) (fold-roll-{name} {cycle_results(first)} {tree_layers} {mapped}) '
+                f'({row_term(t, i, w, names, part)})')
     motives = ' '.join(f'{name}Row' for name, _, _ in types)
     cases = ' '.join(f'(λ x y is. subst (λ z. {name}Row (roll-{name} z)) is ({snake(t)}_grown y))' for name, t, _ in types)
     for name, t, single in types:

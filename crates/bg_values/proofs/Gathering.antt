@@ -11,10 +11,8 @@ use Rattle.bg_values.specs.declared.refusal.Stop.TheVariants as stops
 use Rattle.bg_values.specs.Outcome.{◌>>=◌, Stops}
 use Rattle.bg_values.specs.Operands.{Operand, operand_read, operands_read, trees_of, shown, coded, AreCodesOf, each}
 use Rattle.bg_values.specs.Scopes.{ScopeParts}
+use Rattle.bg_values.proofs.Bindings.{ok_same}
 use Rattle.bg_values.proofs.Items.{item_and_others}
-
-ok_same : {A : Type 0} {x y : A} → ◌≡◌ {A = Result A Refusal} (Ok x) (Ok y) → x ≡ y
-ok_same is = cc
 
 -- one more formula
 pub codes_more : (done : List Operand) (codes new : List Code) (f : Operand) (code : Code)

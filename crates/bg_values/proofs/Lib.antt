@@ -1,3 +1,4 @@
+pub mod Bindings
 pub mod Runs
 mod Words
 pub mod Items

@@ -12,19 +12,11 @@ use Rattle.bg_values.specs.Arithmetic.{Formula, whole, words, name, negation, op
 use Rattle.bg_values.specs.Machine.{code_of, run, step, top, put}
 use Rattle.bg_values.specs.declared.refusal.Stop.TheVariants as refusals
 use Rattle.bg_values.specs.Outcome.{◌>>=◌, there_or, Stops}
+use Rattle.bg_values.proofs.Bindings.{bind_assoc, bind_same}
 
 -- the value on top of the stack
 abbrev onto : Result Value Refusal → List Value → Result (List Value) Refusal
 onto r stack = r >>= λ v. Ok (v ∷ stack)
-
-bind_assoc : {A B C : Type 0} → (r : Result A Refusal) (f : A → Result B Refusal) (g : B → Result C Refusal)
-    → (r >>= f) >>= g ≡ r >>= (λ x. f x >>= g)
-bind_assoc (Ok x) f g = refl
-bind_assoc (Err e) f g = refl
-
-bind_same : {A B : Type 0} → (r : Result A Refusal) (f g : A → Result B Refusal) → ((x : A) → f x ≡ g x) → r >>= f ≡ r >>= g
-bind_same (Ok x) f g same = same x
-bind_same (Err e) f g same = refl
 
 pub run_append : (env : List Value) (xs ys : List Step) (stack : List Value)
     → run env (xs ++ ys) stack ≡ run env xs stack >>= run env ys

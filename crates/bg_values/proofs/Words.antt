@@ -1,5 +1,6 @@
 -- Names found in a map with their bytes as keys.
-use Rattle.std.proofs.Common.{◌≡◌, ◌+◌, ℕ, suc, cond, not, nat_lt, Option, Some, None, nat_eq, Vec, Global, List, [], ◌∷◌, map, length, refl, sym, ap, ◌∙◌, Bool, false, is_some, ◌++◌}
+use Rattle.std.proofs.Common.{◌≡◌, ◌+◌, ℕ, cond, not, nat_lt, Option, Some, None, nat_eq, Vec, Global, List, [], ◌∷◌, map, length, refl, sym, ap, ◌∙◌, Bool, false, is_some, ◌++◌}
+use Rattle.std.proofs.lemmas.List.{length-map, map-append}
 use Rattle.std.specs.Prelude.{position}
 use Rattle.std.specs.List.{prefix_len, position_or_len}
 use Rattle.std.specs.Cmp.Lexicographic.{pointwise}
@@ -12,14 +13,10 @@ module _ {A B : Type 0} (test : B → Bool) (f : A → B) where
   prefix_of_map [] = refl
   prefix_of_map (x ∷ xs) = ap (λ n. cond (not (test (f x))) (1 + n) 0) (prefix_of_map xs)
 
-  length_of_map : (xs : List A) → length xs ≡ length (map f xs)
-  length_of_map [] = refl
-  length_of_map (x ∷ xs) = ap suc (length_of_map xs)
-
   pub found_by_words : (xs : List A) → position (λ x. test (f x)) xs ≡ position test (map f xs)
   found_by_words xs =
       ap (λ n. cond (nat_lt n (length xs)) (Some n) None) (prefix_of_map xs)
-      ∙ ap (λ m. cond (nat_lt (position_or_len test (map f xs)) m) (Some (position_or_len test (map f xs))) None) (length_of_map xs)
+      ∙ ap (λ m. cond (nat_lt (position_or_len test (map f xs)) m) (Some (position_or_len test (map f xs))) None) (sym (length-map xs f))
 
 is_none : {X : Type 0} (found : Option X) → is_some found ≡ false → found ≡ None
 is_none None is = refl
@@ -45,10 +42,6 @@ module _ {T : Type 0} where
       → result ≡ number_of word entries
   found_number word es entries result is same = is ∙ found_in word es ∙ ap (number_of word) same
 
-  shown_last : (es : List (Vec ℕ Global × T)) (e : Vec ℕ Global × T) → map shown (es ++ e ∷ []) ≡ map shown es ++ shown e ∷ []
-  shown_last [] e = refl
-  shown_last (x ∷ es) e = ap (λ xs. shown x ∷ xs) (shown_last es e)
-
   -- a word that is not there goes last
   pub added_last : {S : Type 0} (m : IndexMap (Vec ℕ Global) T S) (word : List ℕ) (key : Vec ℕ Global) (value : T) (entries : List (Entry T))
       (result : Option ℕ) (new : List (Vec ℕ Global × T))
@@ -59,6 +52,6 @@ module _ {T : Type 0} where
       let absent : get (λ a b. pointwise nat_eq a.items b.items) m key ≡ None =
       is_none _ (ap (λ w. is_some (get_by (λ k. pointwise nat_eq w k.items) m)) same ∙ sym found ∙ ap is_some none) in
       ap (map shown) (made ∙ insert_entry-new (λ a b. pointwise nat_eq a.items b.items) m key value absent)
-      ∙ shown_last m.entries (key, value)
+      ∙ map-append shown m.entries ((key, value) ∷ [])
       ∙ ap (λ es. es ++ (key.items, value) ∷ []) old
       ∙ ap (λ w. entries ++ (w, value) ∷ []) same
