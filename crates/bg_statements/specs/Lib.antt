@@ -1,3 +1,4 @@
 pub mod Defined
 pub mod Statements
 pub mod Calls
+pub mod Sound

@@ -1,12 +1,14 @@
 //! The statements of a model: what each defines behind those before it, or its first refusal.
 //!
 //! - [`Definitions`]: what the statements so far define: controls, bigraphs, parameters, and the signature reached.
+//! - [`laws`]: definitions stay sound, and what expressions come to is valid.
 //! - [`Definitions::add_control`], [`Definitions::add_bigraph`], [`Definitions::add_parameter`]: one statement.
 #![tactic(auto)]
 
 mod bigraphs;
 mod controls;
 mod definitions;
+pub mod laws;
 mod names;
 mod parameters;
 

@@ -92,7 +92,7 @@ still_fits signature more big fits =
 
 -- ---- a control symbol
 
-abbrev Within : (controls all : List Control) → Type 0
+abbrev pub Within : (controls all : List Control) → Type 0
 Within controls all = (x : Control) → Mem x controls → Mem x all
 
 at_member : (controls : List Control) (number : ℕ) (control : Control) → slice_get controls number ≡ Some control → Mem control controls
@@ -100,10 +100,10 @@ at_member [] number control is = absurd cc
 at_member (c ∷ cs) zero control is = here cc
 at_member (c ∷ cs) (suc number) control is = there (at_member cs number control is)
 
-record Entry (all : List Control) (control : Control) (number : ℕ) (after : List Control) : Type 0 where
-  is_there : slice_get after number ≡ Some control
-  kept : IsSignature after
-  inside : Within after all
+pub record Entry (all : List Control) (control : Control) (number : ℕ) (after : List Control) : Type 0 where
+  pub is_there : slice_get after number ≡ Some control
+  pub kept : IsSignature after
+  pub inside : Within after all
 
 -- the answer at a control that is new, where there is room or not
 abbrev last_where : Bool → List Control → Control → Refusal → Result (ℕ × List Control) Refusal
@@ -130,7 +130,7 @@ entry_last all control old number after kept small inside member new true room r
     last_one x (here is) = subst (λ y. Mem y all) is member
     last_one x (there m) = elim m [ ]
 
-enters : (all : List Control) (at : ℕ) (control : Control) (old : List Control) (number : ℕ) (after : List Control) → AreOneByLabel all
+pub enters : (all : List Control) (at : ℕ) (control : Control) (old : List Control) (number : ℕ) (after : List Control) → AreOneByLabel all
     → IsSignature old → control.arity ≤ 16 → Within old all → Mem control all → entered at control old ≡ Ok (number, after)
     → Entry all control number after
 enters all at control old number after one kept small inside member is = by (number_of old control.label) refl is

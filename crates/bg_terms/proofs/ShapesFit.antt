@@ -17,8 +17,8 @@ use Rattle.bg_terms.specs.Order.{controls_of}
 use Rattle.bg_terms.specs.Shapes.{AreShapes, HasPorts, IsOfShapes, AreOfShapes, FitsShapes}
 use Rattle.bg_terms.specs.Terms as terms
 use Rattle.bg_terms.specs.Terms.{Term}
-use Rattle.bg_terms.specs.Values.{Reached, value}
-use Rattle.bg_terms.proofs.Fitting.{fitting}
+use Rattle.bg_terms.specs.Values.{Reached, entered, value}
+use Rattle.bg_terms.proofs.Fitting.{enters, fitting}
 
 -- the term has the arities of its controls, which are the shapes with some arguments
 pub record Shaped (shapes : List Shape) (t : Term) : Type 0 where
@@ -134,6 +134,20 @@ module _ (shapes : List Shape) (are : AreShapes shapes) where
       sym (ap (λ (c : Control). c.label) a.is) ∙ same ∙ ap (λ (c : Control). c.label) b.is in
       let shape_is = are.once a.shape b.shape a.among b.among (ap (λ (l : Label). l.name) labels) in
       a.is ∙ ap (λ s. control_of s a.args) shape_is ∙ ap (control_of b.shape) (ap (λ (l : Label). l.args) labels) ∙ sym b.is
+
+  -- a control of the shapes that enters the signature
+  pub entered_fits : (at : ℕ) (shape : Shape) (args : List Value) (before after : List Control) (number : ℕ) → Mem shape shapes → IsSignature before
+      → AreOfShapes shapes before → entered at (control_of shape args) before ≡ Ok (number, after) → IsSignature after × AreOfShapes shapes after
+  entered_fits at shape args before after number among kept of_shapes is =
+      let all = before ++ control_of shape args ∷ [] in
+      let all_shaped : AreOfShapes shapes all = λ control m. elim (Mem-append_cases before (control_of shape args ∷ []) m) [ inl l ↦ of_shapes control l | inr r ↦ last control r ] in
+      let entry = enters all at (control_of shape args) before number after (one_by_label all all_shaped) kept (are.small shape among)
+      (λ x m. Mem-append_left before (control_of shape args ∷ []) m) (Mem-append_right before (control_of shape args ∷ []) (here refl)) is in
+      (entry.kept, λ control m. all_shaped control (entry.inside control m))
+    where
+      last : (control : Control) → Mem control (control_of shape args ∷ []) → IsOfShapes shapes control
+      last control (here same) = record { shape = shape; args = args; among = among; is = sym same }
+      last control (there m) = elim m [ ]
 
   pub fits : (definitions : List Expression) → ((e : Expression) → Mem e definitions → HasPorts shapes e)
       → (env : List Value) (e : Expression) → HasPorts shapes e

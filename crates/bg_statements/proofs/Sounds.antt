@@ -1,0 +1,230 @@
+-- What statements define stays sound.
+use Rattle.std.proofs.Common.{◌≡◌, ◌≤◌, ◌++◌, ◌∷◌, [], inl, inr, ℕ, zero, suc, Bool, true, false, List, map, length, Option, Some, None, Result, Ok, Err, append-nil, refl, sym, ap, subst, ◌∙◌, is_some, arith}
+use Rattle.std.specs.Prelude.{nat_abs, nat_lt}
+use Rattle.std.proofs.lemmas.Bool.Decides.{nat_tests}
+use Rattle.std.proofs.lemmas.List.{map-append, append_assoc}
+use Rattle.bg_base.specs.declared.big.Big.{Big}
+use Rattle.bg_base.specs.declared.labels.Value.{Value}
+use Rattle.bg_base.specs.declared.signature.Control.{Control}
+use Rattle.bg_base.specs.declared.signature.Kind.{Kind}
+use Rattle.bg_base.specs.Signatures.{IsSignature}
+use Rattle.bg_lists.specs.Lists.{Mem, here, there}
+use Rattle.bg_lists.proofs.Members.{Mem-append_left, Mem-append_right, Mem-append_cases}
+use Rattle.bg_machine.specs.Calls.{evaluated}
+use Rattle.bg_statements.specs.Defined.{Defined, visible_with}
+use Rattle.bg_statements.specs.Sound.{IsSound, nothing}
+use Rattle.bg_statements.specs.Statements.{new_word, formal_tokens, formals_behind, arity_at, entered_at_once, with_shape, with_control, tried, with_expression, with_bigraph, with_parameter}
+use Rattle.bg_syntax.specs.declared.tree.expressions.SynE.{SynE}
+use Rattle.bg_syntax.specs.declared.tree.statements.SynBigraph.{SynBigraph}
+use Rattle.bg_syntax.specs.declared.tree.statements.SynControl.{SynControl}
+use Rattle.bg_syntax.specs.declared.tree.statements.SynParam.{SynParam}
+use Rattle.bg_terms.specs.declared.shape.ControlEntry.{ControlEntry}
+use Rattle.bg_terms.specs.declared.shape.Shape.{Shape}
+use Rattle.bg_terms.specs.Expansion.{control_of, expand, meanings_of}
+use Rattle.bg_terms.specs.Expressions.{Expression}
+use Rattle.bg_terms.specs.Read.{AreControls, IsRead, shapes_of}
+use Rattle.bg_terms.specs.Shapes.{AreShapes, IsOfShapes, AreOfShapes, FitsShapes}
+use Rattle.bg_terms.specs.Trees.{Visible, word_at, e_read}
+use Rattle.bg_terms.specs.Values.{Reached, entered, value}
+use Rattle.bg_terms.proofs.Controls.{controls_none, controls_more, controls_shapes}
+use Rattle.bg_terms.proofs.Numbered.{bound, ok_same, tested, untested}
+use Rattle.bg_terms.proofs.Ports.{read_fits}
+use Rattle.bg_terms.proofs.ShapesFit.{entered_fits}
+use Rattle.bg_values.specs.declared.refusal.Refusal.{Refusal}
+use Rattle.bg_values.specs.Names.{Entry, number_of}
+use Rattle.bg_values.specs.Outcome.{◌>>=◌}
+use Rattle.bg_values.specs.Parameters.{parameter_values, name_token}
+use Rattle.bg_values.specs.Reading.{number_token, number_at}
+use Rattle.bg_values.specs.Scopes.{ScopeParts, spelling}
+
+pub nothing_sound : IsSound nothing
+nothing_sound = record { controls = controls_none; signature = signature_none; of_shapes = λ control m. elim m [ ]; read = λ e m. elim m [ ] }
+  where
+    signature_none : IsSignature []
+    signature_none = record { few = omega arith; arities = tt; labels_differ = tt }
+
+-- ---- what an Ok says of a name and of an arity
+
+record IsNew {T : Type 0} (text : ScopeParts) (entries : List (Entry T)) (token : ℕ) (word : List ℕ) : Type 0 where
+  spelled : spelling text token ≡ word
+  new : number_of word entries ≡ None
+
+none_there : {A B : Type 0} (o : Option A) (r : Result B Refusal) (e : Refusal) (y : B) → (if is_some o then Err e else r) ≡ Ok y → o ≡ None
+none_there (Some x) r e y is = absurd cc
+none_there None r e y is = refl
+
+is_new : {T : Type 0} (text : ScopeParts) (entries : List (Entry T)) (token : ℕ) (word : List ℕ) → new_word text entries token ≡ Ok word
+    → IsNew text entries token word
+is_new text entries token word is =
+    let same = ok_same (untested (is_some (number_of (spelling text token) entries)) (Ok (spelling text token)) _ word is) in
+    record {
+      spelled = same;
+      new = ap (λ w. number_of w entries) (sym same) ∙ none_there (number_of (spelling text token) entries) (Ok (spelling text token)) _ word is;
+    }
+
+word_spelled : (visible : Visible) (token : ℕ) (word : List ℕ) → word_at visible token ≡ Ok word → spelling visible.scope token ≡ word
+word_spelled visible token word is = ok_same (tested _ (Ok (spelling visible.scope token)) _ word is)
+
+at_most : (n : ℕ) (e : Refusal) (y : ℕ) → (if nat_lt 16 n then Err e else Ok n) ≡ Ok y → y ≤ 16
+at_most n e y = by (nat_lt 16 n) refl
+  where
+    by : (test : Bool) → nat_lt 16 n ≡ test → (if test then Err e else Ok n) ≡ Ok y → y ≤ 16
+    by true is_so made = absurd cc
+    by false is_so made = let same : n ≡ y = ok_same made in grind (arith, nat_tests)
+
+small_arity : (text : ScopeParts) (token arity : ℕ) → arity_at text token ≡ Ok arity → arity ≤ 16
+small_arity text token arity is =
+    let b = bound (number_at text token) (λ z. if nat_lt 16 (nat_abs z) then Err _ else Ok (nat_abs z)) arity is in at_most (nat_abs b.found) _ arity b.goes_on
+
+-- ---- controls
+
+-- what was of the shapes is of more
+more_shapes : (shapes others : List Shape) (controls : List Control) → AreOfShapes shapes controls → AreOfShapes (shapes ++ others) controls
+more_shapes shapes others controls are control m =
+    let one = are control m in
+    record { shape = one.shape; args = one.args; among = Mem-append_left shapes others one.among; is = one.is }
+
+read_under_more : (shapes others : List Shape) (e : Expression) → IsRead shapes e → IsRead (shapes ++ others) e
+read_under_more shapes others e read =
+    record {
+      tree = read.tree;
+      visible = read.visible;
+      is = read.is;
+      later = read.later ++ others;
+      begins = ap (λ ss. ss ++ others) read.begins ∙ append_assoc (shapes_of read.visible.controls) read.later others;
+    }
+
+-- one control more in the table
+module _ (controls : List (Entry ControlEntry)) (word : List ℕ) (entry : ControlEntry) where
+  abbrev longer : List (Entry ControlEntry)
+  longer = controls ++ (word, entry) ∷ []
+
+  more_by_one : shapes_of longer ≡ shapes_of controls ++ entry.shape ∷ []
+  more_by_one = map-append (λ (e : Entry ControlEntry). e.1.shape) controls ((word, entry) ∷ [])
+
+  still_of_shapes : (signature : List Control) → AreOfShapes (shapes_of controls) signature → AreOfShapes (shapes_of longer) signature
+  still_of_shapes signature are = subst (λ ss. AreOfShapes ss signature) (sym more_by_one) (more_shapes (shapes_of controls) (entry.shape ∷ []) signature are)
+
+  still_read : (e : Expression) → IsRead (shapes_of controls) e → IsRead (shapes_of longer) e
+  still_read e read = subst (λ ss. IsRead ss e) (sym more_by_one) (read_under_more (shapes_of controls) (entry.shape ∷ []) e read)
+
+  last_among : Mem entry.shape (shapes_of longer)
+  last_among = subst (Mem entry.shape) (sym more_by_one) (Mem-append_right (shapes_of controls) (entry.shape ∷ []) (here refl))
+
+-- what a control leaves of the definitions before it: only the signature grows
+record Entered (shapes : List Shape) (before after : Defined) : Type 0 where
+  controls_same : after.controls ≡ before.controls
+  expressions_same : after.expressions ≡ before.expressions
+  signature : IsSignature after.signature
+  of_shapes : AreOfShapes shapes after.signature
+
+entered_once : (shapes : List Shape) → AreShapes shapes → (at formals : ℕ) (shape : Shape) (before after : Defined) → Mem shape shapes
+    → IsSignature before.signature → AreOfShapes shapes before.signature → entered_at_once at formals shape before ≡ Ok after → Entered shapes before after
+entered_once shapes are at zero shape before after among kept of_shapes is =
+    let b = bound (entered at (control_of shape []) before.signature) (λ e. Ok (record before { signature = e.1 })) after is in
+    let so = entered_fits shapes are at shape [] before.signature b.found.1 b.found.0 among kept of_shapes b.is in
+    subst (Entered shapes before) (ok_same b.goes_on)
+    (record { controls_same = refl; expressions_same = refl; signature = so.0; of_shapes = so.1 })
+entered_once shapes are at (suc n) shape before after among kept of_shapes is =
+    subst (Entered shapes before) (ok_same is) (record { controls_same = refl; expressions_same = refl; signature = kept; of_shapes = of_shapes })
+
+module _ (before : Defined) (sound : IsSound before) (word : List ℕ) (none : number_of word before.controls ≡ None) where
+  shape_sound : (at formals : ℕ) (shape : Shape) → shape.word ≡ word → shape.arity ≤ 16 → (after : Defined)
+      → with_shape at word formals shape before ≡ Ok after → IsSound after
+  shape_sound at formals shape named small after is =
+      let entry : ControlEntry = record { formals = formals; shape = shape } in
+      let are = controls_more before.controls word entry sound.controls none named small in
+      let b = bound (entered_at_once at formals shape before) (λ (t : Defined). Ok (record t { controls = t.controls ++ (word, entry) ∷ [] })) after is in
+      let so = entered_once (shapes_of (longer before.controls word entry)) (controls_shapes (longer before.controls word entry) are) at formals shape before b.found
+      (last_among before.controls word entry) sound.signature (still_of_shapes before.controls word entry before.signature sound.of_shapes) b.is in
+      let same : before.controls ++ (word, entry) ∷ [] ≡ b.found.controls ++ (word, entry) ∷ [] = ap (λ cs. cs ++ (word, entry) ∷ []) (sym so.controls_same) in
+      subst IsSound (ok_same b.goes_on)
+      (record {
+        controls = subst AreControls same are;
+        signature = so.signature;
+        of_shapes = subst (λ cs. AreOfShapes (shapes_of cs) b.found.signature) same so.of_shapes;
+        read = λ e m. subst (λ cs. IsRead (shapes_of cs) e) same
+            (still_read before.controls word entry e (sound.read e (subst (Mem e) so.expressions_same m)));
+      })
+
+pub control_sound : (text : ScopeParts) (kind : Kind) (tree : SynControl) (before after : Defined) → IsSound before
+    → with_control text kind tree before ≡ Ok after → IsSound after
+control_sound text kind tree before after sound is =
+    let a = bound (new_word text before.controls tree.part1) _ after is in
+    let b = bound (word_at (visible_with text [] before) tree.part1) _ after a.goes_on in
+    let c = bound (formals_behind text [] (formal_tokens tree.part2)) _ after b.goes_on in
+    let d = bound (arity_at text (number_token tree.part4)) _ after c.goes_on in
+    let new = is_new text before.controls tree.part1 a.found a.is in
+    shape_sound before sound a.found new.new tree.part1 (length c.found) (record { word = b.found; arity = d.found; kind = kind })
+    (sym (word_spelled (visible_with text [] before) tree.part1 b.found b.is) ∙ new.spelled)
+    (small_arity text (number_token tree.part4) d.found d.is) after d.goes_on
+
+-- ---- bigraphs
+
+module _ (before : Defined) (sound : IsSound before) where
+  abbrev shapes : List Shape
+  shapes = shapes_of before.controls
+
+  -- what an expression comes to
+  pub value_fits : (e : Expression) → IsRead shapes e → (env : List Value) (depth nodes edges terms : ℕ) (big : Big) (after : Reached)
+      → value depth (expand shapes (meanings_of shapes before.expressions) env e) (record { signature = before.signature; nodes = nodes; edges = edges; terms = terms }) ≡ Ok (big, after)
+      → FitsShapes shapes after.signature big
+  value_fits e read env depth nodes edges terms big after is =
+      read_fits shapes (controls_shapes before.controls sound.controls) before.expressions sound.read env e read depth _ after big sound.signature sound.of_shapes is
+
+  tried_sound : (formals : ℕ) (e : Expression) (after : Defined) → IsRead shapes e → tried formals e before ≡ Ok after
+      → Entered shapes before after
+  tried_sound zero e after read is =
+      let b = bound (evaluated before.signature (expand shapes (meanings_of shapes before.expressions) [] e)) (λ v. Ok (record before { signature = v.1.signature })) after is in
+      let so = value_fits e read [] 0 0 0 0 b.found.0 b.found.1 b.is in
+      subst (Entered shapes before) (ok_same b.goes_on)
+      (record { controls_same = refl; expressions_same = refl; signature = so.kept; of_shapes = so.of_shapes })
+  tried_sound (suc n) e after read is =
+      subst (Entered shapes before) (ok_same is)
+      (record { controls_same = refl; expressions_same = refl; signature = sound.signature; of_shapes = sound.of_shapes })
+
+  expression_sound : (word : List ℕ) (formals : ℕ) (e : Expression) (after : Defined) → IsRead shapes e
+      → with_expression word formals e before ≡ Ok after → IsSound after
+  expression_sound word formals e after read is =
+      let b = bound (tried formals e before) (λ (t : Defined). Ok (record t { bigraphs = t.bigraphs ++ (word, formals) ∷ []; expressions = t.expressions ++ e ∷ [] })) after is in
+      let so = tried_sound formals e b.found read b.is in
+      let same = sym so.controls_same in
+      subst IsSound (ok_same b.goes_on)
+      (record {
+        controls = subst AreControls same sound.controls;
+        signature = so.signature;
+        of_shapes = subst (λ cs. AreOfShapes (shapes_of cs) b.found.signature) same so.of_shapes;
+        read = λ other m. subst (λ cs. IsRead (shapes_of cs) other) same
+            (elim (Mem-append_cases b.found.expressions (e ∷ []) m) [
+              | inl l ↦ sound.read other (subst (Mem other) so.expressions_same l)
+              | inr r ↦ only other r
+            ]);
+      })
+    where
+      only : (other : Expression) → Mem other (e ∷ []) → IsRead shapes other
+      only other (here same) = subst (IsRead shapes) same read
+      only other (there m) = elim m [ ]
+
+pub here_read : (before : Defined) (text : ScopeParts) (formals : List (Entry (Unit {0}))) (tree : SynE) (e : Expression)
+    → (e_read tree).1 (visible_with text formals before) ≡ Ok e → IsRead (shapes_of before.controls) e
+here_read before text formals tree e is =
+    record { tree = tree; visible = visible_with text formals before; is = is; later = []; begins = sym (append-nil (shapes_of before.controls)) }
+
+pub bigraph_sound : (text : ScopeParts) (tree : SynBigraph) (before after : Defined) → IsSound before
+    → with_bigraph text tree before ≡ Ok after → IsSound after
+bigraph_sound text tree before after sound is =
+    let a = bound (new_word text before.bigraphs tree.part1) _ after is in
+    let b = bound (formals_behind text [] (formal_tokens tree.part2)) _ after a.goes_on in
+    let c = bound ((e_read tree.part4).1 (visible_with text b.found before)) _ after b.goes_on in
+    expression_sound before sound a.found (length b.found) c.found after (here_read before text b.found tree.part4 c.found c.is) c.goes_on
+
+-- ---- parameters
+
+pub parameter_sound : (text : ScopeParts) (tree : SynParam) (before after : Defined) → IsSound before
+    → with_parameter text tree before ≡ Ok after → IsSound after
+parameter_sound text tree before after sound is =
+    let a = bound (new_word text before.parameters (name_token tree)) _ after is in
+    let b = bound (parameter_values text tree) (λ values. Ok (record before { parameters = before.parameters ++ (a.found, values) ∷ [] })) after a.goes_on in
+    subst IsSound (ok_same b.goes_on)
+    (record { controls = sound.controls; signature = sound.signature; of_shapes = sound.of_shapes; read = sound.read })
+
