@@ -88,6 +88,11 @@ pub record IsKept (visible : Visible) (P : Expression → Type 0) : Type 0 where
   pub in_nesting : (at : ℕ) (is_atom : Bool) (e d : Expression) → P e → P d → P (nesting at is_atom e d)
   pub in_product : (kind : Product) (at : ℕ) (e d : Expression) → P e → P d → P (product kind at e d)
 
+-- a type of trees by the types of their parts
+abbrev Layer : Type 1
+Layer =
+    Type 0 → Type 0 → Type 0 → Type 0 → Type 0 → Type 0 → Type 0 → Type 0 → Type 0 → Type 0 → Type 0 → Type 0 → Type 0
+
 module _ (visible : Visible) (P : Expression → Type 0) (kept : IsKept visible P) where
   -- what a tree says, what stands behind a dot, and what an item of a list says behind such an expression
   abbrev Says : (Visible → Result Expression Refusal) → Type 0
@@ -242,12 +247,20 @@ module _ (visible : Visible) (P : Expression → Type 0) (kept : IsKept visible 
   abbrev WithP1Item : Type 0
   WithP1Item = (x : SynP1Item) × OfP1Item x
 
-  abbrev a_bare : SynA-F WithA WithK WithN1 WithC WithC1Item WithE WithE1Item WithM WithM1Item WithN WithP WithP1Item → SynA-F SynA SynK SynN1 SynC SynC1Item SynE SynE1Item SynM SynM1Item SynN SynP SynP1Item
+  -- the types of trees whose parts have the claim, and of trees
+  abbrev With : Layer → Type 0
+  With F = F WithA WithK WithN1 WithC WithC1Item WithE WithE1Item WithM WithM1Item WithN WithP WithP1Item
+
+  abbrev Bare : Layer → Type 0
+  Bare F = F SynA SynK SynN1 SynC SynC1Item SynE SynE1Item SynM SynM1Item SynN SynP SynP1Item
+
+  abbrev a_bare : With SynA-F → Bare SynA-F
   a_bare =
-      map-SynA WithA WithK WithN1 WithC WithC1Item WithE WithE1Item WithM WithM1Item WithN WithP WithP1Item SynA SynK SynN1 SynC SynC1Item SynE SynE1Item SynM SynM1Item SynN SynP SynP1Item
+      map-SynA WithA WithK WithN1 WithC WithC1Item WithE WithE1Item WithM WithM1Item WithN WithP WithP1Item
+      SynA SynK SynN1 SynC SynC1Item SynE SynE1Item SynM SynM1Item SynN SynP SynP1Item
       (λ w. w.0) (λ w. w.0) (λ w. w.0) (λ w. w.0) (λ w. w.0) (λ w. w.0) (λ w. w.0) (λ w. w.0) (λ w. w.0) (λ w. w.0) (λ w. w.0) (λ w. w.0)
 
-  a_grows : (y : SynA-F WithA WithK WithN1 WithC WithC1Item WithE WithE1Item WithM WithM1Item WithN WithP WithP1Item) → OfA (roll-SynA (a_bare y))
+  a_grows : (y : With SynA-F) → OfA (roll-SynA (a_bare y))
   a_grows (a_1 upper args ports) = subst (λ r. Says r.1) (sym (a_made (a_bare (a_1 upper args ports)))) (node_says upper (arguments args) (ports_of ports))
   a_grows (a_2 ref) = subst (λ r. Says r.1) (sym (a_made (a_bare (a_2 ref)))) (reference_says ref.part1 (arguments ref.part2))
   a_grows (a_3 bracket list end) = subst (λ r. Says r.1) (sym (a_made (a_bare (a_3 bracket list end)))) (names_say bracket (listed_tokens list))
@@ -257,95 +270,109 @@ module _ (visible : Visible) (P : Expression → Type 0) (kept : IsKept visible 
   a_grows (a_7 at) = subst (λ r. Says r.1) (sym (a_made (a_bare (a_7 at)))) (kept.of_one at)
   a_grows (a_8 bracket e end) = subst (λ r. Says r.1) (sym (a_made (a_bare (a_8 bracket e end)))) (brackets_say bracket (e_read e.value.0) e.value.1)
 
-  abbrev k_bare : SynK-F WithA WithK WithN1 WithC WithC1Item WithE WithE1Item WithM WithM1Item WithN WithP WithP1Item → SynK-F SynA SynK SynN1 SynC SynC1Item SynE SynE1Item SynM SynM1Item SynN SynP SynP1Item
+  abbrev k_bare : With SynK-F → Bare SynK-F
   k_bare =
-      map-SynK WithA WithK WithN1 WithC WithC1Item WithE WithE1Item WithM WithM1Item WithN WithP WithP1Item SynA SynK SynN1 SynC SynC1Item SynE SynE1Item SynM SynM1Item SynN SynP SynP1Item
+      map-SynK WithA WithK WithN1 WithC WithC1Item WithE WithE1Item WithM WithM1Item WithN WithP WithP1Item
+      SynA SynK SynN1 SynC SynC1Item SynE SynE1Item SynM SynM1Item SynN SynP SynP1Item
       (λ w. w.0) (λ w. w.0) (λ w. w.0) (λ w. w.0) (λ w. w.0) (λ w. w.0) (λ w. w.0) (λ w. w.0) (λ w. w.0) (λ w. w.0) (λ w. w.0) (λ w. w.0)
 
-  k_grows : (y : SynK-F WithA WithK WithN1 WithC WithC1Item WithE WithE1Item WithM WithM1Item WithN WithP WithP1Item) → OfK (roll-SynK (k_bare y))
+  k_grows : (y : With SynK-F) → OfK (roll-SynK (k_bare y))
   k_grows (k_1 slash lower k) = subst (λ r. Says r.1) (sym (k_made (k_bare (k_1 slash lower k)))) (closure_says slash lower (k_read k.value.0) k.value.1)
   k_grows (k_2 n) = subst (λ r. Says r.1) (sym (k_made (k_bare (k_2 n)))) (deeper_says (n_read n.value.0) n.value.1)
 
-  abbrev n1_bare : SynN1-F WithA WithK WithN1 WithC WithC1Item WithE WithE1Item WithM WithM1Item WithN WithP WithP1Item → SynN1-F SynA SynK SynN1 SynC SynC1Item SynE SynE1Item SynM SynM1Item SynN SynP SynP1Item
+  abbrev n1_bare : With SynN1-F → Bare SynN1-F
   n1_bare =
-      map-SynN1 WithA WithK WithN1 WithC WithC1Item WithE WithE1Item WithM WithM1Item WithN WithP WithP1Item SynA SynK SynN1 SynC SynC1Item SynE SynE1Item SynM SynM1Item SynN SynP SynP1Item
+      map-SynN1 WithA WithK WithN1 WithC WithC1Item WithE WithE1Item WithM WithM1Item WithN WithP WithP1Item
+      SynA SynK SynN1 SynC SynC1Item SynE SynE1Item SynM SynM1Item SynN SynP SynP1Item
       (λ w. w.0) (λ w. w.0) (λ w. w.0) (λ w. w.0) (λ w. w.0) (λ w. w.0) (λ w. w.0) (λ w. w.0) (λ w. w.0) (λ w. w.0) (λ w. w.0) (λ w. w.0)
 
-  n1_grows : (y : SynN1-F WithA WithK WithN1 WithC WithC1Item WithE WithE1Item WithM WithM1Item WithN WithP WithP1Item) → OfN1 (roll-SynN1 (n1_bare y))
-  n1_grows (n1_1 dot k) = subst (SaysBehind) (sym (n1_made (n1_bare (n1_1 dot k)))) (k.value.1)
-  n1_grows n1_2 = subst (SaysBehind) (sym (n1_made (n1_bare n1_2))) (tt)
+  n1_grows : (y : With SynN1-F) → OfN1 (roll-SynN1 (n1_bare y))
+  n1_grows (n1_1 dot k) = subst SaysBehind (sym (n1_made (n1_bare (n1_1 dot k)))) k.value.1
+  n1_grows n1_2 = subst SaysBehind (sym (n1_made (n1_bare n1_2))) tt
 
-  abbrev c_bare : SynC-F WithA WithK WithN1 WithC WithC1Item WithE WithE1Item WithM WithM1Item WithN WithP WithP1Item → SynC-F SynA SynK SynN1 SynC SynC1Item SynE SynE1Item SynM SynM1Item SynN SynP SynP1Item
+  abbrev c_bare : With SynC-F → Bare SynC-F
   c_bare =
-      map-SynC WithA WithK WithN1 WithC WithC1Item WithE WithE1Item WithM WithM1Item WithN WithP WithP1Item SynA SynK SynN1 SynC SynC1Item SynE SynE1Item SynM SynM1Item SynN SynP SynP1Item
+      map-SynC WithA WithK WithN1 WithC WithC1Item WithE WithE1Item WithM WithM1Item WithN WithP WithP1Item
+      SynA SynK SynN1 SynC SynC1Item SynE SynE1Item SynM SynM1Item SynN SynP SynP1Item
       (λ w. w.0) (λ w. w.0) (λ w. w.0) (λ w. w.0) (λ w. w.0) (λ w. w.0) (λ w. w.0) (λ w. w.0) (λ w. w.0) (λ w. w.0) (λ w. w.0) (λ w. w.0)
 
-  c_grows : (y : SynC-F WithA WithK WithN1 WithC WithC1Item WithE WithE1Item WithM WithM1Item WithN WithP WithP1Item) → OfC (roll-SynC (c_bare y))
+  c_grows : (y : With SynC-F) → OfC (roll-SynC (c_bare y))
   c_grows y = subst (λ r. Says r.1) (sym (c_made (c_bare y))) (row_says (k_read y.part1.value.0) c1_item_read y.part2.items y.part1.value.1)
 
-  abbrev c1_item_bare : SynC1Item-F WithA WithK WithN1 WithC WithC1Item WithE WithE1Item WithM WithM1Item WithN WithP WithP1Item → SynC1Item-F SynA SynK SynN1 SynC SynC1Item SynE SynE1Item SynM SynM1Item SynN SynP SynP1Item
+  abbrev c1_item_bare : With SynC1Item-F → Bare SynC1Item-F
   c1_item_bare =
-      map-SynC1Item WithA WithK WithN1 WithC WithC1Item WithE WithE1Item WithM WithM1Item WithN WithP WithP1Item SynA SynK SynN1 SynC SynC1Item SynE SynE1Item SynM SynM1Item SynN SynP SynP1Item
+      map-SynC1Item WithA WithK WithN1 WithC WithC1Item WithE WithE1Item WithM WithM1Item WithN WithP WithP1Item
+      SynA SynK SynN1 SynC SynC1Item SynE SynE1Item SynM SynM1Item SynN SynP SynP1Item
       (λ w. w.0) (λ w. w.0) (λ w. w.0) (λ w. w.0) (λ w. w.0) (λ w. w.0) (λ w. w.0) (λ w. w.0) (λ w. w.0) (λ w. w.0) (λ w. w.0) (λ w. w.0)
 
-  c1_item_grows : (y : SynC1Item-F WithA WithK WithN1 WithC WithC1Item WithE WithE1Item WithM WithM1Item WithN WithP WithP1Item) → OfC1Item (roll-SynC1Item (c1_item_bare y))
-  c1_item_grows y = subst (Keeps) (sym (c1_item_made (c1_item_bare y))) (joined_says Composition y.part1 (k_read y.part2.value.0) y.part2.value.1)
+  c1_item_grows : (y : With SynC1Item-F) → OfC1Item (roll-SynC1Item (c1_item_bare y))
+  c1_item_grows y = subst Keeps (sym (c1_item_made (c1_item_bare y))) (joined_says Composition y.part1 (k_read y.part2.value.0) y.part2.value.1)
 
-  abbrev e_bare : SynE-F WithA WithK WithN1 WithC WithC1Item WithE WithE1Item WithM WithM1Item WithN WithP WithP1Item → SynE-F SynA SynK SynN1 SynC SynC1Item SynE SynE1Item SynM SynM1Item SynN SynP SynP1Item
+  abbrev e_bare : With SynE-F → Bare SynE-F
   e_bare =
-      map-SynE WithA WithK WithN1 WithC WithC1Item WithE WithE1Item WithM WithM1Item WithN WithP WithP1Item SynA SynK SynN1 SynC SynC1Item SynE SynE1Item SynM SynM1Item SynN SynP SynP1Item
+      map-SynE WithA WithK WithN1 WithC WithC1Item WithE WithE1Item WithM WithM1Item WithN WithP WithP1Item
+      SynA SynK SynN1 SynC SynC1Item SynE SynE1Item SynM SynM1Item SynN SynP SynP1Item
       (λ w. w.0) (λ w. w.0) (λ w. w.0) (λ w. w.0) (λ w. w.0) (λ w. w.0) (λ w. w.0) (λ w. w.0) (λ w. w.0) (λ w. w.0) (λ w. w.0) (λ w. w.0)
 
-  e_grows : (y : SynE-F WithA WithK WithN1 WithC WithC1Item WithE WithE1Item WithM WithM1Item WithN WithP WithP1Item) → OfE (roll-SynE (e_bare y))
+  e_grows : (y : With SynE-F) → OfE (roll-SynE (e_bare y))
   e_grows y = subst (λ r. Says r.1) (sym (e_made (e_bare y))) (row_says (p_read y.part1.value.0) e1_item_read y.part2.items y.part1.value.1)
 
-  abbrev e1_item_bare : SynE1Item-F WithA WithK WithN1 WithC WithC1Item WithE WithE1Item WithM WithM1Item WithN WithP WithP1Item → SynE1Item-F SynA SynK SynN1 SynC SynC1Item SynE SynE1Item SynM SynM1Item SynN SynP SynP1Item
+  abbrev e1_item_bare : With SynE1Item-F → Bare SynE1Item-F
   e1_item_bare =
-      map-SynE1Item WithA WithK WithN1 WithC WithC1Item WithE WithE1Item WithM WithM1Item WithN WithP WithP1Item SynA SynK SynN1 SynC SynC1Item SynE SynE1Item SynM SynM1Item SynN SynP SynP1Item
+      map-SynE1Item WithA WithK WithN1 WithC WithC1Item WithE WithE1Item WithM WithM1Item WithN WithP WithP1Item
+      SynA SynK SynN1 SynC SynC1Item SynE SynE1Item SynM SynM1Item SynN SynP SynP1Item
       (λ w. w.0) (λ w. w.0) (λ w. w.0) (λ w. w.0) (λ w. w.0) (λ w. w.0) (λ w. w.0) (λ w. w.0) (λ w. w.0) (λ w. w.0) (λ w. w.0) (λ w. w.0)
 
-  e1_item_grows : (y : SynE1Item-F WithA WithK WithN1 WithC WithC1Item WithE WithE1Item WithM WithM1Item WithN WithP WithP1Item) → OfE1Item (roll-SynE1Item (e1_item_bare y))
-  e1_item_grows y = subst (Keeps) (sym (e1_item_made (e1_item_bare y))) (joined_says Tensor y.part1 (p_read y.part2.value.0) y.part2.value.1)
+  e1_item_grows : (y : With SynE1Item-F) → OfE1Item (roll-SynE1Item (e1_item_bare y))
+  e1_item_grows y = subst Keeps (sym (e1_item_made (e1_item_bare y))) (joined_says Tensor y.part1 (p_read y.part2.value.0) y.part2.value.1)
 
-  abbrev m_bare : SynM-F WithA WithK WithN1 WithC WithC1Item WithE WithE1Item WithM WithM1Item WithN WithP WithP1Item → SynM-F SynA SynK SynN1 SynC SynC1Item SynE SynE1Item SynM SynM1Item SynN SynP SynP1Item
+  abbrev m_bare : With SynM-F → Bare SynM-F
   m_bare =
-      map-SynM WithA WithK WithN1 WithC WithC1Item WithE WithE1Item WithM WithM1Item WithN WithP WithP1Item SynA SynK SynN1 SynC SynC1Item SynE SynE1Item SynM SynM1Item SynN SynP SynP1Item
+      map-SynM WithA WithK WithN1 WithC WithC1Item WithE WithE1Item WithM WithM1Item WithN WithP WithP1Item
+      SynA SynK SynN1 SynC SynC1Item SynE SynE1Item SynM SynM1Item SynN SynP SynP1Item
       (λ w. w.0) (λ w. w.0) (λ w. w.0) (λ w. w.0) (λ w. w.0) (λ w. w.0) (λ w. w.0) (λ w. w.0) (λ w. w.0) (λ w. w.0) (λ w. w.0) (λ w. w.0)
 
-  m_grows : (y : SynM-F WithA WithK WithN1 WithC WithC1Item WithE WithE1Item WithM WithM1Item WithN WithP WithP1Item) → OfM (roll-SynM (m_bare y))
+  m_grows : (y : With SynM-F) → OfM (roll-SynM (m_bare y))
   m_grows y = subst (λ r. Says r.1) (sym (m_made (m_bare y))) (row_says (c_read y.part1.value.0) m1_item_read y.part2.items y.part1.value.1)
 
-  abbrev m1_item_bare : SynM1Item-F WithA WithK WithN1 WithC WithC1Item WithE WithE1Item WithM WithM1Item WithN WithP WithP1Item → SynM1Item-F SynA SynK SynN1 SynC SynC1Item SynE SynE1Item SynM SynM1Item SynN SynP SynP1Item
+  abbrev m1_item_bare : With SynM1Item-F → Bare SynM1Item-F
   m1_item_bare =
-      map-SynM1Item WithA WithK WithN1 WithC WithC1Item WithE WithE1Item WithM WithM1Item WithN WithP WithP1Item SynA SynK SynN1 SynC SynC1Item SynE SynE1Item SynM SynM1Item SynN SynP SynP1Item
+      map-SynM1Item WithA WithK WithN1 WithC WithC1Item WithE WithE1Item WithM WithM1Item WithN WithP WithP1Item
+      SynA SynK SynN1 SynC SynC1Item SynE SynE1Item SynM SynM1Item SynN SynP SynP1Item
       (λ w. w.0) (λ w. w.0) (λ w. w.0) (λ w. w.0) (λ w. w.0) (λ w. w.0) (λ w. w.0) (λ w. w.0) (λ w. w.0) (λ w. w.0) (λ w. w.0) (λ w. w.0)
 
-  m1_item_grows : (y : SynM1Item-F WithA WithK WithN1 WithC WithC1Item WithE WithE1Item WithM WithM1Item WithN WithP WithP1Item) → OfM1Item (roll-SynM1Item (m1_item_bare y))
-  m1_item_grows y = subst (Keeps) (sym (m1_item_made (m1_item_bare y))) (joined_says Merge y.part1 (c_read y.part2.value.0) y.part2.value.1)
+  m1_item_grows : (y : With SynM1Item-F) → OfM1Item (roll-SynM1Item (m1_item_bare y))
+  m1_item_grows y = subst Keeps (sym (m1_item_made (m1_item_bare y))) (joined_says Merge y.part1 (c_read y.part2.value.0) y.part2.value.1)
 
-  abbrev n_bare : SynN-F WithA WithK WithN1 WithC WithC1Item WithE WithE1Item WithM WithM1Item WithN WithP WithP1Item → SynN-F SynA SynK SynN1 SynC SynC1Item SynE SynE1Item SynM SynM1Item SynN SynP SynP1Item
+  abbrev n_bare : With SynN-F → Bare SynN-F
   n_bare =
-      map-SynN WithA WithK WithN1 WithC WithC1Item WithE WithE1Item WithM WithM1Item WithN WithP WithP1Item SynA SynK SynN1 SynC SynC1Item SynE SynE1Item SynM SynM1Item SynN SynP SynP1Item
+      map-SynN WithA WithK WithN1 WithC WithC1Item WithE WithE1Item WithM WithM1Item WithN WithP WithP1Item
+      SynA SynK SynN1 SynC SynC1Item SynE SynE1Item SynM SynM1Item SynN SynP SynP1Item
       (λ w. w.0) (λ w. w.0) (λ w. w.0) (λ w. w.0) (λ w. w.0) (λ w. w.0) (λ w. w.0) (λ w. w.0) (λ w. w.0) (λ w. w.0) (λ w. w.0) (λ w. w.0)
 
-  n_grows : (y : SynN-F WithA WithK WithN1 WithC WithC1Item WithE WithE1Item WithM WithM1Item WithN WithP WithP1Item) → OfN (roll-SynN (n_bare y))
-  n_grows y = subst (λ r. Says r.1) (sym (n_made (n_bare y))) (then_so P P ((a_read y.part1.value.0).1 visible) _ y.part1.value.1 (λ e p. nested_says ((a_read y.part1.value.0).2 visible) (n1_read y.part2.value.0) y.part2.value.1 e p))
+  n_grows : (y : With SynN-F) → OfN (roll-SynN (n_bare y))
+  n_grows y =
+      subst (λ r. Says r.1) (sym (n_made (n_bare y)))
+      (then_so P P ((a_read y.part1.value.0).1 visible) _ y.part1.value.1
+      (nested_says ((a_read y.part1.value.0).2 visible) (n1_read y.part2.value.0) y.part2.value.1))
 
-  abbrev p_bare : SynP-F WithA WithK WithN1 WithC WithC1Item WithE WithE1Item WithM WithM1Item WithN WithP WithP1Item → SynP-F SynA SynK SynN1 SynC SynC1Item SynE SynE1Item SynM SynM1Item SynN SynP SynP1Item
+  abbrev p_bare : With SynP-F → Bare SynP-F
   p_bare =
-      map-SynP WithA WithK WithN1 WithC WithC1Item WithE WithE1Item WithM WithM1Item WithN WithP WithP1Item SynA SynK SynN1 SynC SynC1Item SynE SynE1Item SynM SynM1Item SynN SynP SynP1Item
+      map-SynP WithA WithK WithN1 WithC WithC1Item WithE WithE1Item WithM WithM1Item WithN WithP WithP1Item
+      SynA SynK SynN1 SynC SynC1Item SynE SynE1Item SynM SynM1Item SynN SynP SynP1Item
       (λ w. w.0) (λ w. w.0) (λ w. w.0) (λ w. w.0) (λ w. w.0) (λ w. w.0) (λ w. w.0) (λ w. w.0) (λ w. w.0) (λ w. w.0) (λ w. w.0) (λ w. w.0)
 
-  p_grows : (y : SynP-F WithA WithK WithN1 WithC WithC1Item WithE WithE1Item WithM WithM1Item WithN WithP WithP1Item) → OfP (roll-SynP (p_bare y))
+  p_grows : (y : With SynP-F) → OfP (roll-SynP (p_bare y))
   p_grows y = subst (λ r. Says r.1) (sym (p_made (p_bare y))) (row_says (m_read y.part1.value.0) p1_item_read y.part2.items y.part1.value.1)
 
-  abbrev p1_item_bare : SynP1Item-F WithA WithK WithN1 WithC WithC1Item WithE WithE1Item WithM WithM1Item WithN WithP WithP1Item → SynP1Item-F SynA SynK SynN1 SynC SynC1Item SynE SynE1Item SynM SynM1Item SynN SynP SynP1Item
+  abbrev p1_item_bare : With SynP1Item-F → Bare SynP1Item-F
   p1_item_bare =
-      map-SynP1Item WithA WithK WithN1 WithC WithC1Item WithE WithE1Item WithM WithM1Item WithN WithP WithP1Item SynA SynK SynN1 SynC SynC1Item SynE SynE1Item SynM SynM1Item SynN SynP SynP1Item
+      map-SynP1Item WithA WithK WithN1 WithC WithC1Item WithE WithE1Item WithM WithM1Item WithN WithP WithP1Item
+      SynA SynK SynN1 SynC SynC1Item SynE SynE1Item SynM SynM1Item SynN SynP SynP1Item
       (λ w. w.0) (λ w. w.0) (λ w. w.0) (λ w. w.0) (λ w. w.0) (λ w. w.0) (λ w. w.0) (λ w. w.0) (λ w. w.0) (λ w. w.0) (λ w. w.0) (λ w. w.0)
 
-  p1_item_grows : (y : SynP1Item-F WithA WithK WithN1 WithC WithC1Item WithE WithE1Item WithM WithM1Item WithN WithP WithP1Item) → OfP1Item (roll-SynP1Item (p1_item_bare y))
-  p1_item_grows y = subst (Keeps) (sym (p1_item_made (p1_item_bare y))) (joined_says Parallel y.part1 (m_read y.part2.value.0) y.part2.value.1)
+  p1_item_grows : (y : With SynP1Item-F) → OfP1Item (roll-SynP1Item (p1_item_bare y))
+  p1_item_grows y = subst Keeps (sym (p1_item_made (p1_item_bare y))) (joined_says Parallel y.part1 (m_read y.part2.value.0) y.part2.value.1)
 
   pub tree_says : (x : SynE) → OfE x
   tree_says = ind-SynE OfA OfK OfN1 OfC OfC1Item OfE OfE1Item OfM OfM1Item OfN OfP OfP1Item

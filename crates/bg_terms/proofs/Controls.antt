@@ -45,7 +45,7 @@ word_new word controls none control m same =
 
 -- ---- one more control
 
-only_one : {X : Type 0} {x y : X} → Mem x (y ∷ []) → y ≡ x
+pub only_one : {X : Type 0} {x y : X} → Mem x (y ∷ []) → y ≡ x
 only_one (here same) = same
 only_one (there m) = elim m [ ]
 

@@ -13,5 +13,6 @@ mod ShapesFit
 mod Made
 mod Claims
 mod Ports
+mod InTurn
 mod Controls
 mod Later

@@ -2,24 +2,17 @@
 use Rattle.std.proofs.Common.{◌≡◌, ◌++◌, ℕ, List, Option, Some, None, Ok, refl, sym, ap, subst, ◌∙◌, slice_get}
 use Rattle.std.specs.Prelude.{IfOk, option_map}
 use Rattle.std.proofs.lemmas.Option.{slice_get-map}
-use Rattle.bg_lists.specs.Lists.{Mem}
 use Rattle.bg_lists.proofs.Places.{At-slice_get, slice_get-At, At-append_left}
-use Rattle.bg_base.specs.declared.big.Big.{Big}
-use Rattle.bg_base.specs.declared.labels.Value.{Value}
-use Rattle.bg_base.specs.Signatures.{IsSignature}
 use Rattle.bg_syntax.specs.declared.tree.expressions.SynE.{SynE}
 use Rattle.bg_values.specs.Names.{Entry, number_of, entry_at, look_up}
 use Rattle.bg_values.specs.Scopes.{spelling}
 use Rattle.bg_terms.specs.declared.shape.ControlEntry.{ControlEntry}
 use Rattle.bg_terms.specs.declared.shape.Shape.{Shape}
-use Rattle.bg_terms.specs.Expansion.{expand, meanings_of}
 use Rattle.bg_terms.specs.Expressions.{Expression, node, reference, names, identity_of, merger_of, one, nothing, brackets, deeper, closure, nesting, product}
-use Rattle.bg_terms.specs.Read.{shapes_of, IsRead}
-use Rattle.bg_terms.specs.Shapes.{AreShapes, HasPorts, AreOfShapes, FitsShapes}
+use Rattle.bg_terms.specs.Read.{shapes_of}
+use Rattle.bg_terms.specs.Shapes.{HasPorts}
 use Rattle.bg_terms.specs.Trees.{Visible, e_read}
-use Rattle.bg_terms.specs.Values.{Reached, value}
 use Rattle.bg_terms.proofs.Claims.{IsKept, tree_says}
-use Rattle.bg_terms.proofs.ShapesFit.{fits}
 
 -- ---- names of a table
 
@@ -87,17 +80,3 @@ HasPorts-more shapes others (deeper at e) has = HasPorts-more shapes others e ha
 HasPorts-more shapes others (closure at word e) has = HasPorts-more shapes others e has
 HasPorts-more shapes others (nesting at is_atom e d) has = (HasPorts-more shapes others e has.0, HasPorts-more shapes others d has.1)
 HasPorts-more shapes others (product kind at e d) has = (HasPorts-more shapes others e has.0, HasPorts-more shapes others d has.1)
-
-pub IsRead-has_ports : (shapes : List Shape) (e : Expression) → IsRead shapes e → HasPorts shapes e
-IsRead-has_ports shapes e read =
-    subst (λ s. HasPorts s e) (sym read.begins)
-    (HasPorts-more (shapes_of read.visible.controls) read.later e (ports_read read.tree read.visible e read.is))
-
-pub read_fits : (shapes : List Shape) → AreShapes shapes
-    → (definitions : List Expression) → ((e : Expression) → Mem e definitions → IsRead shapes e)
-    → (env : List Value) (e : Expression) → IsRead shapes e
-    → (depth : ℕ) (before after : Reached) (big : Big) → IsSignature before.signature → AreOfShapes shapes before.signature
-    → value depth (expand shapes (meanings_of shapes definitions) env e) before ≡ Ok (big, after)
-    → FitsShapes shapes after.signature big
-read_fits shapes are definitions are_read env e is_read =
-    fits shapes are definitions (λ d m. IsRead-has_ports shapes d (are_read d m)) env e (IsRead-has_ports shapes e is_read)

@@ -26,6 +26,11 @@ pub record AreControls (controls : List (Entry ControlEntry)) : Type 0 where
   pub small : (control : Entry ControlEntry) → Mem control controls → control.1.shape.arity ≤ 16
   pub once : (x y : Entry ControlEntry) → Mem x controls → Mem y controls → x.0 ≡ y.0 → x ≡ y
 
+-- what statements have made visible: the controls, and definitions that were each read under the first ones of these controls
+pub record AreRead (controls : List (Entry ControlEntry)) (definitions : List Expression) : Type 0 where
+  pub table : AreControls controls
+  pub each : (definition : Expression) → Mem definition definitions → IsRead (shapes_of controls) definition
+
 -- each reference is to one of the first definitions, so many
 abbrev pub RefersBelow : ℕ → Expression → Type 0
 RefersBelow count (node at number args ports) = Unit {0}

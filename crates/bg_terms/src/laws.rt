@@ -3,6 +3,7 @@ ghost use Rattle.std.specs.Prelude.{◌≡◌, ◌≤◌, ◌+◌, ◌++◌, ◌
 ghost use Rattle.bg_base.specs.declared.big.Big.{Big};
 ghost use Rattle.bg_lists.specs.Lists.{Mem};
 ghost use Rattle.bg_base.specs.declared.labels.Value.{Value};
+ghost use Rattle.bg_base.specs.declared.signature.Control.{Control};
 ghost use Rattle.bg_base.specs.Bigraph.{IsValid, IsValidUnder};
 ghost use Rattle.bg_base.specs.Signatures.{IsSignature};
 ghost use Rattle.bg_terms.specs.Arities.{HaveArities, AreOneByLabel};
@@ -13,7 +14,7 @@ ghost use Rattle.bg_terms.specs.Closures.{StandsBehind, IsEvaluatedAt};
 ghost use Rattle.bg_syntax.specs.declared.tree.expressions.SynE.{SynE};
 ghost use Rattle.bg_values.specs.Names.{Entry, number_of};
 ghost use Rattle.bg_terms.specs.declared.shape.ControlEntry.{ControlEntry};
-ghost use Rattle.bg_terms.specs.Read.{AreControls, shapes_of, IsRead, RefersBelow};
+ghost use Rattle.bg_terms.specs.Read.{shapes_of, IsRead, AreControls, AreRead, RefersBelow};
 ghost use Rattle.bg_terms.specs.Trees.{Visible, e_read};
 ghost use Rattle.bg_terms.specs.Shapes.{AreShapes, HasPorts, AreOfShapes, FitsShapes};
 ghost use Rattle.bg_terms.specs.Terms as terms;
@@ -95,16 +96,30 @@ pub fn controls_become_visible_one_by_one()
     ensures shapes { (controls : List (Entry ControlEntry)) → AreControls controls → AreShapes (shapes_of controls) }
 {}
 
-/// Where no visible control has an arity above 16 and no word stands for two, and an expression and the definitions before it
-/// were each read from a tree under the first ones of these controls: what the expression comes to is valid under the
-/// signature reached, and the controls of that signature are visible controls with some arguments, if those before were.
+/// What statements make visible in turn: nothing at first; then a control, whose word is not in the table and whose arity is
+/// at most 16, or a definition that is read. An expression that was read stays one as controls follow.
+pub fn definitions_are_read_one_by_one()
+    ensures none { AreRead [] [] }
+    ensures control { (controls : List (Entry ControlEntry)) (definitions : List Expression) (word : List ℕ) (entry : ControlEntry)
+        → AreRead controls definitions → number_of word controls ≡ None → entry.shape.word ≡ word → entry.shape.arity ≤ 16
+        → AreRead (controls ++ (word, entry) ∷ []) definitions }
+    ensures definition { (controls : List (Entry ControlEntry)) (definitions : List Expression) (expression : Expression)
+        → AreRead controls definitions → IsRead (shapes_of controls) expression → AreRead controls (definitions ++ expression ∷ []) }
+    ensures at_once { (tree : SynE) (visible : Visible) (expression : Expression) → (e_read tree).1 visible ≡ Ok expression
+        → IsRead (shapes_of visible.controls) expression }
+    ensures later { (shapes others : List Shape) (expression : Expression) → IsRead shapes expression → IsRead (shapes ++ others) expression }
+{}
+
+/// Where an expression and the definitions before it were each read from a tree under the first ones of the visible controls:
+/// what the expression comes to is valid under the signature reached, and the controls of that signature are visible controls
+/// with some arguments, if those before were; they stay so as controls follow.
 pub fn values_of_trees_fit_the_visible_controls()
-    ensures { (shapes : List Shape) → AreShapes shapes
-        → (definitions : List Expression) → ((e : Expression) → Mem e definitions → IsRead shapes e)
-        → (env : List Value) (expression : Expression) → IsRead shapes expression
-        → (depth : ℕ) (before after : Reached) (big : Big) → IsSignature before.signature → AreOfShapes shapes before.signature
-        → value depth (expand shapes (meanings_of shapes definitions) env expression) before ≡ Ok (big, after)
-        → FitsShapes shapes after.signature big }
+    ensures fits { (controls : List (Entry ControlEntry)) (definitions : List Expression) → AreRead controls definitions
+        → (env : List Value) (expression : Expression) → IsRead (shapes_of controls) expression
+        → (depth : ℕ) (before after : Reached) (big : Big) → IsSignature before.signature → AreOfShapes (shapes_of controls) before.signature
+        → value depth (expand (shapes_of controls) (meanings_of (shapes_of controls) definitions) env expression) before ≡ Ok (big, after)
+        → FitsShapes (shapes_of controls) after.signature big }
+    ensures later { (shapes others : List Shape) (signature : List Control) → AreOfShapes shapes signature → AreOfShapes (shapes ++ others) signature }
 {}
 
 /// Controls and definitions that follow those which are there leave an expression its term, where its control symbols are of

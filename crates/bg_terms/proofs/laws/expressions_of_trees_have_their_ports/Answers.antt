@@ -1,4 +1,5 @@
-use Rattle.bg_terms.proofs.Ports.{ports_read, HasPorts-more, IsRead-has_ports}
+use Rattle.bg_terms.proofs.InTurn.{IsRead-has_ports}
+use Rattle.bg_terms.proofs.Ports.{ports_read, HasPorts-more}
 use Rattle.bg_terms.proofs.laws.expressions_of_trees_have_their_ports.Goals as goal
 
 pub returns-clause-at_once : goal.returns-clause-at_once

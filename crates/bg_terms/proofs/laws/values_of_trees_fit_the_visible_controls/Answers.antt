@@ -1,5 +1,8 @@
-use Rattle.bg_terms.proofs.Ports.{read_fits}
+use Rattle.bg_terms.proofs.InTurn.{read_fits, AreOfShapes-more}
 use Rattle.bg_terms.proofs.laws.values_of_trees_fit_the_visible_controls.Goals as goal
 
-pub returns : goal.returns
-returns c = read_fits
+pub returns-clause-fits : goal.returns-clause-fits
+returns-clause-fits c = read_fits
+
+pub returns-clause-later : goal.returns-clause-later
+returns-clause-later c = AreOfShapes-more
