@@ -12,6 +12,7 @@ use Rattle.bg_base.specs.Order.{name_cmp}
 use Rattle.bg_base.specs.Composition.{compose, faces_agree}
 use Rattle.bg_base.specs.Elementary.{identity, merger, idle, barren, empty, ion, atom}
 use Rattle.bg_base.specs.Products.{tensor, parallel, merge}
+use Rattle.bg_values.proofs.Bindings.{ok_same}
 use Rattle.bg_terms.specs.declared.shape.Product.{Product}
 use Rattle.bg_terms.specs.declared.shape.Product.TheVariants.{Composition, Tensor, Parallel, Merge}
 use Rattle.bg_terms.specs.Terms as terms
@@ -19,7 +20,7 @@ use Rattle.bg_terms.specs.Terms.{Term}
 use Rattle.bg_terms.specs.Values.{Reached, value, tallied, entered, within, single, wide, plain_names, nested, product_of, closed, inner_meets, outer_meets}
 use Rattle.bg_terms.specs.Numbering.{closures, AreEdgesWithin}
 use Rattle.bg_terms.proofs.Edges.{tensor_edges, parallel_edges, merge_edges, compose_edges, nest_edges, closed_edges}
-use Rattle.bg_terms.proofs.Numbered.{ok_same, bound, tested, untested, Same, within_same, nested_same}
+use Rattle.bg_terms.proofs.Numbered.{bound, tested, untested, Same, within_same, nested_same}
 
 pub tallied_edges : (at : ℕ) (c d : Reached) → tallied at c ≡ Ok d → d.edges ≡ c.edges
 tallied_edges at c d is = sym (ap (λ (r : Reached). r.edges) (ok_same (tested _ _ _ _ is)))

@@ -12,7 +12,6 @@ use Rattle.bg_values.specs.declared.refusal.Cause.TheVariants.{AtomicHasChild, W
 use Rattle.bg_values.specs.Outcome.{refused}
 use Rattle.bg_terms.specs.declared.shape.Product.TheVariants.{Merge}
 use Rattle.bg_terms.specs.Terms as terms
-use Rattle.bg_terms.specs.Terms.{Term}
 use Rattle.bg_terms.specs.Values.{Come, Reached, value}
 
 -- atomic controls A and L, of arity 0 and 2, and a normal control R of arity 0

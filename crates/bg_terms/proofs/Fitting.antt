@@ -1,5 +1,5 @@
 -- What a term comes to is valid under the signature reached, where its symbols have the arities of their controls.
-use Rattle.std.proofs.Common.{◌≡◌, ◌+◌, ◌<◌, ◌≤◌, ◌++◌, ◌∷◌, [], ◌||◌, inl, inr, ℕ, zero, suc, Bool, true, false, List, length, Option, Some, None, Result, Ok, Err, refl, sym, ap, subst, ◌∙◌, arith}
+use Rattle.std.proofs.Common.{◌≡◌, ◌+◌, ◌<◌, ◌≤◌, ◌++◌, ◌∷◌, [], ◌||◌, inl, inr, ℕ, Bool, true, false, List, length, Option, Some, None, Result, Ok, Err, refl, sym, ap, subst, ◌∙◌, arith}
 use Rattle.std.specs.Prelude.{if◌then◌else◌, is_some, nat_lt, option_map, slice_get, unwrap_or}
 use Rattle.std.proofs.lemmas.List.{length-append, length-map}
 use Rattle.std.proofs.lemmas.Option.{slice_get_within}
@@ -32,6 +32,8 @@ use Rattle.bg_algebra.proofs.Changes.{close_valid_under}
 use Rattle.bg_algebra.proofs.Merged.{merge_valid_under}
 use Rattle.bg_algebra.proofs.Nested.{identity_valid_under, idle_valid_under, merger_valid_under, barren_valid_under, empty_valid_under, ion_valid_under, atom_valid_under, nest_valid_under}
 use Rattle.bg_values.specs.declared.refusal.Refusal.{Refusal}
+use Rattle.bg_values.proofs.Bindings.{ok_same}
+use Rattle.bg_values.proofs.Items.{member_at, same_before, last_item}
 use Rattle.bg_terms.specs.Arities.{HaveArities, AreOneByLabel}
 use Rattle.bg_terms.specs.declared.shape.Product.{Product}
 use Rattle.bg_terms.specs.declared.shape.Product.TheVariants.{Composition, Tensor, Parallel, Merge}
@@ -40,26 +42,21 @@ use Rattle.bg_terms.specs.Terms as terms
 use Rattle.bg_terms.specs.Terms.{Term}
 use Rattle.bg_terms.specs.Values.{Reached, value, tallied, entered, entered_at, single, wide, plain_names, nested, product_of, closed, inner_meets, outer_meets}
 use Rattle.bg_terms.proofs.Closures.{within_closures}
-use Rattle.bg_terms.proofs.Labels.{found, last_there}
-use Rattle.bg_terms.proofs.Numbered.{ok_same, bound, tested, Same, within_same}
+use Rattle.bg_terms.proofs.Labels.{found}
+use Rattle.bg_terms.proofs.Numbered.{bound, tested, Same, within_same}
 use Rattle.bg_terms.proofs.Ordered.{in_order, wide_same, tallied_signature}
 use Rattle.bg_terms.proofs.Valid.{apart_values, inner_apart, outer_apart, nests, set_up}
 
 -- ---- a signature that goes on
 
-same_there : (controls more : List Control) (number : ℕ) → number < length controls → slice_get (controls ++ more) number ≡ slice_get controls number
-same_there [] more number below = absurd (omega (arith, below))
-same_there (c ∷ cs) more zero below = refl
-same_there (c ∷ cs) more (suc number) below = same_there cs more number (omega (arith, below))
-
 same_arity : (signature more : List Control) (number : ℕ) → number < length signature → arity_of (signature ++ more) number ≡ arity_of signature number
 same_arity signature more number below =
-    ap (λ o. unwrap_or (option_map (λ (found : Control). found.arity) o) 0) (same_there signature more number below)
+    ap (λ o. unwrap_or (option_map (λ (found : Control). found.arity) o) 0) (same_before signature more number below)
 
 same_kind : (signature more : List Control) (number : ℕ) → number < length signature
     → is_atomic_control (signature ++ more) number ≡ is_atomic_control signature number
 same_kind signature more number below =
-    ap (λ o. unwrap_or (option_map (λ (found : Control). is_atomic_kind found.kind) o) false) (same_there signature more number below)
+    ap (λ o. unwrap_or (option_map (λ (found : Control). is_atomic_kind found.kind) o) false) (same_before signature more number below)
 
 same_atomic : (signature more : List Control) (big : Big) → IsValidUnder signature big → (place : Place)
     → is_atomic (signature ++ more) big place ≡ is_atomic signature big place
@@ -95,11 +92,6 @@ still_fits signature more big fits =
 abbrev pub Within : (controls all : List Control) → Type 0
 Within controls all = (x : Control) → Mem x controls → Mem x all
 
-at_member : (controls : List Control) (number : ℕ) (control : Control) → slice_get controls number ≡ Some control → Mem control controls
-at_member [] number control is = absurd cc
-at_member (c ∷ cs) zero control is = here cc
-at_member (c ∷ cs) (suc number) control is = there (at_member cs number control is)
-
 pub record Entry (all : List Control) (control : Control) (number : ℕ) (after : List Control) : Type 0 where
   pub is_there : slice_get after number ≡ Some control
   pub kept : IsSignature after
@@ -120,7 +112,7 @@ entry_last all control old number after kept small inside member new true room r
     let number_is : length old ≡ number = ap (λ (p : ℕ × List Control). p.0) pair in
     let same : old ++ control ∷ [] ≡ after = ap (λ (p : ℕ × List Control). p.1) pair in
     record {
-      is_there = ap (λ s. slice_get s number) (sym same) ∙ ap (slice_get (old ++ control ∷ [])) (sym number_is) ∙ last_there old control;
+      is_there = ap (λ s. slice_get s number) (sym same) ∙ ap (slice_get (old ++ control ∷ [])) (sym number_is) ∙ last_item old control;
       kept = subst IsSignature same (one_more_control old control kept new small below);
       inside = subst (λ s. Within s all) same
           (λ x m. elim (Mem-append_cases old (control ∷ []) m) [ inl left ↦ inside x left | inr right ↦ last_one x right ]);
@@ -142,7 +134,7 @@ enters all at control old number after one kept small inside member is = by (num
         let number_is : found_at ≡ number = ap (λ (p : ℕ × List Control). p.0) pair in
         let same : old ≡ after = ap (λ (p : ℕ × List Control). p.1) pair in
         let control_is : there_already.control ≡ control =
-        one there_already.control control (inside there_already.control (at_member old found_at there_already.control there_already.there)) member there_already.labelled in
+        one there_already.control control (inside there_already.control (member_at old found_at there_already.control there_already.there)) member there_already.labelled in
         record {
           is_there = ap (λ s. slice_get s number) (sym same) ∙ ap (slice_get old) (sym number_is) ∙ there_already.there ∙ ap Some control_is;
           kept = subst IsSignature same kept;

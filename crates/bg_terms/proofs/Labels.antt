@@ -1,5 +1,5 @@
 -- Equal labels are one label, and the number of a label leads to it.
-use Rattle.std.proofs.Common.{◌≡◌, ◌++◌, ◌∷◌, [], ℕ, zero, suc, Bool, true, false, List, length, Option, Some, None, Ordering, Less, Equal, Greater, refl, ap, subst, ◌∙◌}
+use Rattle.std.proofs.Common.{◌≡◌, ◌++◌, ◌∷◌, [], ℕ, suc, Bool, true, false, List, Option, Some, None, Ordering, Less, Equal, Greater, refl, ap, subst, ◌∙◌}
 use Rattle.std.specs.Prelude.{if◌then◌else◌, slice_get, option_map}
 use Rattle.std.specs.Ordering.{ordering_then}
 use Rattle.std.specs.Cmp.Lexicographic.{slice_cmp}
@@ -11,6 +11,7 @@ use Rattle.bg_base.specs.declared.labels.Label.{Label}
 use Rattle.bg_base.specs.declared.signature.Control.{Control}
 use Rattle.bg_base.specs.Order.{value_cmp, label_cmp, bytes_cmp}
 use Rattle.bg_base.specs.Signatures.{same_label, number_of}
+use Rattle.bg_values.proofs.Items.{still_at}
 use Rattle.bg_terms.specs.Order.{label_at}
 
 both_equal : (o p : Ordering) → ordering_then o p ≡ Equal → (o ≡ Equal) × (p ≡ Equal)
@@ -63,18 +64,7 @@ found (c ∷ cs) label number is = by (found cs label) (same_label c.label label
         record { control = c; there = subst (λ k. slice_get (c ∷ cs) k ≡ Some c) first refl; labelled = label_same c.label label same }
     by others false same e = deeper others (number_of cs label) refl e
 
--- what is there stays there when a signature goes on
-pub still_there : (controls more : List Control) (number : ℕ) (control : Control) → slice_get controls number ≡ Some control
-    → slice_get (controls ++ more) number ≡ Some control
-still_there [] more number control is = absurd cc
-still_there (c ∷ cs) more zero control is = is
-still_there (c ∷ cs) more (suc number) control is = still_there cs more number control is
-
--- the control that comes last
-pub last_there : (controls : List Control) (control : Control) → slice_get (controls ++ control ∷ []) (length controls) ≡ Some control
-last_there [] control = refl
-last_there (c ∷ cs) control = last_there cs control
-
+-- a label keeps its number when a signature goes on
 pub still_labelled : (controls more : List Control) (number : ℕ) (label : Label) → label_at controls number ≡ Some label
     → label_at (controls ++ more) number ≡ Some label
 still_labelled controls more number label is = by (slice_get controls number) refl is
@@ -82,4 +72,4 @@ still_labelled controls more number label is = by (slice_get controls number) re
     by : (o : Option Control) → slice_get controls number ≡ o → option_map (λ (control : Control). control.label) o ≡ Some label
         → label_at (controls ++ more) number ≡ Some label
     by None there e = absurd cc
-    by (Some control) there e = ap (option_map (λ (c : Control). c.label)) (still_there controls more number control there) ∙ e
+    by (Some control) there e = ap (option_map (λ (c : Control). c.label)) (still_at controls more number control there) ∙ e

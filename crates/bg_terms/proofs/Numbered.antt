@@ -14,6 +14,7 @@ use Rattle.bg_base.specs.Products.{nest, close}
 use Rattle.bg_base.specs.Translation.{node_numbers}
 use Rattle.bg_values.specs.declared.refusal.Refusal.{Refusal}
 use Rattle.bg_values.specs.Outcome.{◌>>=◌}
+use Rattle.bg_values.proofs.Bindings.{ok_same}
 use Rattle.bg_terms.specs.declared.shape.Product.{Product}
 use Rattle.bg_terms.specs.declared.shape.Product.TheVariants.{Composition, Tensor, Parallel, Merge}
 use Rattle.bg_terms.specs.Terms as terms
@@ -23,9 +24,6 @@ use Rattle.bg_terms.specs.Numbering.{symbols, AreNumbered}
 use Rattle.bg_terms.proofs.Numbers.{tensor_numbers, parallel_numbers, merge_numbers, compose_numbers, nest_numbers, close_numbers}
 
 -- ---- what an Ok says of its parts
-
-pub ok_same : {A : Type 0} {x y : A} → ◌≡◌ {A = Result A Refusal} (Ok x) (Ok y) → x ≡ y
-ok_same is = cc
 
 pub record Bound {A B : Type 0} (r : Result A Refusal) (f : A → Result B Refusal) (y : B) : Type 0 where
   pub found : A

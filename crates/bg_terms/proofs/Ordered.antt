@@ -21,6 +21,8 @@ use Rattle.bg_base.specs.Composition.{compose, row_through}
 use Rattle.bg_base.specs.Products.{tensor, parallel, merge, nest, close, row_beside, row_in_one, row_closed}
 use Rattle.bg_base.specs.Signatures.{number_of}
 use Rattle.bg_base.specs.Translation.{node_numbers}
+use Rattle.bg_values.proofs.Bindings.{ok_same}
+use Rattle.bg_values.proofs.Items.{last_item}
 use Rattle.bg_terms.specs.declared.shape.Product.{Product}
 use Rattle.bg_terms.specs.declared.shape.Product.TheVariants.{Composition, Tensor, Parallel, Merge}
 use Rattle.bg_terms.specs.Terms as terms
@@ -28,9 +30,9 @@ use Rattle.bg_terms.specs.Terms.{Term}
 use Rattle.bg_terms.specs.Values.{Reached, value, tallied, entered, entered_at, single, wide, plain_names, nested, product_of, closed}
 use Rattle.bg_terms.specs.Numbering.{symbols}
 use Rattle.bg_terms.specs.Order.{controls_of, label_at, labels_of, labels_there, AreInOrder}
-use Rattle.bg_terms.proofs.Labels.{found, last_there, still_labelled}
+use Rattle.bg_terms.proofs.Labels.{found, still_labelled}
 use Rattle.bg_terms.proofs.Numbers.{counted_both, numbers_kept, none_more, wider_numbers}
-use Rattle.bg_terms.proofs.Numbered.{ok_same, bound, tested, untested, Same, within_same, nested_same, numbered}
+use Rattle.bg_terms.proofs.Numbered.{bound, tested, untested, Same, within_same, nested_same, numbered}
 
 -- ---- rows whose numbers are in a row stand in their order
 
@@ -194,7 +196,7 @@ enters at control before number after is = by (number_of before control.label) r
           entered = control ∷ [];
           goes_on = sym after_is;
           label = ap (λ s. label_at s number) (sym after_is) ∙ ap (label_at (before ++ control ∷ [])) (sym number_is)
-              ∙ ap (option_map (λ (c : Control). c.label)) (last_there before control);
+              ∙ ap (option_map (λ (c : Control). c.label)) (last_item before control);
         }
 
 -- ---- each form

@@ -9,6 +9,7 @@ use Rattle.bg_base.specs.declared.signature.Control.{Control}
 use Rattle.bg_base.specs.Signatures.{IsSignature}
 use Rattle.bg_values.specs.declared.refusal.Refusal.{Refusal}
 use Rattle.bg_values.specs.Operands.{values}
+use Rattle.bg_values.proofs.Items.{member_at}
 use Rattle.bg_terms.specs.declared.shape.Shape.{Shape}
 use Rattle.bg_terms.specs.Arities.{HaveArities, AreOneByLabel}
 use Rattle.bg_terms.specs.Expansion.{Meaning, control_of, with_values, node_term, meant, expand, meanings_after, meanings_of}
@@ -28,12 +29,6 @@ pub record Shaped (shapes : List Shape) (t : Term) : Type 0 where
 -- each definition gives such terms
 abbrev pub AreShaped : List Shape → List Meaning → Type 0
 AreShaped shapes meanings = (number : ℕ) (meaning : Meaning) → slice_get meanings number ≡ Some meaning → (args : List Value) → Shaped shapes (meaning args)
-
-shape_member : (shapes : List Shape) (number : ℕ) (shape : Shape) → slice_get shapes number ≡ Some shape → Mem shape shapes
-shape_member [] zero shape is = absurd cc
-shape_member [] (suc number) shape is = absurd cc
-shape_member (s ∷ shapes) zero shape is = here cc
-shape_member (s ∷ shapes) (suc number) shape is = there (shape_member shapes number shape is)
 
 same_arity : (x y : Shape) → ◌≡◌ {A = Option Shape} (Some x) (Some y) → x.arity ≡ y.arity
 same_arity x y is = let same : x ≡ y = cc in ap (λ (s : Shape). s.arity) same
@@ -80,7 +75,7 @@ module _ (shapes : List Shape) (are : AreShapes shapes) where
       → Shaped shapes (expand shapes meanings env e)
   shaped meanings known env (node at number args ports) ports_fit =
       values_shaped at (values env args) (node_term at (slice_get shapes number) ports)
-      (λ vs. node_shaped at (slice_get shapes number) ports vs (λ shape is. (shape_member shapes number shape is, ports_fit.2 ∙ same_arity ports_fit.0 shape (sym ports_fit.1 ∙ is))))
+      (λ vs. node_shaped at (slice_get shapes number) ports vs (λ shape is. (member_at shapes number shape is, ports_fit.2 ∙ same_arity ports_fit.0 shape (sym ports_fit.1 ∙ is))))
   shaped meanings known env (reference at number args) ports_fit =
       values_shaped at (values env args) (λ vs. terms.counted at (meant at (slice_get meanings number) vs))
       (λ vs. counted_shaped at _ (meant_shaped meanings known at number vs))

@@ -2,11 +2,12 @@
 use Rattle.std.proofs.Common.{◌≡◌, ◌+◌, ◌<◌, ◌≤◌, ◌∷◌, [], ◌||◌, ◌==◌, ℕ, zero, suc, Bool, true, false, not, List, length, Ok, Err, refl, sym, ap, subst, ◌∙◌, arith, eqb-true}
 use Rattle.std.specs.Prelude.{nat_lt, is_some, if◌then◌else◌}
 use Rattle.std.specs.List.{list_any}
+use Rattle.std.proofs.lemmas.Bool.{false_from_ne_true, false≢true}
 use Rattle.std.specs.List.Sorted.{IsStrictlySortedBy}
 use Rattle.bg_lists.specs.Lists.{Mem, here, there}
 use Rattle.bg_lists.specs.Orders.{set_of}
 use Rattle.bg_lists.proofs.Members.{Mem-map}
-use Rattle.bg_lists.proofs.Words.{All-from_members}
+use Rattle.bg_lists.proofs.Words.{All-from_members, list_any-from_member}
 use Rattle.bg_lists.proofs.Ascents.{sorted_from_Ascending}
 use Rattle.bg_lists.proofs.Sets.{Ascending-set_of}
 use Rattle.bg_base.specs.declared.names.Name.{Name}
@@ -32,29 +33,20 @@ use Rattle.bg_algebra.proofs.Changes.{close_valid}
 use Rattle.bg_algebra.proofs.Merged.{merge_valid}
 use Rattle.bg_algebra.proofs.Nested.{identity_valid, idle_valid, merger_valid, barren_valid_under, empty_valid_under, ion_valid, atom_valid, nest_valid}
 use Rattle.bg_values.specs.declared.refusal.Refusal.{Refusal}
+use Rattle.bg_values.proofs.Bindings.{ok_same}
 use Rattle.bg_terms.specs.declared.shape.Product.{Product}
 use Rattle.bg_terms.specs.declared.shape.Product.TheVariants.{Composition, Tensor, Parallel, Merge}
 use Rattle.bg_terms.specs.Terms as terms
 use Rattle.bg_terms.specs.Terms.{Term}
 use Rattle.bg_terms.specs.Values.{Reached, value, tallied, entered, single, wide, plain_names, nested, product_of, closed, inner_meets, outer_meets}
 use Rattle.bg_terms.specs.Numbering.{symbols, closures, AreEdgesWithin}
-use Rattle.bg_terms.proofs.Numbered.{ok_same, bound, tested, untested, Same, within_same, numbered}
+use Rattle.bg_terms.proofs.Numbered.{bound, tested, untested, Same, within_same, numbered}
 use Rattle.bg_terms.proofs.Closures.{within_closures}
 
 -- ---- tests and what they say
 
 no_any : {A : Type 0} (test : A → Bool) (xs : List A) → list_any test xs ≡ false → (x : A) → Mem x xs → test x ≡ false
-no_any test [] none x m = elim m [ ]
-no_any test (y ∷ ys) none x (here e) = subst (λ z. test z ≡ false) e (first (test y) (list_any test ys) none)
-  where
-    first : (a b : Bool) → (a || b) ≡ false → a ≡ false
-    first true b e = absurd cc
-    first false b e = refl
-no_any test (y ∷ ys) none x (there m) = no_any test ys (second (test y) (list_any test ys) none) x m
-  where
-    second : (a b : Bool) → (a || b) ≡ false → b ≡ false
-    second true b e = absurd cc
-    second false b e = e
+no_any test xs none x m = false_from_ne_true (test x) (λ pass. false≢true (sym none ∙ list_any-from_member test xs m pass))
 
 pub inner_apart : (f g : Big) → inner_meets f g ≡ false → InnerApart f g
 inner_apart f g none =

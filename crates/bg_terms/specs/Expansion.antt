@@ -27,10 +27,12 @@ abbrev pub with_values : ℕ → Result (List Value) Refusal → (List Value →
 with_values at (Ok args) f = f args
 with_values at (Err refusal) f = terms.counted at (terms.refusal refusal)
 
+-- a node of the control that was found, with these ports and these arguments
 abbrev pub node_term : ℕ → Option Shape → List (List ℕ) → List Value → Term
 node_term at (Some shape) ports args = terms.node at (control_of shape args) ports
 node_term at None ports args = terms.counted at (unknown at)
 
+-- the term of the definition that was found, with these arguments
 abbrev pub meant : ℕ → Option Meaning → List Value → Term
 meant at (Some meaning) args = meaning args
 meant at None args = unknown at
@@ -56,6 +58,7 @@ abbrev pub meanings_after : List Shape → List Meaning → List Expression → 
 meanings_after shapes meanings [] = meanings
 meanings_after shapes meanings (e ∷ es) = meanings_after shapes (meanings ++ (λ args. expand shapes meanings args e) ∷ []) es
 
+-- the meanings of all definitions
 abbrev pub meanings_of : List Shape → List Expression → List Meaning
 meanings_of shapes es = meanings_after shapes [] es
 

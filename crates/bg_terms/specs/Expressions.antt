@@ -4,6 +4,7 @@ use Rattle.std.specs.Prelude.{ℕ, Bool, List}
 use Rattle.bg_terms.specs.declared.shape.Product.{Product}
 use Rattle.bg_values.specs.Operands.{Operand}
 
+-- an expression, form by form
 pub data Expression : Type 0 where
   -- `K(..){a,b}`: a node of the control with that number, its arguments, and the names of its ports
   node : ℕ → ℕ → List Operand → List (List ℕ) → Expression

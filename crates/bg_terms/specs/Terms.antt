@@ -4,6 +4,7 @@ use Rattle.bg_base.specs.declared.signature.Control.{Control}
 use Rattle.bg_values.specs.declared.refusal.Refusal.{Refusal}
 use Rattle.bg_terms.specs.declared.shape.Product.{Product}
 
+-- a term, form by form; the first number of a form is its token, as in an expression
 pub data Term : Type 0 where
   -- evaluation is refused here
   refusal : Refusal → Term

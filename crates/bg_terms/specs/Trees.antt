@@ -52,10 +52,12 @@ pub record Visible : Type 0 where
 
 -- ---- the small parts
 
+-- the trees of the arguments
 abbrev pub arguments : SynArgs → List SynX
 arguments (args_ways.Way1 bracket first more end) = trees first more.items
 arguments args_ways.Way2 = []
 
+-- the tokens of a list of names
 abbrev pub listed_tokens : SynNameList → List ℕ
 listed_tokens (name_lists.Way1 first more) = first ∷ map (λ (item : SynMoreLowItem). item.part2) more.items
 listed_tokens name_lists.Way2 = []
@@ -64,10 +66,12 @@ listed_tokens name_lists.Way2 = []
 abbrev pub word_at : Visible → ℕ → Result (List ℕ) Refusal
 word_at visible token = if is_ident (spelling visible.scope token) then Ok (spelling visible.scope token) else refused Unexpected token
 
+-- the identifiers that the tokens spell, in order
 abbrev pub words_at : Visible → List ℕ → Result (List (List ℕ)) Refusal
 words_at visible [] = Ok []
 words_at visible (token ∷ tokens) = word_at visible token >>= λ word. words_at visible tokens >>= λ words. Ok (word ∷ words)
 
+-- the tokens of the names of ports
 abbrev pub ports_of : SynNames → List ℕ
 ports_of (port_names.Way1 bracket list end) = listed_tokens list
 ports_of port_names.Way2 = []
@@ -78,24 +82,29 @@ width_at visible number = number_at visible.scope (number_token number) >>= λ z
 
 -- ---- forms: names are looked up, and numbers of arguments and of ports judged, before the names inside arguments
 
+-- `K(..){a,b}`, once the control was found
 abbrev pub node_of : Visible → ℕ → List SynX → List ℕ → ℕ × ControlEntry → Result Expression Refusal
 node_of visible at args ports found =
     if not (length args == found.1.formals) then refused WrongArguments at else (
     if not (length ports == found.1.shape.arity) then refused WrongPorts at else
     (operands_read visible.scope args >>= λ fs. words_at visible ports >>= λ words. Ok (node at found.0 fs words)))
 
+-- `K(..){a,b}`
 abbrev pub node_read : ℕ → List SynX → List ℕ → Visible → Result Expression Refusal
 node_read at args ports visible =
     there_or UnknownName at (look_up (spelling visible.scope at) visible.controls) >>= node_of visible at args ports
 
+-- `b(..)`, once the bigraph was found
 abbrev pub reference_of : Visible → ℕ → List SynX → ℕ × ℕ → Result Expression Refusal
 reference_of visible at args found =
     if not (length args == found.1) then refused WrongArguments at else
     (operands_read visible.scope args >>= λ fs. Ok (reference at found.0 fs))
 
+-- `b(..)`
 abbrev pub reference_read : ℕ → List SynX → Visible → Result Expression Refusal
 reference_read at args visible = there_or UnknownName at (look_up (spelling visible.scope at) visible.bigraphs) >>= reference_of visible at args
 
+-- the tokens of the names of an identity of places
 abbrev pub id_names : SynIdNames → List ℕ
 id_names (id_names_ways.Way1 comma bracket list end) = listed_tokens list
 id_names id_names_ways.Way2 = []
@@ -109,6 +118,7 @@ wide_identity_read at number tokens visible =
 abbrev pub linking_read : ℕ → List ℕ → Visible → Result Expression Refusal
 linking_read at tokens visible = words_at visible tokens >>= λ words. Ok (identity_of at 0 words)
 
+-- `id` and what stands behind it; alone it is the identity of one place
 abbrev pub id_read : ℕ → SynIdTail → Visible → Result Expression Refusal
 id_read at (id_tail_ways.Way1 bracket number list end) visible = wide_identity_read at number (id_names list) visible
 id_read at (id_tail_ways.Way2 bracket list end) visible = linking_read at (listed_tokens list) visible
@@ -127,9 +137,11 @@ abbrev pub is_atomic_entry : Option (ℕ × ControlEntry) → Bool
 is_atomic_entry (Some found) = is_atomic_kind found.1.shape.kind
 is_atomic_entry None = false
 
+-- whether the token names a visible control that is atomic
 abbrev pub names_atom : ℕ → Visible → Bool
 names_atom at visible = is_atomic_entry (look_up (spelling visible.scope at) visible.controls)
 
+-- a form that is not written as an atom
 abbrev pub no_atom : Visible → Bool
 no_atom visible = false
 
@@ -185,6 +197,7 @@ abbrev pub n1_layer : SynN1-F Form Reading Behind Reading Onward Reading Onward 
 n1_layer (n1_1 dot k) = Some (dot, k.value)
 n1_layer n1_2 = None
 
+-- the expression before a dot, nested where a dot follows
 abbrev pub nested_read : Bool → Behind → Visible → Expression → Result Expression Refusal
 nested_read is_atom (Some behind) visible e = behind.1.1 visible >>= λ d. Ok (nesting behind.0 is_atom e d)
 nested_read is_atom None visible e = Ok e

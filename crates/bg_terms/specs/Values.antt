@@ -35,6 +35,7 @@ pub record Reached : Type 0 where
 abbrev pub Come : Type 0
 Come = Result (Big × Reached) Refusal
 
+-- the names that the words are
 abbrev pub plain_names : List (List ℕ) → List Name
 plain_names words = map Plain words
 
@@ -48,6 +49,7 @@ entered_at at control controls (Some number) = Ok (number, controls)
 entered_at at control controls None =
     if nat_lt (length controls) 4096 then Ok (length controls, controls ++ control ∷ []) else refused (TooLarge Controls) at
 
+-- the same, looked up by its label
 abbrev pub entered : ℕ → Control → List Control → Result (ℕ × List Control) Refusal
 entered at control controls = entered_at at control controls (number_of controls control.label)
 
@@ -59,6 +61,7 @@ limited at big =
     if nat_lt 65536 big.regions || nat_lt 65536 (length big.sites) then refused (TooLarge Places) at else
     Ok big))
 
+-- the same, with what was reached
 abbrev pub within : ℕ → Big → Reached → Come
 within at big c = limited at big >>= λ b. Ok (b, c)
 
@@ -73,18 +76,22 @@ wide at width big = if nat_lt 65536 width then refused (TooLarge Places) at else
 
 -- ---- the operations, as the model language has them
 
+-- an inner name is in both
 abbrev pub inner_meets : Big → Big → Bool
 inner_meets f g = list_any (λ (row : InnerRow). is_some (inner_of f.inner row.name)) g.inner
 
+-- an outer name is in both
 abbrev pub outer_meets : Big → Big → Bool
 outer_meets f g = list_any (λ (name : Name). is_some (outer_of f.outer name)) g.outer
 
+-- the product of two bigraphs, or its refusal at the operator
 abbrev pub product_of : Product → ℕ → Big → Big → Result Big Refusal
 product_of Composition at f g = if faces_agree f g then Ok (compose f g) else refused FacesDiffer at
 product_of Tensor at f g = if inner_meets f g || outer_meets f g then refused NamesMeet at else Ok (tensor f g)
 product_of Parallel at f g = if inner_meets f g then refused InnerNamesMeet at else Ok (parallel f g)
 product_of Merge at f g = if inner_meets f g then refused InnerNamesMeet at else Ok (merge f g)
 
+-- the second nested in the first, or the refusal at the dot; `is_atom` says that the first is written as an atom
 abbrev pub nested : ℕ → Bool → Big → Big → Result Big Refusal
 nested at is_atom f g =
     if is_atom then refused AtomicHasChild at else (
@@ -96,7 +103,7 @@ nested at is_atom f g =
 abbrev pub closed : ℕ → Name → Big → Big
 closed edge name big = if is_some (outer_of big.outer name) then close big name edge else big
 
--- what a term comes to, in which so many `K` of the grammar are open, from there on
+-- what a term comes to, where so many `K` of the grammar are open around it, from what was reached before it
 abbrev pub value : ℕ → Term → Reached → Come
 value depth (terms.refusal r) c = Err r
 value depth (terms.node at control words) c =

@@ -1,5 +1,5 @@
-//! Expressions of the model language: their definition, what they expand to, and the bigraph that they come to. No call
-//! here evaluates one yet.
+//! Expressions of the model language: their definition, what they expand to, and the bigraph that they come to. The crates
+//! `bg_code` and `bg_machine` find that bigraph.
 //!
 //! - `specs/Expressions`: an expression, its names looked up; `specs/Terms`: a term, each reference replaced by its
 //!   definition and each argument by its value.

@@ -1,5 +1,5 @@
 -- Formulas by their steps come to what they come to.
-use Rattle.std.proofs.Common.{◌≡◌, ◌++◌, Result, Ok, refl, ap, ◌∙◌, List, [], ◌∷◌, map, length, append-nil}
+use Rattle.std.proofs.Common.{◌≡◌, ◌++◌, Ok, refl, ap, ◌∙◌, List, [], ◌∷◌, map, length, append-nil}
 use Rattle.bg_values.specs.declared.operands.Operand.{Operand as Code}
 use Rattle.bg_base.specs.declared.labels.Value.{Value}
 use Rattle.bg_values.specs.Arithmetic.{value}

@@ -22,6 +22,7 @@ abbrev pub ranged : ℕ → ℤ → Result ℤ Refusal
 ranged at z =
     if int_lt z (negsuc 9223372036854775807) || int_lt (pos 9223372036854775807) z then refused NumberOverflow at else Ok z
 
+-- the number with the other sign
 abbrev pub negated : ℕ → ℤ → Result ℤ Refusal
 negated at x = ranged at (neg_ℤ x)
 

@@ -24,9 +24,11 @@ Operand = ℕ × Formula
 abbrev pub trees_of : List SynMoreXItem → List SynX
 trees_of items = map (λ (item : SynMoreXItem). item.part2) items
 
+-- the trees of a list, the first of which stands before the items
 abbrev pub trees : SynX → List SynMoreXItem → List SynX
 trees x items = x ∷ trees_of items
 
+-- what the tree says, with its first token
 abbrev pub operand_read : ScopeParts → SynX → Result Operand Refusal
 operand_read scope x = (x_read x).1 scope >>= λ f. Ok ((x_read x).0, f)
 
@@ -56,6 +58,7 @@ numbers env = each (number env)
 abbrev pub coded : Operand → ℕ × List Step
 coded f = (f.0, code_of f.1)
 
+-- an operand of the code as its first token and its steps
 abbrev pub shown : Code → ℕ × List Step
 shown operand = (operand.first, operand.formula.steps.items)
 

@@ -57,6 +57,7 @@ abbrev pub numbered_range : ℕ → ℕ → ℤ → ℕ → Value → ℕ → Va
 numbered_range name bracket a second v third w =
     whole_of second v >>= λ s. whole_of third w >>= λ b. range name bracket a s b
 
+-- a range of these three formulas: each is evaluated, then each is to be a number
 abbrev pub evaluated_range : ℕ → ℕ → Operand → Operand → Operand → Result (List Value) Refusal
 evaluated_range name bracket f g h =
     value [] f.1 >>= λ u. value [] g.1 >>= λ v. value [] h.1 >>= λ w.
@@ -67,6 +68,7 @@ abbrev pub ranged : ScopeParts → ℕ → ℕ → SynX → SynX → SynX → Re
 ranged scope name bracket from step to =
     operand_read scope from >>= λ f. operand_read scope step >>= λ g. operand_read scope to >>= λ h. evaluated_range name bracket f g h
 
+-- the numbers that a set says: a list, a range or one number
 abbrev pub int_values : ScopeParts → ℕ → SynIntSet → Result (List Value) Refusal
 int_values scope name (int_sets.Way1 bracket first more end) = listed scope name first more.items
 int_values scope name (int_sets.Way2 bracket from colon step colon2 to end) = ranged scope name bracket from step to
@@ -81,9 +83,11 @@ texts_at scope (token ∷ tokens) = text_at scope token >>= λ text. texts_at sc
 abbrev pub tokens_of : List SynMoreTextItem → List ℕ
 tokens_of items = map (λ (item : SynMoreTextItem). item.part2) items
 
+-- the texts of a list
 abbrev pub few_texts : ScopeParts → ℕ → ℕ → List ℕ → Result (List Value) Refusal
 few_texts scope name first more = texts_at scope (first ∷ more) >>= few name
 
+-- the texts that a set says: a list or one text
 abbrev pub text_values : ScopeParts → ℕ → SynTextSet → Result (List Value) Refusal
 text_values scope name (text_sets.Way1 bracket first more end) = few_texts scope name first (tokens_of more.items)
 text_values scope name (text_sets.Way2 only) = texts_at scope (only ∷ [])

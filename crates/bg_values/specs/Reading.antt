@@ -31,6 +31,7 @@ Reading = ℕ × (ScopeParts → Result Formula Refusal)
 abbrev pub Onward : Type 0
 Onward = ScopeParts → ℕ → Formula → Result Formula Refusal
 
+-- the token of a number
 abbrev pub number_token : SynNumber → ℕ
 number_token (numbers.Way1 token) = token
 number_token (numbers.Way2 token) = token
@@ -52,7 +53,7 @@ text_at scope token = if is_text (between (spelling scope token)) then Ok (betwe
 abbrev pub name_at : ScopeParts → ℕ → Result ℕ Refusal
 name_at scope token = there_or UnknownName token (number_of (spelling scope token) scope.names)
 
--- the formula of a number, of a text, of a name, and of a negation
+-- the formulas of a number, of a text, of a name, and of a negation
 abbrev pub whole_at : ScopeParts → ℕ → Result Formula Refusal
 whole_at scope token = number_at scope token >>= λ z. Ok (whole z)
 
@@ -102,6 +103,7 @@ t_layer t = (t.part1.value.0, λ scope. t.part1.value.1 scope >>= along t.part2.
 abbrev pub x_layer : SynX-F Onward Reading Onward Reading Reading → Reading
 x_layer x = (x.part1.value.0, λ scope. x.part1.value.1 scope >>= along x.part2.items scope x.part1.value.0)
 
+-- what each tree says
 abbrev pub t1_item_read : SynT1Item → Onward
 t1_item_read = fold-SynT1Item Onward Reading Onward Reading Reading t1_item_layer u_layer x1_item_layer t_layer x_layer
 

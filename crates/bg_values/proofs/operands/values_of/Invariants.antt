@@ -1,4 +1,4 @@
-use Rattle.std.proofs.Common.{◌≡◌, ◌++◌, List, length, map, Ok}
+use Rattle.std.proofs.Common.{◌≡◌, ◌++◌, length, map, Ok}
 use Rattle.bg_values.specs.Operands.{shown, outcomes}
 use Rattle.bg_values.specs.Outcome.{◌>>=◌}
 use Rattle.bg_values.proofs.operands.values_of.Given as goal
