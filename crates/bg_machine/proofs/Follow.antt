@@ -4,7 +4,7 @@ use Rattle.bg_lists.specs.Lists.{Mem, here, there}
 use Rattle.bg_lists.proofs.Members.{Mem-map}
 use Rattle.bg_base.specs.declared.big.Big.{Big}
 use Rattle.bg_base.specs.declared.big.NodeRow.{NodeRow}
-use Rattle.bg_machine.specs.Machine.{is_below, number_of, follows, lies_behind}
+use Rattle.bg_builder.specs.Numbers.{is_below, number_of, follows, lies_behind}
 use Rattle.bg_terms.specs.Numbering.{symbols}
 use Rattle.bg_terms.specs.Terms.{Term}
 use Rattle.bg_terms.specs.Values.{Reached, value}

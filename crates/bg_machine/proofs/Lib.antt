@@ -3,7 +3,6 @@ mod Follow
 mod Runs
 pub mod Conditions
 pub mod Counting
-pub mod Apart
 pub mod Calls
 pub mod Endings
 pub mod Wholes

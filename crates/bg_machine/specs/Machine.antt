@@ -1,10 +1,10 @@
 -- What the machine does.
-use Rattle.std.specs.Prelude.{ℕ, ◌+◌, ◌-◌, nat_lt, Bool, true, ◌&&◌, length, option_map, if◌then◌else◌, List, [], ◌∷◌, ◌++◌, Option, Some, None, Result, Ok, slice_get}
+use Rattle.std.specs.Prelude.{ℕ, ◌+◌, ◌-◌, nat_lt, Bool, true, length, if◌then◌else◌, List, [], ◌∷◌, ◌++◌, Option, Some, None, Result, Ok, slice_get}
 use Rattle.bg_base.specs.declared.big.Big.{Big}
-use Rattle.bg_base.specs.declared.big.NodeRow.{NodeRow}
 use Rattle.bg_base.specs.declared.labels.Value.{Value}
 use Rattle.bg_base.specs.declared.signature.Control.{Control}
 use Rattle.bg_base.specs.declared.names.Name.TheVariants.{Plain}
+use Rattle.bg_builder.specs.Numbers.{follows, lies_behind}
 use Rattle.bg_code.specs.declared.operation.Operation.{Operation}
 use Rattle.bg_code.specs.declared.operation.Operation.TheVariants.{Node, Reference, Names, Identity, Merger, One, Nothing, Count, Enter, Leave, Open, Close, Nest, Join}
 use Rattle.bg_machine.specs.States.{State, pushed, gone_on}
@@ -32,27 +32,6 @@ comes_to s t = pushed s (value s.depth t s.reached)
 abbrev pub called : ℕ → Option Running → List Value → State → Result State Refusal
 called at (Some running) args s = running args s
 called at None args s = refused UnknownName at
-
--- the one is below the other, where both are there
-abbrev pub is_below : Option ℕ → Option ℕ → Bool
-is_below (Some x) (Some y) = nat_lt x y
-is_below (Some x) None = true
-is_below None other = true
-
-abbrev pub last_of : {A : Type 0} → List A → Option A
-last_of xs = slice_get xs (length xs - 1)
-
--- the number of a row that is there
-abbrev pub number_of : Option NodeRow → Option ℕ
-number_of row = option_map (λ (r : NodeRow). r.id) row
-
--- the nodes and the edges of the second have higher numbers than those of the first, as both ascend
-abbrev pub follows : Big → Big → Bool
-follows f g = is_below (number_of (last_of f.nodes)) (number_of (slice_get g.nodes 0)) && is_below (last_of f.edges) (slice_get g.edges 0)
-
--- the edges of the bigraph have higher numbers, as they ascend
-abbrev pub lies_behind : ℕ → Big → Bool
-lies_behind edge big = is_below (Some edge) (slice_get big.edges 0)
 
 -- a bigraph of two that follow each other, on top of what is below them
 abbrev pub joined_onto : ℕ → (Big → Big → Result Big Refusal) → State → Big → Big → Result State Refusal

@@ -1,5 +1,6 @@
 //! The value of an expression.
-ghost use Rattle.std.specs.Prelude.{◌≡◌, ◌≤◌, All, List, map};
+ghost use Rattle.std.specs.Prelude.{◌≡◌, ◌≤◌, All, IfOk, List, map};
+ghost use Rattle.bg_base.specs.Bigraph.{IsValid};
 ghost use Rattle.bg_code.specs.Code.{code_of};
 ghost use Rattle.bg_machine.specs.Calls as definition;
 ghost use Rattle.bg_terms.specs.declared.shape.Shape.{Shape as ShapeValue};
@@ -20,7 +21,8 @@ use std::alloc::Global;
 /// the definitions before it stand as their codes, the formals have these values, and the controls of `signature` were met
 /// so far. Or its first refusal, as `value` of `bg_terms` has it. No arity is above 16.
 ///
-/// Costs time and memory in proportion to the expanded expression, but that each product copies its operands.
+/// Costs time and memory in proportion to the expanded expression, up to a logarithm, and for each of its levels of nesting
+/// and of closures time in proportion to what is inside.
 pub fn evaluate(
     alloc: Global,
     controls: &NameTable<ControlEntry>,
@@ -30,10 +32,11 @@ pub fn evaluate(
     signature: Signature,
 ) -> Result<(Big, Signature), Stop>
     requires small { All (λ (shape : ShapeValue). shape.arity ≤ 16) (shapes_of controls.now) }
-    ensures { (es : List Expression) (e : Expression) → definitions.now ≡ map code_of es → code.now ≡ code_of e
+    ensures value { (es : List Expression) (e : Expression) → definitions.now ≡ map code_of es → code.now ≡ code_of e
         → Gives result (definition.valued (definition.evaluated signature (expand (shapes_of controls.now) (meanings_of (shapes_of controls.now) es) env.now e))) }
+    ensures valid { IfOk result (λ found. IsValid found.0) }
 {
     let mut machine = Machine::new(alloc, signature);
     run(alloc, controls, definitions, env, code, &mut machine)?;
-    machine.finish()
+    machine.finish(alloc)
 }

@@ -1,6 +1,7 @@
 //! The forms of the model language that have no operand.
-ghost use Rattle.std.specs.Prelude.{◌≡◌, IfOk, IsNone};
-ghost use Rattle.bg_base.specs.Bigraph.{IsValid, edge_of};
+ghost use Rattle.std.specs.Prelude.{◌≡◌, true, IfOk};
+ghost use Rattle.bg_base.specs.Bigraph.{IsValid};
+ghost use Rattle.bg_builder.specs.Numbers.{lies_behind};
 ghost use Rattle.bg_base.specs.Elementary as elementary;
 ghost use Rattle.bg_base.specs.Order.{name_cmp};
 ghost use Rattle.bg_lists.specs.Orders.{set_of};
@@ -8,24 +9,25 @@ ghost use Rattle.bg_base.specs.declared.names.Name.TheVariants as names;
 ghost use Rattle.bg_terms.specs.Values as definition;
 ghost use Rattle.bg_values.specs.Outcome.{Gives, told};
 
-use bg_algebra::{AlgebraFault, atom, close, identity, idle, ion, merger};
+use bg_algebra::{AlgebraFault, atom, identity, idle, ion, merger};
 use bg_base::{Big, Ident, Kind, Name};
+use bg_builder::Builder;
 use bg_link::name_set;
 use bg_lists::{Duplicate, Mem, OutOfMemory, Rows};
 use bg_values::{Cause, LimitWord, Stop};
 use std::alloc::Global;
 
-/// The bigraph, where it is within the limits; else 52 with the first limit that it passes. Takes no memory.
-pub fn limited(at: u32, big: Big) -> Result<Big, Stop>
+/// The bigraph, where it is within the limits; else 52 with the first limit that it passes. Takes constant time.
+pub fn limited(at: u32, big: Builder) -> Result<Builder, Stop>
     ensures { result ≡ told (definition.limited at big) }
 {
-    if big.nodes.len() > 65_536 {
+    if big.nodes() > 65_536 {
         return Err(Stop::refuse(Cause::TooLarge(LimitWord::Nodes), at));
     }
-    if big.edges.len() > 65_536 {
+    if big.edges() > 65_536 {
         return Err(Stop::refuse(Cause::TooLarge(LimitWord::Edges), at));
     }
-    if big.regions > 65_536 || big.sites.len() > 65_536 {
+    if big.regions() > 65_536 || big.sites() > 65_536 {
         return Err(Stop::refuse(Cause::TooLarge(LimitWord::Places), at));
     }
     Ok(big)
@@ -107,17 +109,17 @@ fn lone_atom(alloc: Global, control: u32, node: u32, names: &Rows<Name>) -> Mem<
     Ok(big)
 }
 
-/// `/x F`, by an edge that F has not: F itself where it has no such outer name. Costs time n log n in the size of F.
-pub fn closed(alloc: Global, big: Big, word: &Ident, edge: u32) -> Mem<Big>
-    requires valid { IsValid big }
-    requires new { IsNone (edge_of big.edges edge) }
-    ensures value { IfOk result (λ whole. whole ≡ definition.closed edge (names.Plain word.now) big) }
-    ensures valid { IfOk result IsValid }
+/// `/x F`, by an edge that lies before those of F: F itself where it has no such outer name. Costs time in proportion to F.
+pub fn closed(alloc: Global, big: Builder, word: &Ident, edge: u32) -> Mem<Builder>
+    requires new { lies_behind edge big ≡ true }
+    ensures { IfOk result (λ whole. whole ≡ definition.closed edge (names.Plain word.now) big) }
 {
     let name = Name::Plain(word.copy(alloc)?);
-    match close(alloc, &big, &name, edge) {
+    if !big.has_outer(&name) {
+        return Ok(big);
+    }
+    match big.close(&name, edge) {
         Ok(whole) => Ok(whole),
-        Err(AlgebraFault::NoSuchName) => Ok(big),
         Err(AlgebraFault::OutOfMemory) => Err(OutOfMemory),
         Err(_) => unreachable!(),
     }

@@ -1,11 +1,11 @@
 //! A bigraph on the stack.
-use bg_base::Big;
+use bg_builder::Builder;
 use std::marker::Model;
 
-/// A valid bigraph within the limits of places. A contract sees the bigraph.
+/// A valid bigraph within the limits of places, to which others are put in place. A contract sees the bigraph.
 #[derive(Drop)]
 pub struct Held {
-    pub big: Big,
+    pub big: Builder,
 }
 
 impl Model for Held {

@@ -1,23 +1,11 @@
 //! The state of the machine, and what each operation does with it.
-ghost use Rattle.std.specs.Prelude.{◌≡◌, ◌≤◌, ◌∷◌, IfOk, List, All, Ok, Some, slice_get, option_copied};
-ghost use Rattle.bg_terms.specs.declared.shape.Shape.{Shape as ShapeValue};
-ghost use Rattle.bg_base.specs.declared.big.Big.{Big as BigValue};
-ghost use Rattle.bg_machine.specs.Machine as definition;
-ghost use Rattle.bg_machine.specs.States.{pushed, gone_on, IsHeld};
-ghost use Rattle.bg_terms.specs.Expansion.{control_of, with_values, node_term};
-ghost use Rattle.bg_terms.specs.Terms as terms;
-ghost use Rattle.bg_terms.specs.Values as values;
-ghost use Rattle.bg_values.specs.Operands.{outcomes};
-ghost use Rattle.bg_values.specs.Outcome.{Gives, Goes, there_or};
-ghost use Rattle.bg_values.specs.Stacks.{first, rest};
-ghost use Rattle.bg_values.specs.declared.refusal.Cause.TheVariants as causes;
-
 use crate::entering::enter;
 use crate::forms::{closed, idle_names, limited, single, wide_identity, wide_merger};
 use crate::held::Held;
 use crate::operators::{nested, product_of};
 use bg_algebra::{barren, empty};
 use bg_base::{Big, Ident, Signature, Value};
+use bg_builder::Builder;
 use bg_code::Arguments;
 use bg_lists::Rows;
 use bg_terms::{Product, Shape};
@@ -83,8 +71,9 @@ impl Machine {
     }
 
     /// The bigraph on top, and the signature reached.
-    pub(crate) fn finish(self) -> Result<(Big, Signature), Stop>
-        ensures { Gives result (calls.finished self) }
+    pub(crate) fn finish(self, alloc: Global) -> Result<(Big, Signature), Stop>
+        ensures value { Gives result (calls.finished self) }
+        ensures valid { IfOk result (λ found. IsValid found.0) }
     {
         let Machine {
             mut stack,
@@ -92,7 +81,10 @@ impl Machine {
             ..
         } = self;
         match stack.pop() {
-            Some(held) => Ok((held.big, signature)),
+            Some(held) => {
+                let big = held.big.finish(alloc)?;
+                Ok((big, signature))
+            }
             None => Err(Stop::refuse(Cause::Unexpected, 0)),
         }
     }
@@ -138,9 +130,17 @@ impl Machine {
         Ok(())
     }
 
-    /// Puts the bigraph on top, where it is within the limits.
-    pub(crate) fn show(&mut self, at: u32, big: Big) -> Result<(), Stop>
+    /// Puts a bigraph on top to which others can be put, where it is within the limits.
+    pub(crate) fn show_new(&mut self, alloc: Global, at: u32, big: Big) -> Result<(), Stop>
         requires valid { IsValid big }
+        ensures { Goes result self.new (pushed self.old (values.within at big self.old.reached)) }
+    {
+        let big = Builder::of(alloc, big)?;
+        self.show(at, big)
+    }
+
+    /// Puts the bigraph on top, where it is within the limits.
+    pub(crate) fn show(&mut self, at: u32, big: Builder) -> Result<(), Stop>
         ensures { Goes result self.new (pushed self.old (values.within at big self.old.reached)) }
     {
         let big = limited(at, big)?;
@@ -160,7 +160,7 @@ impl Machine {
     {
         self.count(at)?;
         let big = idle_names(alloc, words.as_slice())?;
-        self.show(at, big)
+        self.show_new(alloc, at, big)
     }
 
     /// `id(n,{x})`
@@ -176,7 +176,7 @@ impl Machine {
     {
         self.count(at)?;
         let big = wide_identity(alloc, at, width, words.as_slice())?;
-        self.show(at, big)
+        self.show_new(alloc, at, big)
     }
 
     /// `merge(n)`
@@ -186,7 +186,7 @@ impl Machine {
     {
         self.count(at)?;
         let big = wide_merger(alloc, at, width)?;
-        self.show(at, big)
+        self.show_new(alloc, at, big)
     }
 
     /// `1`
@@ -195,7 +195,7 @@ impl Machine {
         ensures { Goes result self.new (definition.comes_to self.old (terms.one at)) }
     {
         self.count(at)?;
-        self.show(at, barren(alloc))
+        self.show_new(alloc, at, barren(alloc))
     }
 
     /// `0`
@@ -204,7 +204,7 @@ impl Machine {
         ensures { Goes result self.new (definition.comes_to self.old (terms.nothing at)) }
     {
         self.count(at)?;
-        self.show(at, empty(alloc))
+        self.show_new(alloc, at, empty(alloc))
     }
 
     /// `K(..){a,b}`
@@ -263,11 +263,11 @@ impl Machine {
         let number = enter(alloc, at, shape, args, &mut self.signature)?;
         self.nodes = next;
         let big = single(alloc, shape.kind, number, node, ports)?;
-        self.show(at, big)
+        self.show_new(alloc, at, big)
     }
 
     /// Takes the bigraph on top.
-    pub(crate) fn take(&mut self, at: u32) -> Result<Big, Stop>
+    pub(crate) fn take(&mut self, at: u32) -> Result<Builder, Stop>
         ensures top { Gives result (there_or causes.Unexpected at (first self.old.stack)) }
         ensures left { self.new ≡ record self.old { stack = rest self.old.stack } }
         ensures held { IfOk result IsHeld }
@@ -290,62 +290,56 @@ impl Machine {
     }
 
     /// The product of the two on top, in their place.
-    pub(crate) fn join(&mut self, alloc: Global, product: Product, at: u32) -> Result<(), Stop>
+    pub(crate) fn join(&mut self, product: Product, at: u32) -> Result<(), Stop>
         ensures { Goes result self.new (definition.joined at (values.product_of product at) self.old) }
     {
         let g = self.take(at)?;
         let f = self.take(at)?;
-        self.join_these(alloc, product, at, &f, &g)
+        self.join_these(product, at, f, g)
     }
 
     /// The product of these two on top.
-    #[tactic(auto, using(crate::proofs::Apart::apart))]
     fn join_these(
         &mut self,
-        alloc: Global,
         product: Product,
         at: u32,
-        f: &Big,
-        g: &Big,
+        f: Builder,
+        g: Builder,
     ) -> Result<(), Stop>
-        requires f_held { IsHeld f.now }
-        requires g_held { IsHeld g.now }
-        ensures { Goes result self.new (definition.joined_onto at (values.product_of product at) self.old f.now g.now) }
+        requires f_held { IsHeld f }
+        requires g_held { IsHeld g }
+        ensures { Goes result self.new (definition.joined_onto at (values.product_of product at) self.old f g) }
     {
-        if !follows(f, g) {
+        if !f.follows(&g) {
             return Err(Stop::refuse(Cause::Unexpected, at));
         }
-        let big = product_of(alloc, product, at, f, g)?;
+        let big = product_of(product, at, f, g)?;
         self.show(at, big)
     }
 
     /// The bigraph on top, nested in the one below it, in their place.
-    pub(crate) fn nest(&mut self, alloc: Global, at: u32, is_atom: bool) -> Result<(), Stop>
+    pub(crate) fn nest(&mut self, at: u32, is_atom: bool) -> Result<(), Stop>
         ensures { Goes result self.new (definition.joined at (values.nested at is_atom) self.old) }
     {
         let g = self.take(at)?;
         let f = self.take(at)?;
-        self.nest_these(alloc, at, is_atom, &f, &g)
+        self.nest_these(at, is_atom, f, g)
     }
 
     /// The second nested in the first, on top.
-    #[tactic(auto, using(crate::proofs::Apart::apart))]
     fn nest_these(
         &mut self,
-        alloc: Global,
         at: u32,
         is_atom: bool,
-        f: &Big,
-        g: &Big,
+        f: Builder,
+        g: Builder,
     ) -> Result<(), Stop>
-        requires f_held { IsHeld f.now }
-        requires g_held { IsHeld g.now }
-        ensures { Goes result self.new (definition.joined_onto at (values.nested at is_atom) self.old f.now g.now) }
+        ensures { Goes result self.new (definition.joined_onto at (values.nested at is_atom) self.old f g) }
     {
-        if !follows(f, g) {
+        if !f.follows(&g) {
             return Err(Stop::refuse(Cause::Unexpected, at));
         }
-        let big = nested(alloc, at, is_atom, f, g)?;
+        let big = nested(at, is_atom, f, g)?;
         self.show(at, big)
     }
 
@@ -359,60 +353,20 @@ impl Machine {
     }
 
     /// This bigraph with the name closed, on top.
-    #[tactic(auto, using(crate::proofs::Apart::new_edge))]
     fn close_this(
         &mut self,
         alloc: Global,
         at: u32,
         word: &Ident,
         edge: u32,
-        big: Big,
+        big: Builder,
     ) -> Result<(), Stop>
-        requires held { IsHeld big }
         ensures { Goes result self.new (definition.closed_onto at word.now self.old edge big) }
     {
-        if !lies_behind(edge, &big) {
+        if !big.lies_behind(edge) {
             return Err(Stop::refuse(Cause::Unexpected, at));
         }
         let whole = closed(alloc, big, word, edge)?;
         self.show(at, whole)
-    }
-}
-
-/// Whether the numbers of the second lie behind those of the first. Takes constant time.
-fn follows(f: &Big, g: &Big) -> bool
-    ensures { result ≡ definition.follows f.now g.now }
-{
-    nodes_follow(f, g) && is_below(f.edges.last(), g.edges.first())
-}
-
-fn nodes_follow(f: &Big, g: &Big) -> bool
-    ensures { result ≡ definition.is_below (definition.number_of (definition.last_of f.now.nodes)) (definition.number_of (slice_get g.now.nodes 0)) }
-{
-    match (f.nodes.last(), g.nodes.first()) {
-        (Some(left), Some(right)) => left.id < right.id,
-        (Some(_), None) => true,
-        (None, _) => true,
-    }
-}
-
-/// Whether the one is below the other, where both are there.
-fn is_below(left: Option<&u32>, right: Option<&u32>) -> bool
-    ensures { result ≡ definition.is_below (option_copied left.entry) (option_copied right.entry) }
-{
-    match (left, right) {
-        (Some(left), Some(right)) => left < right,
-        (Some(_), None) => true,
-        (None, _) => true,
-    }
-}
-
-/// Whether the edges of the bigraph lie behind that one. Takes constant time.
-fn lies_behind(edge: u32, big: &Big) -> bool
-    ensures { result ≡ definition.lies_behind edge big.now }
-{
-    match big.edges.first() {
-        Some(other) => edge < *other,
-        None => true,
     }
 }

@@ -89,8 +89,8 @@ fn take_step(
         }
         Operation::Open => machine.open(),
         Operation::Close { at, name } => machine.close(alloc, *at, name),
-        Operation::Nest { at, is_atom } => machine.nest(alloc, *at, *is_atom),
-        Operation::Join { product, at } => machine.join(alloc, *product, *at),
+        Operation::Nest { at, is_atom } => machine.nest(*at, *is_atom),
+        Operation::Join { product, at } => machine.join(*product, *at),
     }
 }
 
