@@ -7,7 +7,8 @@ use Rattle.bg_code.specs.declared.operation.Operation.{Operation}
 use Rattle.bg_code.specs.declared.operation.Operation.TheVariants as operations
 use Rattle.bg_code.specs.Code.{code_of}
 use Rattle.bg_machine.specs.States.{State, pushed, gone_on}
-use Rattle.bg_machine.specs.Machine.{Running, counted_node, comes_to, called, follows, lies_behind, joined, step, run, running_after, running_of}
+use Rattle.bg_builder.specs.Numbers.{follows, lies_behind}
+use Rattle.bg_machine.specs.Machine.{Running, counted_node, comes_to, called, joined, step, run, running_after, running_of}
 use Rattle.bg_machine.proofs.Follow.{values_follow, lies_behind_its_closure}
 use Rattle.bg_machine.proofs.Bindings.{bind_same, run_append, run_none}
 use Rattle.bg_terms.specs.declared.shape.Shape.{Shape}
