@@ -8,6 +8,7 @@
 //! - [`laws`]: that the code of an expression comes to the value of its expansion.
 #![tactic(auto)]
 
+mod ending;
 mod entering;
 mod evaluation;
 mod forms;
@@ -16,15 +17,14 @@ pub mod laws;
 mod machine;
 mod operators;
 mod running;
-mod whole;
 
+pub use ending::whole;
 pub use entering::enter;
 pub use evaluation::evaluate;
 pub use forms::{closed, idle_names, limited, single, wide_identity, wide_merger};
 pub use machine::Machine;
 pub use operators::{nested, product_of};
 pub use running::run;
-pub use whole::whole;
 
 #[cfg(test)]
 mod tests;
