@@ -1,11 +1,12 @@
 -- Controls that become visible one by one.
 use Rattle.std.proofs.Common.{◌≡◌, ◌≤◌, ◌+◌, ◌++◌, ◌∷◌, [], inl, inr, ℕ, suc, arith, cond, not, Bool, true, false, List, length, Option, Some, None, refl, sym, ap, subst, ◌∙◌}
 use Rattle.std.proofs.lemmas.Bool.Decides.{nat_tests}
-use Rattle.std.specs.Prelude.{is_none, position, nat_lt}
+use Rattle.std.specs.Prelude.{All, is_none, position, nat_lt}
 use Rattle.std.specs.List.{position_or_len}
 use Rattle.std.specs.Cmp.Lexicographic.{other_text}
 use Rattle.bg_lists.specs.Lists.{Mem, here, there}
 use Rattle.bg_lists.proofs.Members.{Mem-append_cases, Mem-map, Mem-unmap}
+use Rattle.bg_lists.proofs.Words.{All-from_members}
 use Rattle.bg_values.specs.Names.{Entry, number_of, same_word, words}
 use Rattle.bg_terms.specs.declared.shape.ControlEntry.{ControlEntry}
 use Rattle.bg_terms.specs.declared.shape.Shape.{Shape}
@@ -89,3 +90,6 @@ controls_shapes controls are = record {
   where
     from : (shape : Shape) → Mem shape (shapes_of controls) → (control : Entry ControlEntry) × Mem control controls × (control.1.shape ≡ shape)
     from shape m = Mem-unmap (λ (control : Entry ControlEntry). control.1.shape) controls m
+
+pub controls_small : (controls : List (Entry ControlEntry)) → AreControls controls → All (λ (shape : Shape). shape.arity ≤ 16) (shapes_of controls)
+controls_small controls are = All-from_members (λ (shape : Shape). shape.arity ≤ 16) (shapes_of controls) (controls_shapes controls are).small

@@ -1,5 +1,5 @@
 //! Laws of expressions. A call does nothing.
-ghost use Rattle.std.specs.Prelude.{◌≡◌, ◌≤◌, ◌+◌, ◌++◌, ◌∷◌, [], ℕ, true, List, length, is_none, Ok};
+ghost use Rattle.std.specs.Prelude.{◌≡◌, ◌≤◌, ◌+◌, ◌++◌, ◌∷◌, [], ℕ, true, List, All, length, is_none, Ok};
 ghost use Rattle.bg_base.specs.declared.big.Big.{Big};
 ghost use Rattle.bg_lists.specs.Lists.{Mem};
 ghost use Rattle.bg_base.specs.declared.labels.Value.{Value};
@@ -94,6 +94,7 @@ pub fn controls_become_visible_one_by_one()
     ensures more { (controls : List (Entry ControlEntry)) (word : List ℕ) (entry : ControlEntry) → AreControls controls
         → is_none (number_of word controls) ≡ true → entry.shape.word ≡ word → entry.shape.arity ≤ 16 → AreControls (controls ++ (word, entry) ∷ []) }
     ensures shapes { (controls : List (Entry ControlEntry)) → AreControls controls → AreShapes (shapes_of controls) }
+    ensures small { (controls : List (Entry ControlEntry)) → AreControls controls → All (λ (shape : Shape). shape.arity ≤ 16) (shapes_of controls) }
 {}
 
 /// What statements make visible in turn: nothing at first; then a control, whose word is not in the table and whose arity is
