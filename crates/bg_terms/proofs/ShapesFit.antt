@@ -31,7 +31,6 @@ pub record Shaped (shapes : List Shape) (t : Term) : Type 0 where
 abbrev pub AreShaped : List Shape → List Meaning → Type 0
 AreShaped shapes meanings = (number : ℕ) (meaning : Meaning) → slice_get meanings number ≡ Some meaning → (args : List Value) → Shaped shapes (meaning args)
 
-
 module _ (shapes : List Shape) (are : AreShapes shapes) where
   refused_term : (r : Refusal) → Shaped shapes (terms.refusal r)
   refused_term r = record { arities = tt; of_shapes = λ control m. elim m [ ] }
