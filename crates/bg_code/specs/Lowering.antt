@@ -17,10 +17,11 @@ use Rattle.bg_values.specs.Lowering.{behind}
 use Rattle.bg_values.specs.Outcome.{Goes, Stops, there_or}
 use Rattle.bg_values.specs.Scopes.{spelling}
 
--- the control, and the bigraph, that a token names
+-- the control that a token names: its number and its entry
 abbrev pub control_at : Visible → ℕ → Result (ℕ × ControlEntry) Refusal
 control_at visible at = there_or UnknownName at (look_up (spelling visible.scope at) visible.controls)
 
+-- the bigraph that a token names: its number, and how many formals it has
 abbrev pub bigraph_at : Visible → ℕ → Result (ℕ × ℕ) Refusal
 bigraph_at visible at = there_or UnknownName at (look_up (spelling visible.scope at) visible.bigraphs)
 
@@ -45,8 +46,3 @@ Reads (Err stop) read = Stops stop read
 abbrev pub ReadsArguments : Result (List (ℕ × List Step)) Stop → Result (List Operand) Refusal → Type 0
 ReadsArguments (Ok arguments) read = (fs : List Operand) × (read ≡ Ok fs) × (arguments ≡ map coded fs)
 ReadsArguments (Err stop) read = Stops stop read
-
--- a call gives the wanted list, or the wanted refusal, or found no memory
-abbrev pub GivesList : {X : Type 0} → Result (Vec X Global) Stop → Result (List X) Refusal → Type 0
-GivesList (Ok list) wanted = wanted ≡ Ok list.items
-GivesList (Err stop) wanted = Stops stop wanted

@@ -1,7 +1,8 @@
 //! The names and the numbers that tokens spell.
 ghost use Rattle.std.specs.Prelude.{◌≡◌, ◌∷◌, length};
-ghost use Rattle.bg_code.specs.Lowering.{GivesList, tokens_of};
+ghost use Rattle.bg_code.specs.Lowering.{tokens_of};
 ghost use Rattle.bg_terms.specs.Trees as definition;
+ghost use Rattle.bg_values.specs.Operands.{GivesList};
 ghost use Rattle.bg_values.specs.Outcome.{Gives};
 
 use crate::Visible;

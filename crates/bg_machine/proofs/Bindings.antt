@@ -1,4 +1,4 @@
--- Results that go on.
+-- Operations of two lists in a row, and none.
 use Rattle.std.proofs.Common.{◌≡◌, Result, Ok, Err, refl, sym, ◌∙◌, List, [], ◌∷◌, ◌++◌}
 use Rattle.bg_base.specs.declared.labels.Value.{Value}
 use Rattle.bg_code.specs.declared.operation.Operation.{Operation}
@@ -7,15 +7,7 @@ use Rattle.bg_machine.specs.Machine.{Running, step, run}
 use Rattle.bg_terms.specs.declared.shape.Shape.{Shape}
 use Rattle.bg_values.specs.declared.refusal.Refusal.{Refusal}
 use Rattle.bg_values.specs.Outcome.{◌>>=◌}
-
-bind_assoc : {A B C : Type 0} → (r : Result A Refusal) (f : A → Result B Refusal) (g : B → Result C Refusal)
-    → (r >>= f) >>= g ≡ r >>= (λ x. f x >>= g)
-bind_assoc (Ok x) f g = refl
-bind_assoc (Err e) f g = refl
-
-pub bind_same : {A B : Type 0} → (r : Result A Refusal) (f g : A → Result B Refusal) → ((x : A) → f x ≡ g x) → r >>= f ≡ r >>= g
-bind_same (Ok x) f g same = same x
-bind_same (Err e) f g same = refl
+use Rattle.bg_values.proofs.Bindings.{bind_assoc, bind_same}
 
 module _ (shapes : List Shape) (running : List Running) (env : List Value) where
   pub run_append : (xs ys : List Operation) (s : State)

@@ -1,37 +1,21 @@
 -- What a call of a definition does.
-use Rattle.std.proofs.Common.{◌≡◌, ◌+◌, ◌<◌, ◌≤◌, ◌++◌, ◌∷◌, [], ℕ, zero, suc, List, length, take, Some, None, refl, ap, ◌∙◌, arith, slice_get}
+use Rattle.std.proofs.Common.{◌≡◌, ◌+◌, ◌<◌, ◌++◌, ◌∷◌, [], ℕ, zero, suc, List, length, take, Some, None, refl, ap, ◌∙◌, arith, slice_get}
 use Rattle.std.specs.Prelude.{option_map}
+use Rattle.std.proofs.lemmas.List.{length-append}
+use Rattle.std.proofs.lemmas.Option.{slice_get_past}
 use Rattle.bg_base.specs.declared.labels.Value.{Value}
 use Rattle.bg_code.specs.declared.operation.Operation.{Operation}
 use Rattle.bg_machine.specs.States.{State}
 use Rattle.bg_machine.specs.Machine.{Running, called, run, running_after, running_of}
 use Rattle.bg_terms.specs.declared.shape.Shape.{Shape}
-
-private_get : {A : Type 0} (xs ys : List A) (k : ℕ) → k < length xs → slice_get (xs ++ ys) k ≡ slice_get xs k
-private_get [] ys k less = absurd (omega (arith, less))
-private_get (x ∷ xs) ys zero less = refl
-private_get (x ∷ xs) ys (suc k) less = private_get xs ys k (omega (arith, less))
-
-last_one : {A : Type 0} (xs : List A) (x : A) → slice_get (xs ++ x ∷ []) (length xs) ≡ Some x
-last_one [] x = refl
-last_one (y ∷ xs) x = last_one xs x
-
-past : {A : Type 0} (xs : List A) (n : ℕ) → length xs ≤ n → slice_get xs n ≡ None
-past [] zero less = refl
-past [] (suc n) less = refl
-past (x ∷ xs) zero less = absurd (omega (arith, less))
-past (x ∷ xs) (suc n) less = past xs n (omega (arith, less))
-
-long : {A : Type 0} (xs : List A) (x : A) → length (xs ++ x ∷ []) ≡ suc (length xs)
-long [] x = refl
-long (y ∷ xs) x = ap suc (long xs x)
+use Rattle.bg_values.proofs.Items.{same_before, last_item}
 
 module _ (shapes : List Shape) where
   kept : (codes : List (List Operation)) (ms : List Running) (k : ℕ) → k < length ms → slice_get (running_after shapes ms codes) k ≡ slice_get ms k
   kept [] ms k less = refl
   kept (code ∷ codes) ms k less =
-      kept codes (ms ++ (λ args s. run shapes ms args code s) ∷ []) k (omega (arith, less, long ms (λ args s. run shapes ms args code s)))
-      ∙ private_get ms _ k less
+      kept codes (ms ++ (λ args s. run shapes ms args code s) ∷ []) k (omega (arith, less, length-append ms ((λ args s. run shapes ms args code s) ∷ [])))
+      ∙ same_before ms _ k less
 
   -- what the code of the definition does, where those before it may be called
   abbrev meaning_at : List Running → List (List Operation) → ℕ → List Operation → Running
@@ -39,16 +23,15 @@ module _ (shapes : List Shape) where
 
   from_there : (codes : List (List Operation)) (ms : List Running) (k n : ℕ) → n ≡ length ms + k
       → slice_get (running_after shapes ms codes) n ≡ option_map (meaning_at ms codes k) (slice_get codes k)
-  from_there [] ms zero n is = past ms n (omega (arith, is))
-  from_there [] ms (suc k) n is = past ms n (omega (arith, is))
+  from_there [] ms k n is = slice_get_past ms n (omega (arith, is))
   from_there (code ∷ codes) ms zero n is =
       let m : Running = λ args s. run shapes ms args code s in
       let first_new : n ≡ length ms = omega (arith, is) in
       ap (slice_get (running_after shapes (ms ++ m ∷ []) codes)) first_new
-      ∙ kept codes (ms ++ m ∷ []) (length ms) (omega (arith, long ms m)) ∙ last_one ms m
+      ∙ kept codes (ms ++ m ∷ []) (length ms) (omega (arith, length-append ms (m ∷ []))) ∙ last_item ms m
   from_there (code ∷ codes) ms (suc k) n is =
       let m : Running = λ args s. run shapes ms args code s in
-      from_there codes (ms ++ m ∷ []) k n (omega (arith, is, long ms m))
+      from_there codes (ms ++ m ∷ []) k n (omega (arith, is, length-append ms (m ∷ [])))
 
   pub called_at : (codes : List (List Operation)) (at number : ℕ) (args : List Value) (s : State) (code : List Operation) → slice_get codes number ≡ Some code
       → called at (slice_get (running_of shapes codes) number) args s ≡ run shapes (running_of shapes (take number codes)) args code s

@@ -1,6 +1,7 @@
 -- The values of two operands follow each other, and those of what a closure closes lie behind its edge.
-use Rattle.std.proofs.Common.{◌≡◌, ◌+◌, ◌-◌, ◌<◌, ◌≤◌, ◌&&◌, ◌∷◌, [], ℕ, zero, suc, Bool, true, nat_lt, List, length, Option, Some, None, Ok, refl, ap, subst, ◌∙◌, arith, slice_get}
-use Rattle.bg_lists.specs.Lists.{Mem, here, there}
+use Rattle.std.proofs.Common.{◌≡◌, ◌+◌, ◌-◌, ◌<◌, ◌≤◌, ℕ, true, nat_lt, List, length, Option, Some, None, Ok, refl, subst, arith, slice_get}
+use Rattle.std.proofs.lemmas.Bool.{and_from}
+use Rattle.bg_lists.specs.Lists.{Mem}
 use Rattle.bg_lists.proofs.Members.{Mem-map}
 use Rattle.bg_base.specs.declared.big.Big.{Big}
 use Rattle.bg_base.specs.declared.big.NodeRow.{NodeRow}
@@ -8,15 +9,10 @@ use Rattle.bg_builder.specs.Numbers.{is_below, number_of, follows, lies_behind}
 use Rattle.bg_terms.specs.Numbering.{symbols}
 use Rattle.bg_terms.specs.Terms.{Term}
 use Rattle.bg_terms.specs.Values.{Reached, value}
+use Rattle.bg_values.proofs.Items.{member_at}
 use Rattle.bg_terms.proofs.Closures.{within_closures}
 use Rattle.bg_terms.proofs.Numbered.{numbered}
 use Rattle.bg_terms.proofs.Valid.{in_row}
-
-item_member : {A : Type 0} (xs : List A) (n : ℕ) (x : A) → slice_get xs n ≡ Some x → Mem x xs
-item_member [] zero x is = absurd cc
-item_member [] (suc n) x is = absurd cc
-item_member (y ∷ xs) zero x is = here cc
-item_member (y ∷ xs) (suc n) x is = there (item_member xs n x is)
 
 below_true : (x y : ℕ) → x < y → nat_lt x y ≡ true
 below_true x y less = grind (arith, less)
@@ -25,7 +21,7 @@ edges_below : (xs ys : List ℕ) (m n : ℕ) → ((x y : ℕ) → Mem x xs → M
 edges_below xs ys m n less = by (slice_get xs m) (slice_get ys n) refl refl
   where
     by : (o p : Option ℕ) → slice_get xs m ≡ o → slice_get ys n ≡ p → is_below o p ≡ true
-    by (Some x) (Some y) left right = below_true x y (less x y (item_member xs m x left) (item_member ys n y right))
+    by (Some x) (Some y) left right = below_true x y (less x y (member_at xs m x left) (member_at ys n y right))
     by (Some x) None left right = refl
     by None p left right = refl
 
@@ -34,12 +30,9 @@ nodes_below : (xs ys : List NodeRow) (m n : ℕ) → ((x y : NodeRow) → Mem x 
 nodes_below xs ys m n less = by (slice_get xs m) (slice_get ys n) refl refl
   where
     by : (o p : Option NodeRow) → slice_get xs m ≡ o → slice_get ys n ≡ p → is_below (number_of o) (number_of p) ≡ true
-    by (Some x) (Some y) left right = below_true x.id y.id (less x y (item_member xs m x left) (item_member ys n y right))
+    by (Some x) (Some y) left right = below_true x.id y.id (less x y (member_at xs m x left) (member_at ys n y right))
     by (Some x) None left right = refl
     by None p left right = refl
-
-both : (a b : Bool) → a ≡ true → b ≡ true → (a && b) ≡ true
-both a b a_is b_is = ap (λ z. z && b) a_is ∙ b_is
 
 pub values_follow : (depth : ℕ) (t u : Term) (c after last : Reached) (f g : Big) → value depth t c ≡ Ok (f, after) → value depth u after ≡ Ok (g, last)
     → follows f g ≡ true
@@ -48,7 +41,7 @@ values_follow depth t u c after last f g first second =
     let g_nodes = numbered depth u after last g second in
     let f_edges = within_closures depth t c after f first in
     let g_edges = within_closures depth u after last g second in
-    both _ _
+    and_from _ _
     (nodes_below f.nodes g.nodes (length f.nodes - 1) 0
     (λ x y m n.
     let left = in_row c.nodes (symbols t) x.id (subst (Mem x.id) f_nodes.numbers (Mem-map (λ (r : NodeRow). r.id) m)) in
@@ -64,5 +57,5 @@ lies_behind_its_closure depth t c after f is =
     by (slice_get f.edges 0) refl edges.from_there
   where
     by : (o : Option ℕ) → slice_get f.edges 0 ≡ o → ((edge : ℕ) → Mem edge f.edges → c.edges + 1 ≤ edge) → is_below (Some c.edges) o ≡ true
-    by (Some y) there_is from_there = below_true c.edges y (omega (arith, from_there y (item_member f.edges 0 y there_is)))
+    by (Some y) there_is from_there = below_true c.edges y (omega (arith, from_there y (member_at f.edges 0 y there_is)))
     by None there_is from_there = refl

@@ -10,7 +10,7 @@ use Rattle.bg_machine.specs.States.{State, pushed, gone_on}
 use Rattle.bg_builder.specs.Numbers.{follows, lies_behind}
 use Rattle.bg_machine.specs.Machine.{Running, counted_node, comes_to, called, joined, step, run, running_after, running_of}
 use Rattle.bg_machine.proofs.Follow.{values_follow, lies_behind_its_closure}
-use Rattle.bg_machine.proofs.Bindings.{bind_same, run_append, run_none}
+use Rattle.bg_machine.proofs.Bindings.{run_append, run_none}
 use Rattle.bg_terms.specs.declared.shape.Shape.{Shape}
 use Rattle.bg_terms.specs.Expansion.{Meaning, with_values, node_term, meant, expand, meanings_after, meanings_of}
 use Rattle.bg_terms.specs.Expressions.{Expression, node, reference, names, identity_of, merger_of, one, nothing, brackets, deeper, closure, nesting, product}
@@ -21,6 +21,7 @@ use Rattle.bg_values.specs.declared.refusal.Refusal.{Refusal}
 use Rattle.bg_values.specs.declared.refusal.LimitWord.TheVariants.{Depth}
 use Rattle.bg_values.specs.declared.refusal.Cause.TheVariants.{TooLarge, Unexpected}
 use Rattle.bg_values.specs.Outcome.{◌>>=◌, refused}
+use Rattle.bg_values.proofs.Bindings.{bind_same}
 use Rattle.bg_values.proofs.Outcomes.{outcomes_coded}
 
 -- a call of the definition does what its meaning comes to

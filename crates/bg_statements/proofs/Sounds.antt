@@ -1,20 +1,19 @@
 -- What statements define stays sound.
-use Rattle.std.proofs.Common.{◌≡◌, ◌≤◌, ◌++◌, ◌∷◌, [], inl, inr, ℕ, zero, suc, Bool, true, false, List, map, length, Option, Some, None, Result, Ok, Err, append-nil, refl, sym, ap, subst, ◌∙◌, is_some, arith}
+use Rattle.std.proofs.Common.{◌≡◌, ◌≤◌, ◌++◌, ◌∷◌, [], ℕ, zero, suc, Bool, true, false, List, length, Option, Some, None, Result, Ok, Err, refl, sym, ap, subst, ◌∙◌, is_some, is_none, arith}
 use Rattle.std.specs.Prelude.{nat_abs, nat_lt}
 use Rattle.std.proofs.lemmas.Bool.Decides.{nat_tests}
-use Rattle.std.proofs.lemmas.List.{map-append, append_assoc}
+use Rattle.std.proofs.lemmas.List.{map-append}
 use Rattle.bg_base.specs.declared.big.Big.{Big}
 use Rattle.bg_base.specs.declared.labels.Value.{Value}
 use Rattle.bg_base.specs.declared.signature.Control.{Control}
 use Rattle.bg_base.specs.declared.signature.Kind.{Kind}
 use Rattle.bg_base.specs.Signatures.{IsSignature}
-use Rattle.bg_lists.specs.Lists.{Mem, here, there}
-use Rattle.bg_lists.proofs.Members.{Mem-append_left, Mem-append_right, Mem-append_cases}
+use Rattle.bg_lists.specs.Lists.{Mem, here}
+use Rattle.bg_lists.proofs.Members.{Mem-append_right}
 use Rattle.bg_machine.specs.Calls.{evaluated}
 use Rattle.bg_statements.specs.Defined.{Defined, visible_with}
 use Rattle.bg_statements.specs.Sound.{IsSound, nothing}
 use Rattle.bg_statements.specs.Statements.{new_word, formal_tokens, formals_behind, arity_at, entered_at_once, with_shape, with_control, tried, with_expression, with_bigraph, with_parameter}
-use Rattle.bg_syntax.specs.declared.tree.expressions.SynE.{SynE}
 use Rattle.bg_syntax.specs.declared.tree.statements.SynBigraph.{SynBigraph}
 use Rattle.bg_syntax.specs.declared.tree.statements.SynControl.{SynControl}
 use Rattle.bg_syntax.specs.declared.tree.statements.SynParam.{SynParam}
@@ -22,13 +21,13 @@ use Rattle.bg_terms.specs.declared.shape.ControlEntry.{ControlEntry}
 use Rattle.bg_terms.specs.declared.shape.Shape.{Shape}
 use Rattle.bg_terms.specs.Expansion.{control_of, expand, meanings_of}
 use Rattle.bg_terms.specs.Expressions.{Expression}
-use Rattle.bg_terms.specs.Read.{AreControls, IsRead, shapes_of}
-use Rattle.bg_terms.specs.Shapes.{AreShapes, IsOfShapes, AreOfShapes, FitsShapes}
+use Rattle.bg_terms.specs.Read.{AreRead, IsRead, shapes_of}
+use Rattle.bg_terms.specs.Shapes.{AreShapes, AreOfShapes, FitsShapes}
 use Rattle.bg_terms.specs.Trees.{Visible, word_at, e_read}
 use Rattle.bg_terms.specs.Values.{Reached, entered, value}
-use Rattle.bg_terms.proofs.Controls.{controls_none, controls_more, controls_shapes}
+use Rattle.bg_terms.proofs.Controls.{controls_shapes}
+use Rattle.bg_terms.proofs.InTurn.{IsRead-now, read_none, read_control, read_definition, read_fits, AreOfShapes-more}
 use Rattle.bg_terms.proofs.Numbered.{bound, ok_same, tested, untested}
-use Rattle.bg_terms.proofs.Ports.{read_fits}
 use Rattle.bg_terms.proofs.ShapesFit.{entered_fits}
 use Rattle.bg_values.specs.declared.refusal.Refusal.{Refusal}
 use Rattle.bg_values.specs.Names.{Entry, number_of}
@@ -38,18 +37,19 @@ use Rattle.bg_values.specs.Reading.{number_token, number_at}
 use Rattle.bg_values.specs.Scopes.{ScopeParts, spelling}
 
 pub nothing_sound : IsSound nothing
-nothing_sound = record { controls = controls_none; signature = signature_none; of_shapes = λ control m. elim m [ ]; read = λ e m. elim m [ ] }
+nothing_sound = record { read = read_none; signature = signature_none; of_shapes = λ control m. elim m [ ] }
   where
     signature_none : IsSignature []
     signature_none = record { few = omega arith; arities = tt; labels_differ = tt }
 
 -- ---- what an Ok says of a name and of an arity
 
+-- the word that the token spells is new in the table
 record IsNew {T : Type 0} (text : ScopeParts) (entries : List (Entry T)) (token : ℕ) (word : List ℕ) : Type 0 where
   spelled : spelling text token ≡ word
-  new : number_of word entries ≡ None
+  new : is_none (number_of word entries) ≡ true
 
-none_there : {A B : Type 0} (o : Option A) (r : Result B Refusal) (e : Refusal) (y : B) → (if is_some o then Err e else r) ≡ Ok y → o ≡ None
+none_there : {A B : Type 0} (o : Option A) (r : Result B Refusal) (e : Refusal) (y : B) → (if is_some o then Err e else r) ≡ Ok y → is_none o ≡ true
 none_there (Some x) r e y is = absurd cc
 none_there None r e y is = refl
 
@@ -59,7 +59,7 @@ is_new text entries token word is =
     let same = ok_same (untested (is_some (number_of (spelling text token) entries)) (Ok (spelling text token)) _ word is) in
     record {
       spelled = same;
-      new = ap (λ w. number_of w entries) (sym same) ∙ none_there (number_of (spelling text token) entries) (Ok (spelling text token)) _ word is;
+      new = ap (λ w. is_none (number_of w entries)) (sym same) ∙ none_there (number_of (spelling text token) entries) (Ok (spelling text token)) _ word is;
     }
 
 word_spelled : (visible : Visible) (token : ℕ) (word : List ℕ) → word_at visible token ≡ Ok word → spelling visible.scope token ≡ word
@@ -73,78 +73,49 @@ at_most n e y = by (nat_lt 16 n) refl
     by false is_so made = let same : n ≡ y = ok_same made in grind (arith, nat_tests)
 
 small_arity : (text : ScopeParts) (token arity : ℕ) → arity_at text token ≡ Ok arity → arity ≤ 16
-small_arity text token arity is =
-    let b = bound (number_at text token) (λ z. if nat_lt 16 (nat_abs z) then Err _ else Ok (nat_abs z)) arity is in at_most (nat_abs b.found) _ arity b.goes_on
+small_arity text token arity is = let b = bound (number_at text token) _ arity is in at_most (nat_abs b.found) _ arity b.goes_on
 
--- ---- controls
+-- ---- the signature alone grows
 
--- what was of the shapes is of more
-more_shapes : (shapes others : List Shape) (controls : List Control) → AreOfShapes shapes controls → AreOfShapes (shapes ++ others) controls
-more_shapes shapes others controls are control m =
-    let one = are control m in
-    record { shape = one.shape; args = one.args; among = Mem-append_left shapes others one.among; is = one.is }
-
-read_under_more : (shapes others : List Shape) (e : Expression) → IsRead shapes e → IsRead (shapes ++ others) e
-read_under_more shapes others e read =
-    record {
-      tree = read.tree;
-      visible = read.visible;
-      is = read.is;
-      later = read.later ++ others;
-      begins = ap (λ ss. ss ++ others) read.begins ∙ append_assoc (shapes_of read.visible.controls) read.later others;
-    }
-
--- one control more in the table
-module _ (controls : List (Entry ControlEntry)) (word : List ℕ) (entry : ControlEntry) where
-  abbrev longer : List (Entry ControlEntry)
-  longer = controls ++ (word, entry) ∷ []
-
-  more_by_one : shapes_of longer ≡ shapes_of controls ++ entry.shape ∷ []
-  more_by_one = map-append (λ (e : Entry ControlEntry). e.1.shape) controls ((word, entry) ∷ [])
-
-  still_of_shapes : (signature : List Control) → AreOfShapes (shapes_of controls) signature → AreOfShapes (shapes_of longer) signature
-  still_of_shapes signature are = subst (λ ss. AreOfShapes ss signature) (sym more_by_one) (more_shapes (shapes_of controls) (entry.shape ∷ []) signature are)
-
-  still_read : (e : Expression) → IsRead (shapes_of controls) e → IsRead (shapes_of longer) e
-  still_read e read = subst (λ ss. IsRead ss e) (sym more_by_one) (read_under_more (shapes_of controls) (entry.shape ∷ []) e read)
-
-  last_among : Mem entry.shape (shapes_of longer)
-  last_among = subst (Mem entry.shape) (sym more_by_one) (Mem-append_right (shapes_of controls) (entry.shape ∷ []) (here refl))
-
--- what a control leaves of the definitions before it: only the signature grows
 record Entered (shapes : List Shape) (before after : Defined) : Type 0 where
   controls_same : after.controls ≡ before.controls
   expressions_same : after.expressions ≡ before.expressions
   signature : IsSignature after.signature
   of_shapes : AreOfShapes shapes after.signature
 
+grown : (shapes : List Shape) (before after : Defined) (signature : List Control) → ◌≡◌ {A = Result Defined Refusal} (Ok (record before { signature = signature })) (Ok after)
+    → IsSignature signature → AreOfShapes shapes signature → Entered shapes before after
+grown shapes before after signature is kept of_shapes =
+    subst (Entered shapes before) (ok_same is) (record { controls_same = refl; expressions_same = refl; signature = kept; of_shapes = of_shapes })
+
+-- ---- controls
+
 entered_once : (shapes : List Shape) → AreShapes shapes → (at formals : ℕ) (shape : Shape) (before after : Defined) → Mem shape shapes
     → IsSignature before.signature → AreOfShapes shapes before.signature → entered_at_once at formals shape before ≡ Ok after → Entered shapes before after
 entered_once shapes are at zero shape before after among kept of_shapes is =
     let b = bound (entered at (control_of shape []) before.signature) (λ e. Ok (record before { signature = e.1 })) after is in
     let so = entered_fits shapes are at shape [] before.signature b.found.1 b.found.0 among kept of_shapes b.is in
-    subst (Entered shapes before) (ok_same b.goes_on)
-    (record { controls_same = refl; expressions_same = refl; signature = so.0; of_shapes = so.1 })
-entered_once shapes are at (suc n) shape before after among kept of_shapes is =
-    subst (Entered shapes before) (ok_same is) (record { controls_same = refl; expressions_same = refl; signature = kept; of_shapes = of_shapes })
+    grown shapes before after b.found.1 b.goes_on so.0 so.1
+entered_once shapes are at (suc n) shape before after among kept of_shapes is = grown shapes before after before.signature is kept of_shapes
 
-module _ (before : Defined) (sound : IsSound before) (word : List ℕ) (none : number_of word before.controls ≡ None) where
+module _ (before : Defined) (sound : IsSound before) (word : List ℕ) (none : is_none (number_of word before.controls) ≡ true) where
   shape_sound : (at formals : ℕ) (shape : Shape) → shape.word ≡ word → shape.arity ≤ 16 → (after : Defined)
       → with_shape at word formals shape before ≡ Ok after → IsSound after
   shape_sound at formals shape named small after is =
       let entry : ControlEntry = record { formals = formals; shape = shape } in
-      let are = controls_more before.controls word entry sound.controls none named small in
+      let longer = before.controls ++ (word, entry) ∷ [] in
+      let more : shapes_of longer ≡ shapes_of before.controls ++ shape ∷ [] = map-append (λ (e : Entry ControlEntry). e.1.shape) before.controls ((word, entry) ∷ []) in
+      let are = read_control before.controls before.expressions word entry sound.read none named small in
       let b = bound (entered_at_once at formals shape before) (λ (t : Defined). Ok (record t { controls = t.controls ++ (word, entry) ∷ [] })) after is in
-      let so = entered_once (shapes_of (longer before.controls word entry)) (controls_shapes (longer before.controls word entry) are) at formals shape before b.found
-      (last_among before.controls word entry) sound.signature (still_of_shapes before.controls word entry before.signature sound.of_shapes) b.is in
-      let same : before.controls ++ (word, entry) ∷ [] ≡ b.found.controls ++ (word, entry) ∷ [] = ap (λ cs. cs ++ (word, entry) ∷ []) (sym so.controls_same) in
+      let so = entered_once (shapes_of longer) (controls_shapes longer are.table) at formals shape before b.found
+      (subst (Mem shape) (sym more) (Mem-append_right (shapes_of before.controls) (shape ∷ []) (here refl))) sound.signature
+      (subst (λ ss. AreOfShapes ss before.signature) (sym more) (AreOfShapes-more (shapes_of before.controls) (shape ∷ []) before.signature sound.of_shapes)) b.is in
+      let same : longer ≡ b.found.controls ++ (word, entry) ∷ [] = ap (λ cs. cs ++ (word, entry) ∷ []) (sym so.controls_same) in
       subst IsSound (ok_same b.goes_on)
       (record {
-        controls = subst AreControls same are;
+        read = subst (λ cs. AreRead cs b.found.expressions) same (subst (AreRead longer) (sym so.expressions_same) are);
         signature = so.signature;
         of_shapes = subst (λ cs. AreOfShapes (shapes_of cs) b.found.signature) same so.of_shapes;
-        read = λ e m. subst (λ cs. IsRead (shapes_of cs) e) same
-            (still_read before.controls word entry e (sound.read e (subst (Mem e) so.expressions_same m)));
       })
 
 pub control_sound : (text : ScopeParts) (kind : Kind) (tree : SynControl) (before after : Defined) → IsSound before
@@ -170,18 +141,14 @@ module _ (before : Defined) (sound : IsSound before) where
       → value depth (expand shapes (meanings_of shapes before.expressions) env e) (record { signature = before.signature; nodes = nodes; edges = edges; terms = terms }) ≡ Ok (big, after)
       → FitsShapes shapes after.signature big
   value_fits e read env depth nodes edges terms big after is =
-      read_fits shapes (controls_shapes before.controls sound.controls) before.expressions sound.read env e read depth _ after big sound.signature sound.of_shapes is
+      read_fits before.controls before.expressions sound.read env e read depth _ after big sound.signature sound.of_shapes is
 
-  tried_sound : (formals : ℕ) (e : Expression) (after : Defined) → IsRead shapes e → tried formals e before ≡ Ok after
-      → Entered shapes before after
+  tried_sound : (formals : ℕ) (e : Expression) (after : Defined) → IsRead shapes e → tried formals e before ≡ Ok after → Entered shapes before after
   tried_sound zero e after read is =
       let b = bound (evaluated before.signature (expand shapes (meanings_of shapes before.expressions) [] e)) (λ v. Ok (record before { signature = v.1.signature })) after is in
       let so = value_fits e read [] 0 0 0 0 b.found.0 b.found.1 b.is in
-      subst (Entered shapes before) (ok_same b.goes_on)
-      (record { controls_same = refl; expressions_same = refl; signature = so.kept; of_shapes = so.of_shapes })
-  tried_sound (suc n) e after read is =
-      subst (Entered shapes before) (ok_same is)
-      (record { controls_same = refl; expressions_same = refl; signature = sound.signature; of_shapes = sound.of_shapes })
+      grown shapes before after b.found.1.signature b.goes_on so.kept so.of_shapes
+  tried_sound (suc n) e after read is = grown shapes before after before.signature is sound.signature sound.of_shapes
 
   expression_sound : (word : List ℕ) (formals : ℕ) (e : Expression) (after : Defined) → IsRead shapes e
       → with_expression word formals e before ≡ Ok after → IsSound after
@@ -191,24 +158,11 @@ module _ (before : Defined) (sound : IsSound before) where
       let same = sym so.controls_same in
       subst IsSound (ok_same b.goes_on)
       (record {
-        controls = subst AreControls same sound.controls;
+        read = subst (λ cs. AreRead cs (b.found.expressions ++ e ∷ [])) same
+            (subst (λ es. AreRead before.controls (es ++ e ∷ [])) (sym so.expressions_same) (read_definition before.controls before.expressions e sound.read read));
         signature = so.signature;
         of_shapes = subst (λ cs. AreOfShapes (shapes_of cs) b.found.signature) same so.of_shapes;
-        read = λ other m. subst (λ cs. IsRead (shapes_of cs) other) same
-            (elim (Mem-append_cases b.found.expressions (e ∷ []) m) [
-              | inl l ↦ sound.read other (subst (Mem other) so.expressions_same l)
-              | inr r ↦ only other r
-            ]);
       })
-    where
-      only : (other : Expression) → Mem other (e ∷ []) → IsRead shapes other
-      only other (here same) = subst (IsRead shapes) same read
-      only other (there m) = elim m [ ]
-
-pub here_read : (before : Defined) (text : ScopeParts) (formals : List (Entry (Unit {0}))) (tree : SynE) (e : Expression)
-    → (e_read tree).1 (visible_with text formals before) ≡ Ok e → IsRead (shapes_of before.controls) e
-here_read before text formals tree e is =
-    record { tree = tree; visible = visible_with text formals before; is = is; later = []; begins = sym (append-nil (shapes_of before.controls)) }
 
 pub bigraph_sound : (text : ScopeParts) (tree : SynBigraph) (before after : Defined) → IsSound before
     → with_bigraph text tree before ≡ Ok after → IsSound after
@@ -216,7 +170,7 @@ bigraph_sound text tree before after sound is =
     let a = bound (new_word text before.bigraphs tree.part1) _ after is in
     let b = bound (formals_behind text [] (formal_tokens tree.part2)) _ after a.goes_on in
     let c = bound ((e_read tree.part4).1 (visible_with text b.found before)) _ after b.goes_on in
-    expression_sound before sound a.found (length b.found) c.found after (here_read before text b.found tree.part4 c.found c.is) c.goes_on
+    expression_sound before sound a.found (length b.found) c.found after (IsRead-now tree.part4 (visible_with text b.found before) c.found c.is) c.goes_on
 
 -- ---- parameters
 
@@ -225,6 +179,4 @@ pub parameter_sound : (text : ScopeParts) (tree : SynParam) (before after : Defi
 parameter_sound text tree before after sound is =
     let a = bound (new_word text before.parameters (name_token tree)) _ after is in
     let b = bound (parameter_values text tree) (λ values. Ok (record before { parameters = before.parameters ++ (a.found, values) ∷ [] })) after a.goes_on in
-    subst IsSound (ok_same b.goes_on)
-    (record { controls = sound.controls; signature = sound.signature; of_shapes = sound.of_shapes; read = sound.read })
-
+    subst IsSound (ok_same b.goes_on) (record { read = sound.read; signature = sound.signature; of_shapes = sound.of_shapes })

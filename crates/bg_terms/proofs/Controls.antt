@@ -1,11 +1,12 @@
 -- Controls that become visible one by one.
 use Rattle.std.proofs.Common.{◌≡◌, ◌≤◌, ◌+◌, ◌++◌, ◌∷◌, [], inl, inr, ℕ, suc, arith, cond, not, Bool, true, false, List, length, Option, Some, None, refl, sym, ap, subst, ◌∙◌}
 use Rattle.std.proofs.lemmas.Bool.Decides.{nat_tests}
-use Rattle.std.specs.Prelude.{position, nat_lt}
+use Rattle.std.specs.Prelude.{All, is_none, position, nat_lt}
 use Rattle.std.specs.List.{position_or_len}
 use Rattle.std.specs.Cmp.Lexicographic.{other_text}
 use Rattle.bg_lists.specs.Lists.{Mem, here, there}
 use Rattle.bg_lists.proofs.Members.{Mem-append_cases, Mem-map, Mem-unmap}
+use Rattle.bg_lists.proofs.Words.{All-from_members}
 use Rattle.bg_values.specs.Names.{Entry, number_of, same_word, words}
 use Rattle.bg_terms.specs.declared.shape.ControlEntry.{ControlEntry}
 use Rattle.bg_terms.specs.declared.shape.Shape.{Shape}
@@ -37,11 +38,15 @@ none_passes test (y ∷ ys) none x m = by (test y) refl none (λ none_behind l. 
         absurd cc
     by false e is others = elim m [ here same ↦ ap test (sym same) ∙ e | there l ↦ others (lower (position_or_len test ys) (length ys) is) l ]
 
-word_new : (word : List ℕ) (controls : List (Entry ControlEntry)) → number_of word controls ≡ None
+is_none_from : {X : Type 0} (o : Option X) → is_none o ≡ true → o ≡ None
+is_none_from None is = refl
+is_none_from (Some x) is = absurd cc
+
+word_new : (word : List ℕ) (controls : List (Entry ControlEntry)) → is_none (number_of word controls) ≡ true
     → (control : Entry ControlEntry) → Mem control controls → control.0 ≡ word → ⊥
 word_new word controls none control m same =
     other_text word control.0
-    (sym (none_passes (same_word word) (words controls) none control.0 (Mem-map (λ (e : Entry ControlEntry). e.0) m))) (sym same)
+    (sym (none_passes (same_word word) (words controls) (is_none_from (number_of word controls) none) control.0 (Mem-map (λ (e : Entry ControlEntry). e.0) m))) (sym same)
 
 -- ---- one more control
 
@@ -53,7 +58,7 @@ pub controls_none : AreControls []
 controls_none = record { named = λ control m. elim m [ ]; small = λ control m. elim m [ ]; once = λ x y m n same. elim m [ ] }
 
 module _ (controls : List (Entry ControlEntry)) (word : List ℕ) (entry : ControlEntry) (are : AreControls controls)
-    (none : number_of word controls ≡ None) (named : entry.shape.word ≡ word) (small : entry.shape.arity ≤ 16) where
+    (none : is_none (number_of word controls) ≡ true) (named : entry.shape.word ≡ word) (small : entry.shape.arity ≤ 16) where
   abbrev last : Entry ControlEntry
   last = (word, entry)
 
@@ -85,3 +90,6 @@ controls_shapes controls are = record {
   where
     from : (shape : Shape) → Mem shape (shapes_of controls) → (control : Entry ControlEntry) × Mem control controls × (control.1.shape ≡ shape)
     from shape m = Mem-unmap (λ (control : Entry ControlEntry). control.1.shape) controls m
+
+pub controls_small : (controls : List (Entry ControlEntry)) → AreControls controls → All (λ (shape : Shape). shape.arity ≤ 16) (shapes_of controls)
+controls_small controls are = All-from_members (λ (shape : Shape). shape.arity ≤ 16) (shapes_of controls) (controls_shapes controls are).small

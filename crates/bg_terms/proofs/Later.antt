@@ -1,7 +1,7 @@
 -- Controls and definitions that follow those which are there leave an expression its term.
-use Rattle.std.proofs.Common.{◌≡◌, ◌+◌, ◌<◌, ◌++◌, ◌∷◌, [], ℕ, suc, arith, List, length, Option, Some, None, Ok, refl, sym, ap, subst, ◌∙◌, slice_get}
+use Rattle.std.proofs.Common.{◌≡◌, ◌+◌, ◌<◌, ◌++◌, ◌∷◌, [], ℕ, arith, List, length, Option, Some, None, Ok, refl, sym, ap, subst, ◌∙◌, slice_get}
 use Rattle.std.specs.Prelude.{IfOk, option_map}
-use Rattle.std.proofs.lemmas.List.{append_assoc, append-nil}
+use Rattle.std.proofs.lemmas.List.{append_assoc, append-nil, length-append}
 use Rattle.std.proofs.lemmas.Option.{slice_get_within}
 use Rattle.bg_lists.specs.Lists.{Mem, here, there}
 use Rattle.bg_lists.proofs.Places.{At-slice_get, slice_get-At, At-append_left, At-total}
@@ -67,10 +67,6 @@ more_controls shapes others definitions all_have env e has =
 front : {A : Type 0} (xs ys : List A) (k : ℕ) → k < length xs → slice_get (xs ++ ys) k ≡ slice_get xs k
 front xs ys k below = let w = At-total xs k below in slice_get-At (xs ++ ys) (At-append_left xs ys w.1) ∙ sym (slice_get-At xs w.1)
 
-length_more : {A : Type 0} (xs : List A) (x : A) → length (xs ++ x ∷ []) ≡ suc (length xs)
-length_more [] x = refl
-length_more (y ∷ xs) x = ap suc (length_more xs x)
-
 module _ (shapes : List Shape) where
   expand_meanings : (meanings others : List Meaning) (env : List Value) (e : Expression) → RefersBelow (length meanings) e
       → expand shapes (meanings ++ others) env e ≡ expand shapes meanings env e
@@ -109,7 +105,7 @@ module _ (shapes : List Shape) where
   meanings_count [] meanings = omega arith
   meanings_count (e ∷ es) meanings =
       let m : Meaning = λ args. expand shapes meanings args e in
-      omega (arith, meanings_count es (meanings ++ m ∷ []), length_more meanings m)
+      omega (arith, meanings_count es (meanings ++ m ∷ []), length-append meanings (m ∷ []))
 
   pub more_definitions : (definitions others : List Expression) (env : List Value) (e : Expression) → RefersBelow (length definitions) e
       → expand shapes (meanings_of shapes (definitions ++ others)) env e ≡ expand shapes (meanings_of shapes definitions) env e

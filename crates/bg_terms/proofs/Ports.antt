@@ -64,6 +64,15 @@ pub ports_read : (tree : SynE) (visible : Visible) (e : Expression) → (e_read 
 ports_read tree visible e is =
     subst (λ r. IfOk r (HasPorts (shapes_of visible.controls))) is (tree_says visible (HasPorts (shapes_of visible.controls)) (ports_kept visible) tree)
 
+-- ---- the control that is found
+
+same_arity : (x y : Shape) → ◌≡◌ {A = Option Shape} (Some x) (Some y) → x.arity ≡ y.arity
+same_arity x y is = let same : x ≡ y = cc in ap (λ (s : Shape). s.arity) same
+
+pub as_many_ports : (shapes : List Shape) (number count : ℕ) → (s : Shape) × (slice_get shapes number ≡ Some s) × (count ≡ s.arity)
+    → (shape : Shape) → slice_get shapes number ≡ Some shape → count ≡ shape.arity
+as_many_ports shapes number count has shape is = has.2 ∙ same_arity has.0 shape (sym has.1 ∙ is)
+
 -- ---- more controls behind those that are visible
 
 pub HasPorts-more : (shapes others : List Shape) (e : Expression) → HasPorts shapes e → HasPorts (shapes ++ others) e

@@ -20,6 +20,7 @@ use Rattle.bg_terms.specs.Terms as terms
 use Rattle.bg_terms.specs.Terms.{Term}
 use Rattle.bg_terms.specs.Values.{Reached, entered, value}
 use Rattle.bg_terms.proofs.Fitting.{enters, fitting}
+use Rattle.bg_terms.proofs.Ports.{as_many_ports}
 
 -- the term has the arities of its controls, which are the shapes with some arguments
 pub record Shaped (shapes : List Shape) (t : Term) : Type 0 where
@@ -29,9 +30,6 @@ pub record Shaped (shapes : List Shape) (t : Term) : Type 0 where
 -- each definition gives such terms
 abbrev pub AreShaped : List Shape → List Meaning → Type 0
 AreShaped shapes meanings = (number : ℕ) (meaning : Meaning) → slice_get meanings number ≡ Some meaning → (args : List Value) → Shaped shapes (meaning args)
-
-same_arity : (x y : Shape) → ◌≡◌ {A = Option Shape} (Some x) (Some y) → x.arity ≡ y.arity
-same_arity x y is = let same : x ≡ y = cc in ap (λ (s : Shape). s.arity) same
 
 module _ (shapes : List Shape) (are : AreShapes shapes) where
   refused_term : (r : Refusal) → Shaped shapes (terms.refusal r)
@@ -73,9 +71,10 @@ module _ (shapes : List Shape) (are : AreShapes shapes) where
 
   pub shaped : (meanings : List Meaning) → AreShaped shapes meanings → (env : List Value) (e : Expression) → HasPorts shapes e
       → Shaped shapes (expand shapes meanings env e)
-  shaped meanings known env (node at number args ports) ports_fit =
+  shaped meanings known env (node at number args ports) has_ports =
+      let ports_fit = as_many_ports shapes number (length ports) has_ports in
       values_shaped at (values env args) (node_term at (slice_get shapes number) ports)
-      (λ vs. node_shaped at (slice_get shapes number) ports vs (λ shape is. (member_at shapes number shape is, ports_fit.2 ∙ same_arity ports_fit.0 shape (sym ports_fit.1 ∙ is))))
+      (λ vs. node_shaped at (slice_get shapes number) ports vs (λ shape is. (member_at shapes number shape is, ports_fit shape is)))
   shaped meanings known env (reference at number args) ports_fit =
       values_shaped at (values env args) (λ vs. terms.counted at (meant at (slice_get meanings number) vs))
       (λ vs. counted_shaped at _ (meant_shaped meanings known at number vs))

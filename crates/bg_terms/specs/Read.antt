@@ -31,7 +31,7 @@ pub record AreRead (controls : List (Entry ControlEntry)) (definitions : List Ex
   pub table : AreControls controls
   pub each : (definition : Expression) → Mem definition definitions → IsRead (shapes_of controls) definition
 
--- each reference is to one of the first definitions, so many
+-- each reference is to one of the first definitions, as many as `count`
 abbrev pub RefersBelow : ℕ → Expression → Type 0
 RefersBelow count (node at number args ports) = Unit {0}
 RefersBelow count (reference at number args) = number < count

@@ -1,5 +1,5 @@
 //! Laws of expressions. A call does nothing.
-ghost use Rattle.std.specs.Prelude.{◌≡◌, ◌≤◌, ◌+◌, ◌++◌, ◌∷◌, [], ℕ, List, length, None, Ok};
+ghost use Rattle.std.specs.Prelude.{◌≡◌, ◌≤◌, ◌+◌, ◌++◌, ◌∷◌, [], ℕ, true, List, All, length, is_none, Ok};
 ghost use Rattle.bg_base.specs.declared.big.Big.{Big};
 ghost use Rattle.bg_lists.specs.Lists.{Mem};
 ghost use Rattle.bg_base.specs.declared.labels.Value.{Value};
@@ -92,8 +92,9 @@ pub fn expressions_of_trees_have_their_ports()
 pub fn controls_become_visible_one_by_one()
     ensures none { AreControls [] }
     ensures more { (controls : List (Entry ControlEntry)) (word : List ℕ) (entry : ControlEntry) → AreControls controls
-        → number_of word controls ≡ None → entry.shape.word ≡ word → entry.shape.arity ≤ 16 → AreControls (controls ++ (word, entry) ∷ []) }
+        → is_none (number_of word controls) ≡ true → entry.shape.word ≡ word → entry.shape.arity ≤ 16 → AreControls (controls ++ (word, entry) ∷ []) }
     ensures shapes { (controls : List (Entry ControlEntry)) → AreControls controls → AreShapes (shapes_of controls) }
+    ensures small { (controls : List (Entry ControlEntry)) → AreControls controls → All (λ (shape : Shape). shape.arity ≤ 16) (shapes_of controls) }
 {}
 
 /// What statements make visible in turn: nothing at first; then a control, whose word is not in the table and whose arity is
@@ -101,7 +102,7 @@ pub fn controls_become_visible_one_by_one()
 pub fn definitions_are_read_one_by_one()
     ensures none { AreRead [] [] }
     ensures control { (controls : List (Entry ControlEntry)) (definitions : List Expression) (word : List ℕ) (entry : ControlEntry)
-        → AreRead controls definitions → number_of word controls ≡ None → entry.shape.word ≡ word → entry.shape.arity ≤ 16
+        → AreRead controls definitions → is_none (number_of word controls) ≡ true → entry.shape.word ≡ word → entry.shape.arity ≤ 16
         → AreRead (controls ++ (word, entry) ∷ []) definitions }
     ensures definition { (controls : List (Entry ControlEntry)) (definitions : List Expression) (expression : Expression)
         → AreRead controls definitions → IsRead (shapes_of controls) expression → AreRead controls (definitions ++ expression ∷ []) }
