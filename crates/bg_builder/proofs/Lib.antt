@@ -1,0 +1,4 @@
+pub mod Apart
+pub mod Behind
+pub mod InPlace
+pub mod Trees
