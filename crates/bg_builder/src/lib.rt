@@ -1,9 +1,12 @@
 //! A valid bigraph that others are put to in place.
 #![tactic(auto)]
 
+mod appending;
 mod builder;
+mod conditions;
 mod inside;
 mod parts;
+mod products;
 mod tables;
 
 pub use builder::Builder;
