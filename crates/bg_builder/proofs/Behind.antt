@@ -30,7 +30,7 @@ use Rattle.bg_base.proofs.LookUps.{node_cmp_total, region_from_has}
 use Rattle.bg_algebra.proofs.Nested.{frame, frame_inner}
 use Rattle.bg_algebra.proofs.Through.{link_same}
 use Rattle.bg_builder.specs.Numbers.{follows, lies_behind}
-use Rattle.bg_builder.specs.Behind.{appended, raised, put_under, put_inside}
+use Rattle.bg_builder.specs.Behind.{appended, raised, put_under, put_inside, closed}
 use Rattle.bg_builder.specs.Inside.{place_at, row_at, link_by, row_by, inner_by}
 use Rattle.bg_builder.proofs.Apart.{nodes_below, edges_below, edge_below}
 
@@ -208,15 +208,8 @@ module _ (f g : Big) (f_valid : IsValid f) (g_valid : IsValid g) (behind : follo
 
 -- ---- a name closed by an edge in front of all edges
 
-pub close_behind : (f : Big) (name : Name) (edge : ℕ) → IsValid f → lies_behind edge f ≡ true
-    → close f name edge
-    ≡ record f {
-      nodes = map (row_closed name edge) f.nodes;
-      edges = edge ∷ f.edges;
-      inner = map (inner_closed name edge) f.inner;
-      outer = filter (λ (other : Name). not (is_eq (name_cmp other name))) f.outer;
-    }
+pub close_behind : (f : Big) (name : Name) (edge : ℕ) → IsValid f → lies_behind edge f ≡ true → close f name edge ≡ closed name edge f
 unfolding close
 close_behind f name edge valid behind =
     let edges = put-lowest nat_cmp_total edge f.edges (λ other m. nat_cmp-lt edge other (edge_below edge f valid behind other m)) in
-    λ t. record (close f name edge) { edges = edges t }
+    λ t. record (closed name edge f) { edges = edges t }

@@ -1,21 +1,22 @@
 -- What search trees of names hold, as the lists that a bigraph has: outer names as a set, inner names as rows in order.
-use Rattle.std.proofs.Common.{◌≡◌, Bool, true, false, ◌||◌, cond, List, [], ◌∷◌, ◌++◌, map, filter, not, Less, is_eq, Option, Some, None, is_some, option_map, All, Contains, IsNone, refl, sym, ap, subst, ◌∙◌, ◌⊎◌, inl, inr, ◌↔◌}
+use Rattle.std.proofs.Common.{◌≡◌, ℕ, Ordering, Equal, Greater, Bool, true, false, ◌||◌, cond, List, [], ◌∷◌, ◌++◌, map, filter, not, Less, is_eq, Option, Some, None, is_some, option_map, All, Contains, IsNone, refl, sym, ap, subst, ◌∙◌, ◌⊎◌, inl, inr, ◌↔◌}
 use Rattle.std.specs.Option.{option_or}
-use Rattle.std.specs.Ordering.{eq_by_cmp}
+use Rattle.std.specs.Ordering.{eq_by_cmp, ordering_then}
+use Rattle.std.specs.Cmp.Lexicographic.{slice_cmp}
 use Rattle.std.specs.Cmp.{eq_by_cmp_equiv}
 use Rattle.std.specs.List.{list_all, list_any, IsDistinct}
 use Rattle.std.specs.List.Sorted.{IsStrictlySortedBy}
 use Rattle.std.specs.Map.{keys_of, lookup, update_all}
 use Rattle.std.specs.Set.{is_member, IsUnion, remove_key}
 use Rattle.std.proofs.lemmas.Bool.{cond_both, cond-true, cond-false, cases_Bool, or_cases, or_left, or_right, true≢false, false≢true}
-use Rattle.std.proofs.lemmas.Cmp.{on_total}
+use Rattle.std.proofs.lemmas.Cmp.{on_total, lists_total, tied_itself}
 use Rattle.std.proofs.lemmas.Map.Keys.{IsDistinct-from_sorted}
 use Rattle.std.proofs.lemmas.Map.Made.{update_all_distinct, update_all_none}
 use Rattle.std.proofs.lemmas.Map.Views.{Contains-from_lookup, lookup-from_Contains, tells_apart}
 use Rattle.bg_lists.specs.Lists.{Mem, here, there, sort}
 use Rattle.bg_lists.specs.Orders.{before, set_of, Ascending, asc_cons}
-use Rattle.bg_lists.proofs.Comparisons.{Less-not_back, apart_back}
-use Rattle.bg_lists.proofs.Members.{Mem-same, Mem-map, Mem-unmap, Mem-append_left, Mem-append_right, Mem-append_cases}
+use Rattle.bg_lists.proofs.Comparisons.{Less-not_back, Equal-from_is_eq, apart_back}
+use Rattle.bg_lists.proofs.Members.{map-map, Mem-same, Mem-map, Mem-unmap, Mem-append_left, Mem-append_right, Mem-append_cases}
 use Rattle.bg_lists.proofs.Ascents.{Ascending-from_sorted, sorted_from_Ascending, Ascending-map, Ascending-unmap, same_ascending}
 use Rattle.bg_lists.proofs.Sorting.{sort-same, IsDistinct-from_Ascending, IsDistinct-append}
 use Rattle.bg_lists.proofs.Sets.{set_of-same}
@@ -28,8 +29,10 @@ use Rattle.bg_base.specs.Order.{name_cmp}
 use Rattle.bg_base.specs.Bigraph.{inner_cmp, inner_of, outer_of}
 use Rattle.bg_base.proofs.NameLaws.{same_name, same_name_from_test, test_same_name}
 use Rattle.bg_base.proofs.LookUps.{inner_cmp_total, has_inner}
-
 use Rattle.bg_algebra.proofs.Beside.{apart_names}
+use Rattle.bg_base.specs.Composition.{inner_names}
+use Rattle.bg_base.specs.Products.{inner_closed}
+use Rattle.bg_builder.specs.Inside.{inner_by}
 use Rattle.bg_builder.specs.Parts.{inner_row, inner_rows}
 
 -- ---- outer names
@@ -199,9 +202,9 @@ inner_names_apart es fs =
           subst (λ (r : InnerRow). IsNone (inner_of (inner_rows es) r.name)) w.2
           (sym (inner_found es w.0.0) ∙ tested.0 all w.0.0 (Mem-map (λ (e : Name × Link). e.0) w.1))),
       λ all. tested.1 (λ name m. let w = Mem-unmap (λ (e : Name × Link). e.0) fs m in
-      subst (λ n. is_some (lookup (λ k. is_eq (name_cmp n k)) es) ≡ false) w.2
-      (inner_found es w.0.0
-      ∙ All-member (λ (row : InnerRow). IsNone (inner_of (inner_rows es) row.name)) (inner_rows fs) all (Mem-map inner_row w.1))),
+          subst (λ n. is_some (lookup (λ k. is_eq (name_cmp n k)) es) ≡ false) w.2
+          (inner_found es w.0.0
+          ∙ All-member (λ (row : InnerRow). IsNone (inner_of (inner_rows es) row.name)) (inner_rows fs) all (Mem-map inner_row w.1))),
     )
 
 pub outer_names_apart : (xs ys : List Name)
@@ -241,3 +244,43 @@ without_first name (x ∷ xs) (asc_cons low rise) =
 pub without_name : (name : Name) (names : List Name) → IsStrictlySortedBy name_cmp names
     → remove_key (λ k. is_eq (name_cmp name k)) names ≡ filter (λ (other : Name). not (is_eq (name_cmp other name))) names
 without_name name names up = without_first name names (Ascending-from_sorted names up)
+
+-- ---- names and rows, compared and changed
+
+both_equal : (o p : Ordering) → ordering_then o p ≡ Equal → (o ≡ Equal) × (p ≡ Equal)
+both_equal Less p e = absurd cc
+both_equal Equal p e = (refl, e)
+both_equal Greater p e = absurd cc
+
+equal_lists : (xs ys : List Name) → slice_cmp name_cmp xs ys ≡ Equal → xs ≡ ys
+equal_lists [] [] e = refl
+equal_lists [] (y ∷ ys) e = absurd cc
+equal_lists (x ∷ xs) [] e = absurd cc
+equal_lists (x ∷ xs) (y ∷ ys) e =
+    let parts = both_equal (name_cmp x y) (slice_cmp name_cmp xs ys) e in
+    let head = same_name x y parts.0 in
+    let tail = equal_lists xs ys parts.1 in cc
+
+-- lists of names that compare as equal are the same
+pub same_lists : (xs ys : List Name) → (is_eq (slice_cmp name_cmp xs ys) ≡ true) ↔ (xs ≡ ys)
+same_lists xs ys = (
+  λ e. equal_lists xs ys (Equal-from_is_eq (slice_cmp name_cmp xs ys) e),
+  λ e. ap (λ zs. is_eq (slice_cmp name_cmp xs zs)) (sym e) ∙ ap is_eq (tied_itself (lists_total name_cmp_total) xs),
+)
+
+pub names_of_rows : (es : List (Name × Link)) → inner_names (inner_rows es) ≡ keys_of es
+names_of_rows es = map-map inner_row (λ (row : InnerRow). row.name) es
+
+pub rows_ascend : (es : List (Name × Link)) → IsStrictlySortedBy name_cmp (keys_of es) → IsStrictlySortedBy inner_cmp (inner_rows es)
+rows_ascend es up = sorted_from_Ascending (inner_rows es) (rows_rise es up)
+
+-- rows that keep their names ascend still
+pub tied_anew_ascend : (inner rows : List InnerRow) → IsStrictlySortedBy inner_cmp rows → IsStrictlySortedBy inner_cmp (map (inner_by inner) rows)
+tied_anew_ascend inner rows up =
+    sorted_from_Ascending {cmp = inner_cmp} (map (inner_by inner) rows) (Ascending-map (inner_by inner) rows (λ x y less. less) (Ascending-from_sorted rows up))
+
+pub closed_ascend : (name : Name) (edge : ℕ) (rows : List InnerRow) → IsStrictlySortedBy inner_cmp rows
+    → IsStrictlySortedBy inner_cmp (map (inner_closed name edge) rows)
+closed_ascend name edge rows up =
+    sorted_from_Ascending {cmp = inner_cmp} (map (inner_closed name edge) rows)
+    (Ascending-map (inner_closed name edge) rows (λ x y less. less) (Ascending-from_sorted rows up))

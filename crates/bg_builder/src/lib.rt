@@ -3,8 +3,11 @@
 
 mod appending;
 mod builder;
+mod closing;
+mod composing;
 mod conditions;
 mod inside;
+mod numbering;
 mod parts;
 mod products;
 mod tables;

@@ -20,12 +20,11 @@ impl Builder {
     /// The tensor product (Milner, chapter 2): `right` beside this bigraph, its regions and sites after those of this one;
     /// no name is in both. The numbers of `right` follow those of this bigraph.
     /// It refuses by `NamesMeet`, number 13, where an inner name is in both or an outer name is in both. The regions of
-    /// both, and the sites of both, are to be fewer than 32 bits can number. Costs time in proportion to `right`, and for
-    /// each of its names the logarithm of the number of names of this bigraph.
+    /// both are to be fewer than 32 bits can number. Costs time in proportion to `right`, and for each of its names the
+    /// logarithm of the number of names of this bigraph.
     pub fn tensor(self, right: Builder) -> Result<Builder, AlgebraFault>
         requires follows { numbers.follows self right ≡ true }
         requires regions { self.regions + right.regions < 2 ^ 32 }
-        requires sites { length self.sites + length right.sites < 2 ^ 32 }
         ensures product { IfOk result (λ whole. whole ≡ product.tensor self right) }
         ensures defined { OnOk result (product.InnerApart self right × product.OuterApart self right) }
         ensures names { IsErrOf result AlgebraFault.NamesMeet ↔ ¬ (product.InnerApart self right × product.OuterApart self right) }
@@ -41,12 +40,11 @@ impl Builder {
 
     /// The parallel product (Milner, chapter 3): `right` beside this bigraph as in the tensor product, where an outer name
     /// that both have is one name. The numbers of `right` follow those of this bigraph.
-    /// It refuses by `InnerNamesMeet`, number 14, where an inner name is in both. It asks as much of their sizes, and costs
-    /// as much, as [`Builder::tensor`] does.
+    /// It refuses by `InnerNamesMeet`, number 14, where an inner name is in both. It asks as much of their regions, and
+    /// costs as much, as [`Builder::tensor`] does.
     pub fn parallel(self, right: Builder) -> Result<Builder, AlgebraFault>
         requires follows { numbers.follows self right ≡ true }
         requires regions { self.regions + right.regions < 2 ^ 32 }
-        requires sites { length self.sites + length right.sites < 2 ^ 32 }
         ensures product { IfOk result (λ whole. whole ≡ product.parallel self right) }
         ensures defined { OnOk result (product.InnerApart self right) }
         ensures names { IsErrOf result AlgebraFault.InnerNamesMeet ↔ ¬ product.InnerApart self right }
