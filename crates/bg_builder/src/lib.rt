@@ -13,3 +13,6 @@ mod products;
 mod tables;
 
 pub use builder::Builder;
+
+#[cfg(test)]
+mod tests;
