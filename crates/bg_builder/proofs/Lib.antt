@@ -1,0 +1,5 @@
+pub mod Apart
+pub mod Behind
+pub mod Faults
+pub mod InPlace
+pub mod Trees

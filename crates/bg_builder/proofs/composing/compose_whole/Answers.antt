@@ -1,0 +1,21 @@
+use Rattle.std.proofs.Common.{◌≡◌, ◌∙◌, sym, subst}
+use Rattle.bg_base.specs.Bigraph.{IsValid}
+use Rattle.bg_base.specs.Composition.{compose}
+use Rattle.bg_base.proofs.ComposedValid.{compose_valid}
+use Rattle.bg_builder.specs.Parts.{big_of}
+use Rattle.bg_builder.proofs.Apart.{apart}
+use Rattle.bg_builder.proofs.Behind.{compose_behind}
+use Rattle.bg_builder.proofs.composing.compose_whole.Goals as goal
+
+pub from_parts-requires : goal.from_parts-requires
+from_parts-requires c =
+    let f = big_of c.args.f in
+    let g = big_of c.args.g in
+    let is : big_of c.in_ok-parts.parts ≡ compose f g = c.in_ok-parts.ensures ∙ sym (compose_behind f g c.requires.f_valid c.requires.g_valid c.requires.follows) in
+    record { valid = subst IsValid (sym is) (compose_valid f g c.requires.faces (apart f g c.requires.f_valid c.requires.g_valid c.requires.follows) c.requires.f_valid c.requires.g_valid) }
+
+pub returns : goal.returns
+returns c =
+    let f = big_of c.args.f in
+    let g = big_of c.args.g in
+    c.in_ok-whole.ensures ∙ c.in_ok-parts.ensures ∙ sym (compose_behind f g c.requires.f_valid c.requires.g_valid c.requires.follows)

@@ -1,0 +1,6 @@
+use Rattle.std.proofs.Common.{◌≡◌, ◌++◌, take, drop, map}
+use Rattle.bg_base.specs.Products.{row_beside}
+use Rattle.bg_builder.proofs.inside.raise_rows.Given as goal
+
+abbrev pub invariant-loop-row : goal.invariant-loop-row
+invariant-loop-row l = l.rows ≡ map (row_beside l.width) (take l.row-index l.initial.rows) ++ drop l.row-index l.initial.rows
