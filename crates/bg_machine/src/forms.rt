@@ -118,7 +118,7 @@ pub fn closed(alloc: Global, big: Builder, word: &Ident, edge: u32) -> Mem<Build
     if !big.has_outer(&name) {
         return Ok(big);
     }
-    match big.close(&name, edge) {
+    match big.close(alloc, &name, edge) {
         Ok(whole) => Ok(whole),
         Err(AlgebraFault::OutOfMemory) => Err(OutOfMemory),
         Err(_) => unreachable!(),

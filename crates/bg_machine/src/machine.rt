@@ -290,17 +290,18 @@ impl Machine {
     }
 
     /// The product of the two on top, in their place.
-    pub(crate) fn join(&mut self, product: Product, at: u32) -> Result<(), Stop>
+    pub(crate) fn join(&mut self, alloc: Global, product: Product, at: u32) -> Result<(), Stop>
         ensures { Goes result self.new (definition.joined at (values.product_of product at) self.old) }
     {
         let g = self.take(at)?;
         let f = self.take(at)?;
-        self.join_these(product, at, f, g)
+        self.join_these(alloc, product, at, f, g)
     }
 
     /// The product of these two on top.
     fn join_these(
         &mut self,
+        alloc: Global,
         product: Product,
         at: u32,
         f: Builder,
@@ -313,7 +314,7 @@ impl Machine {
         if !f.follows(&g) {
             return Err(Stop::refuse(Cause::Unexpected, at));
         }
-        let big = product_of(product, at, f, g)?;
+        let big = product_of(alloc, product, at, f, g)?;
         self.show(at, big)
     }
 

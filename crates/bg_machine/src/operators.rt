@@ -9,18 +9,25 @@ use bg_algebra::AlgebraFault;
 use bg_builder::Builder;
 use bg_terms::Product;
 use bg_values::{Cause, Stop};
+use std::alloc::Global;
 
 /// The product of two bigraphs, the numbers of the second behind those of the first, or its refusal at the operator: 11 for
 /// `*`, 13 for `+`, 14 for `||` and `|`. Costs time in proportion to the second one, up to a logarithm; and to the first one
 /// where `|` finds it with another number of regions than one.
-pub fn product_of(product: Product, at: u32, f: Builder, g: Builder) -> Result<Builder, Stop>
+pub fn product_of(
+    alloc: Global,
+    product: Product,
+    at: u32,
+    f: Builder,
+    g: Builder,
+) -> Result<Builder, Stop>
     requires follows { follows f g ≡ true }
     requires regions { f.regions + g.regions < 2 ^ 32 }
     requires sites { length f.sites + length g.sites < 2 ^ 32 }
     ensures { Gives result (definition.product_of product at f g) }
 {
     match product {
-        Product::Composition => composed(at, f, g),
+        Product::Composition => composed(alloc, at, f, g),
         Product::Tensor => beside(at, f, g),
         Product::Parallel => in_parallel(at, f, g),
         Product::Merge => merged(at, f, g),
@@ -29,11 +36,11 @@ pub fn product_of(product: Product, at: u32, f: Builder, g: Builder) -> Result<B
 
 /// `F * G`
 #[tactic(auto, using(crate::proofs::Conditions::faces_agree_so, crate::proofs::Conditions::faces_agree_not))]
-fn composed(at: u32, f: Builder, g: Builder) -> Result<Builder, Stop>
+fn composed(alloc: Global, at: u32, f: Builder, g: Builder) -> Result<Builder, Stop>
     requires follows { follows f g ≡ true }
     ensures { Gives result (definition.product_of products.Composition at f g) }
 {
-    match f.compose(g) {
+    match f.compose(alloc, g) {
         Ok(big) => Ok(big),
         Err(AlgebraFault::FacesDiffer) => Err(Stop::refuse(Cause::FacesDiffer, at)),
         Err(AlgebraFault::OutOfMemory) => Err(Stop::OutOfMemory),

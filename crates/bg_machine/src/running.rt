@@ -90,7 +90,7 @@ fn take_step(
         Operation::Open => machine.open(),
         Operation::Close { at, name } => machine.close(alloc, *at, name),
         Operation::Nest { at, is_atom } => machine.nest(*at, *is_atom),
-        Operation::Join { product, at } => machine.join(*product, *at),
+        Operation::Join { product, at } => machine.join(alloc, *product, *at),
     }
 }
 
