@@ -6,3 +6,4 @@ pub mod Counting
 pub mod Calls
 pub mod Endings
 pub mod Wholes
+pub mod Small

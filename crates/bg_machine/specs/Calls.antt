@@ -1,15 +1,23 @@
 -- What calls of the machine as a program say.
-use Rattle.std.specs.Prelude.{◌≡◌, ℕ, List, Result, Ok, Err}
+use Rattle.std.specs.Prelude.{◌≡◌, ◌≤◌, ℕ, List, Result, Ok, Err, All}
 use Rattle.bg_base.specs.declared.signature.Control.{Control}
 use Rattle.bg_values.specs.declared.refusal.Refusal.{Refusal}
 use Rattle.bg_values.specs.declared.refusal.Stop.{Stop}
 use Rattle.bg_values.specs.declared.refusal.Cause.TheVariants.{Unexpected}
 use Rattle.bg_values.specs.Outcome.{◌>>=◌, Stops, there_or}
 use Rattle.bg_values.specs.Stacks.{first}
+use Rattle.bg_values.specs.Names.{Entry}
+use Rattle.bg_terms.specs.declared.shape.ControlEntry.{ControlEntry}
+use Rattle.bg_terms.specs.declared.shape.Shape.{Shape}
+use Rattle.bg_terms.specs.Read.{shapes_of}
 use Rattle.bg_terms.specs.Terms.{Term}
 use Rattle.bg_terms.specs.Values.{Come, value}
 use Rattle.bg_machine.specs.States.{State}
 use Rattle.bg_base.specs.declared.big.Big.{Big}
+
+-- no arity of the controls is above 16
+abbrev pub AreSmall : List (Entry ControlEntry) → Type 0
+AreSmall controls = All (λ (shape : Shape). shape.arity ≤ 16) (shapes_of controls)
 
 -- a call gives the number of a control and leaves the signature, or stops
 abbrev pub Enters : Result ℕ Stop → List Control → Result (ℕ × List Control) Refusal → Type 0

@@ -1,9 +1,8 @@
 //! The value of an expression.
-ghost use Rattle.std.specs.Prelude.{◌≡◌, ◌≤◌, All, IfOk, List, map};
+ghost use Rattle.std.specs.Prelude.{◌≡◌, IfOk, List, map};
 ghost use Rattle.bg_base.specs.Bigraph.{IsValid};
 ghost use Rattle.bg_code.specs.Code.{code_of};
 ghost use Rattle.bg_machine.specs.Calls as definition;
-ghost use Rattle.bg_terms.specs.declared.shape.Shape.{Shape as ShapeValue};
 ghost use Rattle.bg_terms.specs.Expansion.{expand, meanings_of};
 ghost use Rattle.bg_terms.specs.Read.{shapes_of};
 ghost use Rattle.bg_terms.specs.Expressions.{Expression};
@@ -31,7 +30,7 @@ pub fn evaluate(
     code: &[Operation],
     signature: Signature,
 ) -> Result<(Big, Signature), Stop>
-    requires small { All (λ (shape : ShapeValue). shape.arity ≤ 16) (shapes_of controls.now) }
+    requires small { definition.AreSmall controls.now }
     ensures value { (es : List Expression) (e : Expression) → definitions.now ≡ map code_of es → code.now ≡ code_of e
         → Gives result (definition.valued (definition.evaluated signature (expand (shapes_of controls.now) (meanings_of (shapes_of controls.now) es) env.now e))) }
     ensures valid { IfOk result (λ found. IsValid found.0) }

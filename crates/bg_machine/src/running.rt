@@ -1,8 +1,8 @@
 //! A run of the machine.
-ghost use Rattle.std.specs.Prelude.{◌≡◌, ◌≤◌, ◌<◌, All, length, slice_get, option_copied};
+ghost use Rattle.std.specs.Prelude.{◌≡◌, slice_get, option_copied};
+ghost use Rattle.bg_machine.specs.Calls.{AreSmall};
 ghost use Rattle.bg_machine.specs.Machine as definition;
 ghost use Rattle.bg_terms.specs.Read.{shapes_of};
-ghost use Rattle.bg_terms.specs.declared.shape.Shape.{Shape as ShapeValue};
 ghost use Rattle.bg_values.specs.Outcome.{Goes};
 
 use crate::Machine;
@@ -24,7 +24,7 @@ pub fn run(
     operations: &[Operation],
     machine: &mut Machine,
 ) -> Result<(), Stop>
-    requires small { All (λ (shape : ShapeValue). shape.arity ≤ 16) (shapes_of controls.now) }
+    requires small { AreSmall controls.now }
     ensures { Goes result machine.new (definition.run (shapes_of controls.now) (definition.running_of (shapes_of controls.now) definitions.now) env.now operations.now machine.old) }
 {
     for operation in operations {
@@ -43,7 +43,7 @@ fn take_step(
     operation: &Operation,
     machine: &mut Machine,
 ) -> Result<(), Stop>
-    requires small { All (λ (shape : ShapeValue). shape.arity ≤ 16) (shapes_of controls.now) }
+    requires small { AreSmall controls.now }
     ensures { Goes result machine.new (definition.step (shapes_of controls.now) (definition.running_of (shapes_of controls.now) definitions.now) env.now operation.now machine.old) }
 {
     match operation {
@@ -106,7 +106,7 @@ fn refer(
     arguments: &Arguments,
     machine: &mut Machine,
 ) -> Result<(), Stop>
-    requires small { All (λ (shape : ShapeValue). shape.arity ≤ 16) (shapes_of controls.now) }
+    requires small { AreSmall controls.now }
     ensures { Goes result machine.new (definition.referred (shapes_of controls.now) (definition.running_of (shapes_of controls.now) definitions.now) env.now at number arguments.now machine.old) }
 {
     machine.count(at)?;
@@ -134,7 +134,7 @@ fn call(
     number: u32,
     machine: &mut Machine,
 ) -> Result<(), Stop>
-    requires small { All (λ (shape : ShapeValue). shape.arity ≤ 16) (shapes_of controls.now) }
+    requires small { AreSmall controls.now }
     ensures { Goes result machine.new (definition.called at (slice_get (definition.running_of (shapes_of controls.now) definitions.now) number) args.now machine.old) }
 {
     match find_definition(definitions, number) {

@@ -1,6 +1,5 @@
-ghost use Rattle.std.specs.Prelude.{◌≡◌, ◌≤◌, All, IfOk};
-ghost use Rattle.bg_terms.specs.Read.{shapes_of};
-ghost use Rattle.bg_terms.specs.declared.shape.Shape.{Shape as ShapeValue};
+ghost use Rattle.std.specs.Prelude.{◌≡◌, ◌≤◌, IfOk};
+ghost use Rattle.bg_machine.specs.Calls.{AreSmall};
 
 use super::*;
 use bg_base::{Big, Ident, Kind, Link, Signature, Value};
@@ -66,22 +65,41 @@ struct Tables {
     formals: NameTable<()>,
 }
 
-fn entry_of(alloc: Global, formals: u32, arity: u32, kind: Kind) -> Mem<ControlEntry> {
-    let word = Ident::from_bytes(alloc, b"K")?;
-    Ok(ControlEntry {
-        formals,
-        shape: Shape { word, arity, kind },
-    })
+/// Adds a control with that word.
+#[tactic(auto, using(crate::proofs::Small::small_more))]
+fn add_control(
+    alloc: Global,
+    controls: &mut NameTable<ControlEntry>,
+    word: &str,
+    formals: u32,
+    arity: u32,
+    kind: Kind,
+) -> Mem<()>
+    requires arity { arity ≤ 16 }
+    requires small { AreSmall controls.old }
+    ensures { IfOk result (λ _. AreSmall controls.new) }
+{
+    let Some(name) = Ident::new(alloc, word)? else {
+        return Ok(());
+    };
+    let shape = Shape {
+        word: name,
+        arity,
+        kind,
+    };
+    controls.add(alloc, word.as_bytes(), ControlEntry { formals, shape })?;
+    Ok(())
 }
 
 /// `atomic ctrl A = 0; ctrl B = 2; fun ctrl K(n) = 1; fun big c(n) = ..;`, and `n` is a formal.
+#[tactic(auto, using(crate::proofs::Small::none_small))]
 fn tables_here(alloc: Global) -> Mem<Tables>
-    ensures { IfOk result (λ tables. All (λ (shape : ShapeValue). shape.arity ≤ 16) (shapes_of tables.controls)) }
+    ensures { IfOk result (λ tables. AreSmall tables.controls) }
 {
     let mut controls = NameTable::new(alloc);
-    controls.add(alloc, b"A", entry_of(alloc, 0, 0, Kind::Atomic)?)?;
-    controls.add(alloc, b"B", entry_of(alloc, 0, 2, Kind::Normal)?)?;
-    controls.add(alloc, b"K", entry_of(alloc, 1, 1, Kind::Normal)?)?;
+    add_control(alloc, &mut controls, "A", 0, 0, Kind::Atomic)?;
+    add_control(alloc, &mut controls, "B", 0, 2, Kind::Normal)?;
+    add_control(alloc, &mut controls, "K", 1, 1, Kind::Normal)?;
     let mut bigraphs = NameTable::new(alloc);
     bigraphs.add(alloc, b"c", 1)?;
     let mut formals = NameTable::new(alloc);
@@ -130,7 +148,7 @@ fn read(alloc: Global, tables: &Tables, text: &str) -> Result<Vec<Operation>, Ou
 
 /// What the text's first statement comes to, where `c(n)` is `K(n){x}`.
 fn come(alloc: Global, tables: &Tables, text: &str) -> Outcome
-    requires small { All (λ (shape : ShapeValue). shape.arity ≤ 16) (shapes_of tables.now.controls) }
+    requires small { AreSmall tables.now.controls }
 {
     let Ok(definition) = read(alloc, tables, "big c = K(n){x};") else {
         return Outcome::NoExpression;
