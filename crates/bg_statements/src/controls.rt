@@ -62,6 +62,7 @@ impl Definitions {
     }
 
     /// A control whose word is new.
+    #[tactic(auto, using(bg_machine::proofs::Small::small_more))]
     fn add_shape(
         &mut self,
         alloc: Global,

@@ -21,10 +21,8 @@ pub struct Definitions {
 }
 
 impl Model for Definitions {
-    ghost use Rattle.std.specs.Prelude.{◌≤◌, All};
+    ghost use Rattle.bg_machine.specs.Calls.{AreSmall};
     ghost use Rattle.bg_statements.specs.Calls.{Kept};
-    ghost use Rattle.bg_terms.specs.declared.shape.Shape.{Shape as ShapeValue};
-    ghost use Rattle.bg_terms.specs.Read.{shapes_of};
 
     ghost Value = { Kept };
 
@@ -36,13 +34,14 @@ impl Model for Definitions {
       signature = definitions.signature;
     } };
 
-    ghost invariant = { λ definitions. All (λ (shape : ShapeValue). shape.arity ≤ 16) (shapes_of definitions.controls) };
+    ghost invariant = { λ definitions. AreSmall definitions.controls };
 }
 
 impl Definitions {
     ghost use Rattle.std.specs.Prelude.{◌≡◌, []};
 
     /// Nothing is defined. Takes no memory.
+    #[tactic(auto, using(bg_machine::proofs::Small::none_small))]
     pub fn new(alloc: Global) -> Definitions
         ensures { result ≡ record { controls = []; bigraphs = []; codes = []; parameters = []; signature = [] } }
     {
