@@ -3,9 +3,10 @@ ghost use Rattle.std.specs.Prelude.{◌≡◌, ◌↔◌, IsTrue, length, IfOk};
 ghost use Rattle.bg_base.specs.Bigraph.{IsValid};
 ghost use Rattle.bg_builder.specs.Parts.{big_of, IsNumbered};
 
+use crate::conditions::has_outer;
 use crate::parts::Parts;
 use crate::tables::{inner_list, inner_tree, outer_list, outer_tree};
-use bg_base::Big;
+use bg_base::{Big, Name};
 use bg_lists::{Mem, OutOfMemory, Rows};
 use std::alloc::Global;
 use std::marker::Model;
@@ -28,8 +29,8 @@ impl Model for Builder {
 }
 
 impl Builder {
-    ghost use Rattle.std.specs.Prelude.{◌≡◌, length, IfOk};
-    ghost use Rattle.bg_base.specs.Bigraph.{IsValid};
+    ghost use Rattle.std.specs.Prelude.{◌≡◌, is_some, length, IfOk};
+    ghost use Rattle.bg_base.specs.Bigraph.{IsValid, outer_of};
     ghost use Rattle.bg_builder.specs.Parts.{big_of};
 
     /// The valid bigraph in the making. Moves its rows; costs time n log n in its names.
@@ -91,6 +92,14 @@ impl Builder {
         ensures { result ≡ length self.now.sites }
     {
         self.parts.sites.len() as u32
+    }
+
+    /// Whether it has that outer name. Takes time in proportion to the logarithm of the number of its outer names.
+    pub fn has_outer(&self, name: &Name) -> bool
+        ensures { result ≡ is_some (outer_of self.now.outer name.now) }
+    {
+        let f = &self.parts;
+        has_outer(f, name)
     }
 }
 

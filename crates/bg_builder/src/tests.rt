@@ -287,7 +287,13 @@ fn built_closed(alloc: Global, f: Builder, edge: u32) -> Result<Builder, Algebra
         return Err(AlgebraFault::OutOfMemory);
     }
     let word = name(alloc, "x")?;
-    f.close(alloc, &word, edge)
+    let there = f.has_outer(&word);
+    let come = f.close(alloc, &word, edge);
+    if there == come.is_ok() {
+        come
+    } else {
+        Err(AlgebraFault::OutOfMemory)
+    }
 }
 
 fn built_then(
