@@ -17,17 +17,10 @@ use bg_lists::Mem;
 use std::alloc::Global;
 
 impl Builder {
-    ghost use Rattle.std.specs.Prelude.{◌≡◌, ◌↔◌, true, List, [], ◌∷◌, is_some, IsSome, IsNone, IfOk, IfErr, OnOk, IsErrOf, Contains};
+    ghost use Rattle.std.specs.Prelude.{◌≡◌, ◌↔◌, true, List, [], ◌∷◌, IsSome, IsNone, IfOk, IfErr, OnOk, IsErrOf, Contains};
     ghost use Rattle.bg_base.specs.Bigraph.{outer_of};
     ghost use Rattle.bg_base.specs.Products as product;
     ghost use Rattle.bg_builder.specs.Numbers as numbers;
-
-    /// Whether the name is an outer name. Logarithmic in the number of outer names.
-    pub fn has_outer(&self, name: &Name) -> bool
-        ensures { result ≡ is_some (outer_of self.now.outer name.now) }
-    {
-        has_outer(&self.parts, name)
-    }
 
     /// The bigraph with the outer name made the edge `edge` (Milner, chapter 3: closure). What was tied to the name is tied
     /// to the edge, which is there also where nothing was. The edges of this bigraph lie behind that one.
