@@ -10,7 +10,8 @@ use Rattle.bg_listing.proofs.Values.{signature_found}
 use Rattle.bg_listing.proofs.Passes.{signature_here, big_here}
 use Rattle.bg_listing.proofs.Stopping.{ends_line-append}
 use Rattle.bg_listing.proofs.RefusalLines.{signature_line, big_line}
-use Rattle.bg_listing.proofs.SettledLines.{signature_form, big_form, big_text_found}
+use Rattle.bg_listing.proofs.SettledLines.{big_text_found}
+use Rattle.bg_listing.proofs.RowLines.{signature_form, big_form}
 
 -- ---- of two fronts of the same bytes one begins with the other
 

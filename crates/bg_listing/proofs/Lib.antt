@@ -17,4 +17,5 @@ pub mod RefusalLines
 pub mod SettledRows
 pub mod FreshLabels
 pub mod SettledLines
+pub mod RowLines
 pub mod ExactLine

@@ -152,22 +152,40 @@ length-codes_from : {K X : Type 0} (key : X → K) (code : Option K → X → �
 length-codes_from key code last [] = refl
 length-codes_from key code last (x ∷ xs) = ap suc (length-codes_from key code (Some (key x)) xs)
 
-abbrev IsLineBefore : Big → Option (Part × ℕ × ℕ) → Type 0
-IsLineBefore big fault = IfSome fault (λ f. lines_before f.0 big + f.1 ≤ 5 + rows_of big)
+-- the number of rows of a part
+abbrev pub rows_in : Part → Big → ℕ
+rows_in Sites big = length big.sites
+rows_in Inner big = length big.inner
+rows_in Outer big = length big.outer
+rows_in Edges big = length big.edges
+rows_in Nodes big = length big.nodes
 
-part_line : (big : Big) (part : Part) (rows : ℕ) (fault : Option (ℕ × ℕ)) (later : Option (Part × ℕ × ℕ)) → lines_before part big + rows ≤ 6 + rows_of big → IfSome fault (λ f. f.0 < rows) → IsLineBefore big later → IsLineBefore big (or_else part fault later)
-part_line big part rows None later fits h l = l
-part_line big part rows (Some f) later fits h l = omega arith
+abbrev IsRowThere : Big → Option (Part × ℕ × ℕ) → Type 0
+IsRowThere big fault = IfSome fault (λ f. f.1 < rows_in f.0 big)
+
+part_row : (big : Big) (part : Part) (fault : Option (ℕ × ℕ)) (later : Option (Part × ℕ × ℕ)) → IfSome fault (λ f. f.0 < rows_in part big) → IsRowThere big later → IsRowThere big (or_else part fault later)
+part_row big part None later h l = l
+part_row big part (Some f) later h l = h
+
+fault_row : (signature : List Control) (big : Big) → IsRowThere big (fault_of signature big)
+unfolding fault_of sites_fault inner_fault outer_fault edges_fault nodes_fault
+fault_row signature big =
+    part_row big Sites (sites_fault signature big) _ (simp length-map at (first_below (map (site_code signature big) big.sites)))
+    (part_row big Inner (inner_fault big) _ (simp length-codes_from at (first_below (codes_from (λ row. row.name) (inner_code big) None big.inner)))
+    (part_row big Outer (outer_fault big) _ (simp length-codes_from at (first_below (codes_from (λ name. name) outer_code None big.outer)))
+    (part_row big Edges (edges_fault big) _ (simp length-codes_from at (first_below (codes_from (λ edge. edge) edge_code None big.edges)))
+    (part_row big Nodes (nodes_fault signature big) None (simp length-codes_from at (first_below (codes_from (λ row. row.id) (node_code signature big) None big.nodes))) tt))))
+
+pub row_of_fault : (signature : List Control) (big : Big) (part : Part) (row code : ℕ) → fault_of signature big ≡ Some (part, row, code) → row < rows_in part big
+row_of_fault signature big part row code e = subst (IsRowThere big) e (fault_row signature big)
+
+row_line : (big : Big) (part : Part) (row : ℕ) → row < rows_in part big → lines_before part big + row ≤ 5 + rows_of big
+row_line big Sites row lt = omega arith
+row_line big Inner row lt = omega arith
+row_line big Outer row lt = omega arith
+row_line big Edges row lt = omega arith
+row_line big Nodes row lt = omega arith
 
 -- the line of a fault is among those for which there is room
-pub fault_line : (signature : List Control) (big : Big) → IsLineBefore big (fault_of signature big)
-unfolding fault_of sites_fault inner_fault outer_fault edges_fault nodes_fault
-fault_line signature big =
-    part_line big Sites (length big.sites) (sites_fault signature big) _ (omega arith) (simp length-map at (first_below (map (site_code signature big) big.sites)))
-    (part_line big Inner (length big.inner) (inner_fault big) _ (omega arith) (simp length-codes_from at (first_below (codes_from (λ row. row.name) (inner_code big) None big.inner)))
-    (part_line big Outer (length big.outer) (outer_fault big) _ (omega arith) (simp length-codes_from at (first_below (codes_from (λ name. name) outer_code None big.outer)))
-    (part_line big Edges (length big.edges) (edges_fault big) _ (omega arith) (simp length-codes_from at (first_below (codes_from (λ edge. edge) edge_code None big.edges)))
-    (part_line big Nodes (length big.nodes) (nodes_fault signature big) None (omega arith) (simp length-codes_from at (first_below (codes_from (λ row. row.id) (node_code signature big) None big.nodes))) tt))))
-
 pub line_of_fault : (signature : List Control) (big : Big) (part : Part) (row code : ℕ) → fault_of signature big ≡ Some (part, row, code) → lines_before part big + row ≤ 5 + rows_of big
-line_of_fault signature big part row code e = subst (IsLineBefore big) e (fault_line signature big)
+line_of_fault signature big part row code e = row_line big part row (row_of_fault signature big part row code e)

@@ -120,19 +120,34 @@ own_rows_back before (p ∷ nodes) =
     ap (λ l. (p.0, (l, p.1.1)) ∷ map (parts_of (before ++ own_control p ∷ map own_control nodes)) (own_rows (suc (length before)) nodes)) (label_at_seam before (own_control p) (map own_control nodes))
     ∙ ap (λ ps. p ∷ ps) later
 
-pub listed_from : (parts : Sections NodeParts) → AreSections parts → (listed : Listed) × IsListed listed × (listed_text listed ≡ parts_text parts)
-listed_from parts f =
+-- a listing with these parts
+pub record ListingOf (parts : Sections NodeParts) : Type 0 where
+  pub listed : Listed
+  pub fits : IsListed listed
+  pub parts_are : sections_of listed.0 listed.1 ≡ parts
+  pub text_is : listed_text listed ≡ parts_text parts
+
+pub own_listing : (parts : Sections NodeParts) → AreSections parts → ListingOf parts
+own_listing parts f =
     let nodes : List NodeParts = parts.1.1.1.1.1 in
     let controls : List Control = map own_control nodes in
     let big : Big = big_of (parts.0, (parts.1.0, (parts.1.1.0, (parts.1.1.1.0, (parts.1.1.1.1.0, own_rows 0 nodes))))) in
     let same : sections_of controls big ≡ parts = ap (λ rows. (parts.0, (parts.1.0, (parts.1.1.0, (parts.1.1.1.0, (parts.1.1.1.1.0, rows)))))) (own_rows_back [] nodes) in
-    ((controls, big), spelled_from_sections controls big (subst AreSections (sym same) f), sym (parts_text_is controls big) ∙ ap parts_text same)
+    record {
+      listed = (controls, big);
+      fits = spelled_from_sections controls big (subst AreSections (sym same) f);
+      parts_are = same;
+      text_is = sym (parts_text_is controls big) ∙ ap parts_text same;
+    }
+
+listed_on : (parts : Sections NodeParts) → AreSections parts → (listed : Listed) × IsListed listed × (listed_text listed ≡ parts_text parts)
+listed_on parts f = let l = own_listing parts f in (l.listed, l.fits, l.text_is)
 
 listed_back : (listed : Listed) → IsListed listed → (parts : Sections NodeParts) × AreSections parts × (listed_text listed ≡ parts_text parts)
 listed_back listed f = (sections_of listed.0 listed.1, sections_from_spelled listed.0 listed.1 f, sym (parts_text_is listed.0 listed.1))
 
 big_stops : (signature : List Control) (bytes : List ℕ) → Stops listed_text IsListed bytes (big_at signature bytes)
-big_stops signature bytes = other_stop bytes (big_at signature bytes) listed_from listed_back (parts_stop signature bytes)
+big_stops signature bytes = other_stop bytes (big_at signature bytes) listed_on listed_back (parts_stop signature bytes)
 
 -- ---- the codes of faults are above 2
 
@@ -182,7 +197,7 @@ late_part : (part : Part) (fault : Option (ℕ × ℕ)) (later : Option (Part ×
 late_part part None later h l = l
 late_part part (Some f) later h l = h
 
-fault_late : (signature : List Control) (big : Big) → IfSome (fault_of signature big) (λ f. 2 < f.2)
+pub fault_late : (signature : List Control) (big : Big) → IfSome (fault_of signature big) (λ f. 2 < f.2)
 unfolding fault_of sites_fault inner_fault outer_fault edges_fault nodes_fault
 fault_late signature big =
     late_part Sites (first_fault (map (site_code signature big) big.sites)) _ (late_first (map (site_code signature big) big.sites) (late_map (site_code signature big) (λ p. site_late _ _) big.sites))

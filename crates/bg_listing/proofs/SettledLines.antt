@@ -22,10 +22,11 @@ use Rattle.bg_listing.specs.Limits.{most_rows, most_controls, IsNumber, IsPlace,
 use Rattle.bg_listing.specs.Lines.{Bad, NodeParts, row_of, Sections, signature_at, big_at}
 use Rattle.bg_listing.specs.Verdict.{IsAt, Refusal, line_of, judged, repeat_among, first_repeat, without_repeat, lines_before, without_fault, signature_verdict, big_verdict}
 use Rattle.bg_listing.specs.Stops.{Begins, StopsAtLine, HasText, NoneFromLine, is_settled, AreListed, listed_text, IsListed}
+use Rattle.bg_listing.specs.RowLines.{seen_under}
 use Rattle.bg_listing.proofs.Combinators.{Holds, found, joined, FitBoth, map_same}
 use Rattle.bg_listing.proofs.Listings.{parts_line, AreParts, parts_text, AreSections, seen_by, sections_read}
 use Rattle.bg_listing.proofs.Labels.{none_before}
-use Rattle.bg_listing.proofs.Values.{readable_signature, IsKnown, sections_of, parts_text_is, sections_from_spelled, rows_own, counted_signature, signature_found}
+use Rattle.bg_listing.proofs.Values.{readable_signature, IsKnown, sections_of, parts_text_is, sections_from_spelled, rows_own, seen_under_is, counted_signature, signature_found}
 use Rattle.std.specs.List.{flat_map, AllByRecursion}
 use Rattle.std.proofs.lemmas.Grind.{flat_map-append}
 use Rattle.std.proofs.lemmas.List.{length-append}
@@ -35,7 +36,7 @@ use Rattle.bg_listing.proofs.FreshLabels.{continued}
 use Rattle.bg_listing.proofs.Stopping.{none_first, Stops, goes, stops}
 use Rattle.bg_listing.proofs.OneLine.{count_row, edge_rows, place_rows, name_rows, inner_rows, control_rows, node_rows}
 use Rattle.bg_listing.proofs.SettledRows.{all_front, line_feed_once, StopsIn, in_kind, in_first, Passes, passes_from, section_stops_at, section_stops_in, section_feeds, behind_part, counted_as}
-use Rattle.bg_listing.proofs.RefusalLines.{one_refusal, region_part, site_part, inner_part, outer_part, edge_part, listed_from, signature_stops, parts_stop}
+use Rattle.bg_listing.proofs.RefusalLines.{one_refusal, region_part, site_part, inner_part, outer_part, edge_part, own_listing, signature_stops, parts_stop}
 
 named_line : {W : Type 0} {tw : W → List ℕ} {FW : W → Type 0} (bytes : List ℕ) (at : Cursor) (line count : ℕ) → StopsIn tw FW (drop at.offset bytes) count → line ≡ at.line + count → NoneFromLine tw FW bytes at line
 named_line bytes at line count s e = record { lines = s.lines; behind = s.behind; there = s.there; whole = s.whole; line_is = e ∙ ap (λ n. at.line + n) (sym s.feeds); none = s.none }
@@ -44,7 +45,7 @@ named_line bytes at line count s e = record { lines = s.lines; behind = s.behind
 settled_is_late : (code : ℕ) → is_settled code ≡ true → 2 < code
 settled_is_late code s = grind arith
 
-second_pass : {D X : Type 0} {t : D → List ℕ} {F : D → Type 0} (bytes rest : List ℕ) (r : Result (X × List ℕ) Bad) (second : X × List ℕ → Result (X × List ℕ) Refusal) (code line : ℕ) → 2 < code
+pub second_pass : {D X : Type 0} {t : D → List ℕ} {F : D → Type 0} (bytes rest : List ℕ) (r : Result (X × List ℕ) Bad) (second : X × List ℕ → Result (X × List ℕ) Refusal) (code line : ℕ) → 2 < code
     → Stops t F rest r → judged bytes r second ≡ Err (code, line) → (x : X × List ℕ) × (r ≡ Ok x) × (second x ≡ Err (code, line))
 second_pass bytes rest r second code line s (goes x) e = (x, refl, e)
 second_pass bytes rest r second code line s (stops bad lines behind named at) e =
@@ -87,6 +88,11 @@ repeat_at : (before controls : List Control) (row : ℕ) → repeat_among before
 repeat_at before [] row e = absurd cc
 repeat_at before (c ∷ controls) row e =
     repeat_if before c controls row (is_some (number_of before c.label)) (repeat_among (before ++ c ∷ []) controls) refl (λ j f. repeat_at (before ++ c ∷ []) controls j f) e
+
+pub repeat_there : (controls : List Control) (row : ℕ) → first_repeat controls ≡ Some row → row < length controls
+repeat_there controls row e =
+    let s = repeat_at [] controls row e in
+    omega (arith, s.many, ap length s.rows, length-append s.front (s.control ∷ s.later))
 
 not_some : (o : Option ℕ) → is_some o ≡ true → o ≡ None → ⊥
 not_some o s n = cc
@@ -136,9 +142,11 @@ signature_stops_at bytes at controls rest row line fits e repeat named =
       };
     }
 
-repeat_of : {A : Type 0} (repeat : Option ℕ) (first_line : ℕ) (x : A) (code line : ℕ) → without_repeat repeat first_line x ≡ Err (code, line) → (row : ℕ) × (repeat ≡ Some row) × (line ≡ first_line + row)
+pub repeat_of : {A : Type 0} (repeat : Option ℕ) (first_line : ℕ) (x : A) (code line : ℕ) → without_repeat repeat first_line x ≡ Err (code, line) → (row : ℕ) × (repeat ≡ Some row) × (line ≡ first_line + row) × (code ≡ 9)
 repeat_of None first_line x code line e = absurd cc
-repeat_of (Some row) first_line x code line e = (row, refl, sym (ap (λ (r : Refusal). r.1) (one_refusal (without_repeat (Some row) first_line x) (9, first_line + row) (code, line) refl e)))
+repeat_of (Some row) first_line x code line e =
+    let same = one_refusal (without_repeat (Some row) first_line x) (9, first_line + row) (code, line) refl e in
+    (row, refl, sym (ap (λ (r : Refusal). r.1) same), sym (ap (λ (r : Refusal). r.0) same))
 
 pub signature_settled : (bytes : List ℕ) (at : Cursor) → IsAt bytes at → (code line : ℕ) → IsTrue (is_settled code) → signature_verdict bytes at ≡ Err (code, line) → StopsAtLine signature_text IsReadableSignature bytes at line
 unfolding signature_verdict
@@ -382,7 +390,7 @@ held_stops signature kept bytes big rest fault settled (found d x more e f same)
     subst (λ b. fault_of signature b ≡ Some fault → StopsBig signature bytes (lines_before fault.0 b + fault.1)) same
     (λ g. subst (λ t. StopsBig signature t (lines_before fault.0 (seen_by signature d) + fault.1)) (sym e) (big_stops_in signature kept d more fault f settled g)) h
 
-fault_of_line : {A : Type 0} (fault : Option (Part × ℕ × ℕ)) (first_line : ℕ) (big : Big) (x : A) (code line : ℕ) → without_fault fault first_line big x ≡ Err (code, line)
+pub fault_of_line : {A : Type 0} (fault : Option (Part × ℕ × ℕ)) (first_line : ℕ) (big : Big) (x : A) (code line : ℕ) → without_fault fault first_line big x ≡ Err (code, line)
     → (f : Part × ℕ × ℕ) × (fault ≡ Some f) × (f.2 ≡ code) × (line ≡ first_line + lines_before f.0 big + f.1)
 fault_of_line None first_line big x code line e = absurd cc
 fault_of_line (Some f) first_line big x code line e =
@@ -399,26 +407,23 @@ big_settled signature kept bytes at is code line settled e =
     let held = subst (λ r. Holds (seen_by signature) parts_text AreSections text r) p.1 ((sections_read signature).sound text) in
     named_line bytes at line (lines_before f.0.0 p.0.0 + f.0.1) (held_stops signature kept text p.0.0 p.0.1 f.0 (subst (λ c. is_settled c ≡ true) (sym f.2) settled) held f.1) (omega (arith, f.3))
 
--- ---- what the second pass refuses has the form of a listing
+-- ---- what the first pass gives has the form of a listing
 
-pub signature_form : (bytes : List ℕ) (at : Cursor) (code line : ℕ) → 2 < code → signature_verdict bytes at ≡ Err (code, line) → HasText signature_text AreListed (drop at.offset bytes)
-unfolding signature_verdict
-signature_form bytes at code line late e =
-    let p = second_pass bytes (drop at.offset bytes) (signature_at (drop at.offset bytes)) (λ found. without_repeat (first_repeat found.0) (at.line + 1) found) code line late (signature_stops (drop at.offset bytes)) e in
-    let text = signature_found (drop at.offset bytes) p.0.0 p.0.1 p.1 in
-    record { value = p.0.0; rest = p.0.1; fits = text.counted; there = text.there }
+-- the listing of what the first pass gives
+pub record IsListingOf (signature : List Control) (bytes : List ℕ) (big : Big) : Type 0 where
+  pub listing : HasText listed_text IsListed bytes
+  pub seen : seen_under signature listing.value ≡ big
 
-held_form : (signature : List Control) (bytes : List ℕ) (x : Big × List ℕ) → Holds {E = Bad} (seen_by signature) parts_text AreSections bytes (Ok x) → HasText listed_text IsListed bytes
+held_form : (signature : List Control) (bytes : List ℕ) (x : Big × List ℕ) → Holds {E = Bad} (seen_by signature) parts_text AreSections bytes (Ok x) → IsListingOf signature bytes x.0
 held_form signature bytes _ (found d x more e f same) =
-    let listed = listed_from d f in
-    record { value = listed.0; rest = more; fits = listed.1; there = e ∙ ap (λ t. t ++ more) (sym listed.2) }
+    let own = own_listing d f in
+    record {
+      listing = record { value = own.listed; rest = more; fits = own.fits; there = e ∙ ap (λ t. t ++ more) (sym own.text_is) };
+      seen = sym (seen_under_is signature own.listed) ∙ ap (seen_by signature) own.parts_are ∙ same;
+    }
+
+pub big_listing : (signature : List Control) (bytes : List ℕ) (x : Big × List ℕ) → big_at signature bytes ≡ Ok x → IsListingOf signature bytes x.0
+big_listing signature bytes x e = held_form signature bytes x (subst (λ r. Holds (seen_by signature) parts_text AreSections bytes r) e ((sections_read signature).sound bytes))
 
 pub big_text_found : (signature : List Control) (bytes : List ℕ) (x : Big × List ℕ) → big_at signature bytes ≡ Ok x → HasText listed_text IsListed bytes
-big_text_found signature bytes x e = held_form signature bytes x (subst (λ r. Holds (seen_by signature) parts_text AreSections bytes r) e ((sections_read signature).sound bytes))
-
-pub big_form : (signature : List Control) (bytes : List ℕ) (at : Cursor) (code line : ℕ) → 2 < code → big_verdict signature bytes at ≡ Err (code, line) → HasText listed_text IsListed (drop at.offset bytes)
-unfolding big_verdict
-big_form signature bytes at code line late e =
-    let text : List ℕ = drop at.offset bytes in
-    let p = second_pass bytes text (big_at signature text) (λ found. without_fault (fault_of signature found.0) at.line found.0 found) code line late (parts_stop signature text) e in
-    big_text_found signature text p.0 p.1
+big_text_found signature bytes x e = (big_listing signature bytes x e).listing

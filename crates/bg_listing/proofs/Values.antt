@@ -5,6 +5,7 @@ use Rattle.std.specs.List.{AllByRecursion, IsDistinct}
 use Rattle.std.proofs.lemmas.List.{length-map}
 use Rattle.std.proofs.lemmas.List.Folds.{flat_map-map}
 use Rattle.std.proofs.lemmas.List.Elements.{recursion_from_All}
+use Rattle.bg_lists.proofs.Members.{map-map}
 use Rattle.bg_base.specs.declared.signature.Control.{Control}
 use Rattle.bg_base.specs.declared.big.NodeRow.{NodeRow}
 use Rattle.bg_base.specs.declared.big.Big.{Big}
@@ -12,6 +13,8 @@ use Rattle.bg_base.specs.Signatures.{same_label, IsSignature}
 use Rattle.bg_listing.specs.Spelling.{label_of, place_line, inner_line, name_line, edge_line, count_line, section_text, signature_text, big_text}
 use Rattle.bg_listing.specs.Limits.{most_controls, IsLabel, IsControl, IsNode, AreCounted, IsReadableSignature, IsSpelledBig}
 use Rattle.bg_listing.specs.Lines.{Bad, control_of, NodeParts, row_of, Sections, big_of, signature_at, big_at}
+use Rattle.bg_listing.specs.Stops.{Listed}
+use Rattle.bg_listing.specs.RowLines.{seen_under}
 use Rattle.bg_listing.proofs.Combinators.{Holds, found}
 use Rattle.bg_listing.proofs.Listings.{parts_line, AreParts, parts_text, AreSections, seen_by, controls_read, sections_read}
 use Rattle.bg_listing.proofs.Labels.{label_back, control_own}
@@ -50,6 +53,12 @@ rows_own signature distinct [] known = refl
 rows_own signature distinct (r ∷ rows) known =
     let number : control_of signature (label_of signature r.control) ≡ r.control = control_own signature distinct r.control known.0 in
     ap (λ k. record { id = r.id; control = k; parent = r.parent; links = r.links } ∷ map (row_of signature) (map (parts_of signature) rows)) number ∙ ap (λ rs. r ∷ rs) (rows_own signature distinct rows known.1)
+
+-- what a listing says under the signature, by the parts of its text
+pub seen_under_is : (signature : List Control) (listed : Listed) → seen_by signature (sections_of listed.0 listed.1) ≡ seen_under signature listed
+seen_under_is signature listed =
+    let big : Big = listed.1 in
+    ap (λ rows. big_of (big.regions, (big.sites, (big.inner, (big.outer, (big.edges, rows)))))) (map-map (parts_of listed.0) (row_of signature) big.nodes)
 
 nodes_from_parts : (signature : List Control) (rows : List NodeRow) → AllByRecursion AreParts (map (parts_of signature) rows) → AllByRecursion (IsNode signature) rows
 nodes_from_parts signature [] all = tt

@@ -6,3 +6,4 @@ pub mod Lines
 pub mod Answers
 pub mod Verdict
 pub mod Stops
+pub mod RowLines

@@ -7,6 +7,7 @@ ghost use Rattle.bg_listing.specs.declared.cursor.Cursor.{Cursor};
 ghost use Rattle.bg_listing.specs.Spelling.{signature_text, big_text};
 ghost use Rattle.bg_listing.specs.Limits.{IsReadableSignature, IsReadableBig};
 ghost use Rattle.bg_listing.specs.Verdict.{IsAt, Refusal, signature_verdict, big_verdict};
+ghost use Rattle.bg_listing.specs.RowLines.{IsToldAtControl, IsToldAtRow};
 ghost use Rattle.bg_listing.specs.Stops.{StopsAtLine, HasText, NoneFromLine, AreListed, listed_text, IsListed, is_settled};
 
 /// The verdict on a text is a value exactly where the listing of that value, a signature or a bigraph within the limits,
@@ -45,6 +46,19 @@ pub fn a_text_that_breaks_a_rule_has_the_form_of_a_listing()
         → HasText signature_text AreListed (drop at.offset bytes) }
     ensures bigraphs { (signature : List Control) (bytes : List ℕ) (at : Cursor) (code line : ℕ) → 2 < code → big_verdict signature bytes at ≡ Err (code, line)
         → HasText listed_text IsListed (drop at.offset bytes) }
+{}
+
+/// A text is refused with a code above 2 exactly where the listing of some value within the limits stands at the cursor,
+/// and a row of it breaks a rule. The code is that of the first such row, and the line is this very row: behind the lines
+/// of the listing that stand before the row, the text of the row is the whole line.
+///
+/// A row may name a control that the signature does not have. So the bigraph is listed under some list of controls, and
+/// judged with the numbers that its controls have in the signature, by their labels.
+pub fn a_broken_rule_is_told_at_the_line_of_its_row()
+    ensures signatures { (bytes : List ℕ) (at : Cursor) (code line : ℕ)
+        → ((2 < code) × (signature_verdict bytes at ≡ Err (code, line))) ↔ IsToldAtControl bytes at code line }
+    ensures bigraphs { (signature : List Control) (bytes : List ℕ) (at : Cursor) (code line : ℕ)
+        → ((2 < code) × (big_verdict signature bytes at ≡ Err (code, line))) ↔ IsToldAtRow signature bytes at code line }
 {}
 
 /// Where a text is refused with code 3, 5 or 9, no listing of a valid value begins with the lines from the cursor up to and
