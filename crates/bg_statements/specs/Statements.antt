@@ -35,11 +35,14 @@ abbrev pub formal_tokens : SynFormals → List ℕ
 formal_tokens (formals_ways.Way1 bracket first more end) = first ∷ map (λ (item : SynMoreLowItem). item.part2) more.items
 formal_tokens formals_ways.Way2 = []
 
--- formals behind others, none of which repeats
+-- the formals with one more, which does not repeat
+abbrev pub with_formal : ScopeParts → List (Entry (Unit {0})) → ℕ → Result (List (Entry (Unit {0}))) Refusal
+with_formal text formals token = new_word text formals token >>= λ word. Ok (formals ++ (word, tt) ∷ [])
+
+-- formals behind others
 abbrev pub formals_behind : ScopeParts → List (Entry (Unit {0})) → List ℕ → Result (List (Entry (Unit {0}))) Refusal
 formals_behind text formals [] = Ok formals
-formals_behind text formals (token ∷ tokens) =
-    new_word text formals token >>= λ word. formals_behind text (formals ++ (word, tt) ∷ []) tokens
+formals_behind text formals (token ∷ tokens) = with_formal text formals token >>= λ longer. formals_behind text longer tokens
 
 -- ---- `ctrl K(n) = 2;`
 

@@ -37,23 +37,28 @@ impl Definitions {
         ensures { Defines result self.old self.new (definition.with_control text.now kind tree.now) }
     {
         check_new(text, &self.controls, tree.part1)?;
-        let word = self.word_of(alloc, text, tree.part1)?;
+        let word = self.word_with(alloc, text, &NameTable::new(alloc), tree.part1)?;
         let formals = formals_of(alloc, text, &tree.part2)?;
         let arity = arity_at(text, &tree.part4)?;
         let shape = Shape { word, arity, kind };
         self.add_shape(alloc, text.spelling(tree.part1), tree.part1, formals.len(), shape)
     }
 
-    /// The identifier of a control's name.
-    fn word_of(&self, alloc: Global, text: &Scope, token: u32) -> Result<Ident, Stop>
-        ensures { (d : Defined) → self.now ≡ kept d → Gives result (word_at (visible_with text.now [] d) token) }
+    /// The identifier that a token spells.
+    fn word_with(
+        &self,
+        alloc: Global,
+        text: &Scope,
+        formals: &NameTable<()>,
+        token: u32,
+    ) -> Result<Ident, Stop>
+        ensures { (d : Defined) → self.now ≡ kept d → Gives result (word_at (visible_with text.now formals.now d) token) }
     {
-        let formals = NameTable::new(alloc);
         let visible = Visible {
             scope: Scope {
                 bytes: text.bytes,
                 tokens: text.tokens,
-                names: &formals,
+                names: formals,
             },
             controls: &self.controls,
             bigraphs: &self.bigraphs,

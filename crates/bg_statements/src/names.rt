@@ -1,5 +1,5 @@
 //! The names that statements define.
-ghost use Rattle.std.specs.Prelude.{◌≡◌, ◌∷◌, ◌++◌, [], map, drop};
+ghost use Rattle.std.specs.Prelude.{◌∷◌, [], map};
 ghost use Rattle.bg_statements.specs.Statements as definition;
 ghost use Rattle.bg_syntax.specs.declared.tree.names.SynMoreLowItem.{SynMoreLowItem as MoreItem};
 ghost use Rattle.bg_values.specs.Outcome.{Gives, Goes};
@@ -52,6 +52,17 @@ fn add_formals(
     ensures { Goes result formals.new (definition.formals_behind text.now formals.old (first ∷ map (λ (item : MoreItem). item.part2) more.now)) }
 {
     add_formal(alloc, text, first, formals)?;
+    add_more(alloc, text, more, formals)
+}
+
+fn add_more(
+    alloc: Global,
+    text: &Scope,
+    more: &[SynMoreLowItem],
+    formals: &mut NameTable<()>,
+) -> Result<(), Stop>
+    ensures { Goes result formals.new (definition.formals_behind text.now formals.old (map (λ (item : MoreItem). item.part2) more.now)) }
+{
     for item in more {
         add_formal(alloc, text, item.part2, formals)?;
     }
@@ -65,7 +76,7 @@ fn add_formal(
     token: u32,
     formals: &mut NameTable<()>,
 ) -> Result<(), Stop>
-    ensures { Goes result formals.new (definition.formals_behind text.now formals.old (token ∷ [])) }
+    ensures { Goes result formals.new (definition.with_formal text.now formals.old token) }
 {
     if formals.add(alloc, text.spelling(token), ())? {
         Ok(())

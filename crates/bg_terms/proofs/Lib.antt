@@ -9,10 +9,10 @@ mod Labels
 mod Ordered
 mod Fitting
 mod Placed
-mod ShapesFit
+pub mod ShapesFit
 mod Made
 mod Claims
-mod Ports
-mod InTurn
-mod Controls
+pub mod Ports
+pub mod InTurn
+pub mod Controls
 mod Later
