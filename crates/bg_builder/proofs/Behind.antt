@@ -1,9 +1,9 @@
 -- Where the numbers of the second bigraph lie behind those of the first, each operation puts its rows after those of the
 -- first.
-use Rattle.std.proofs.Common.{◌≡◌, ℕ, ◌+◌, ◌<◌, true, Less, List, [], ◌∷◌, ◌++◌, map, not, filter, nat_cmp, is_eq, get_or, unwrap_or, option_map, IsTrue, refl, sym, ap, subst, ◌∙◌, inl, inr, arith, zero-add}
+use Rattle.std.proofs.Common.{◌≡◌, ℕ, ◌+◌, true, Less, List, [], ◌++◌, map, nat_cmp, get_or, unwrap_or, option_map, IsTrue, refl, sym, ap, ◌∙◌, inl, inr, arith, zero-add}
 use Rattle.std.proofs.lemmas.Cmp.{nat_cmp_total}
 use Rattle.std.proofs.lemmas.List.{map-id, map-append}
-use Rattle.bg_lists.specs.Lists.{Mem, put, sort}
+use Rattle.bg_lists.specs.Lists.{Mem, sort}
 use Rattle.bg_lists.specs.Orders.{before, set_of}
 use Rattle.bg_lists.proofs.Comparisons.{nat_cmp-lt}
 use Rattle.bg_lists.proofs.Members.{Mem-unmap, Mem-append_left, Mem-append_right, Mem-append_cases, map_agree, map-map}
@@ -23,8 +23,8 @@ use Rattle.bg_base.specs.declared.big.Big.{Big}
 use Rattle.bg_base.specs.Order.{name_cmp}
 use Rattle.bg_base.specs.Bigraph.{IsValid, node_cmp, has_place, inner_of}
 use Rattle.bg_base.specs.Composition.{compose, place_through, link_through, row_through, inner_through}
-use Rattle.bg_base.specs.Elementary.{counted, identity, row_to_itself}
-use Rattle.bg_base.specs.Products.{parallel, merge, nest, close, place_beside, row_beside, place_in_one, row_in_one, in_one_region, row_closed, inner_closed}
+use Rattle.bg_base.specs.Elementary.{counted, identity}
+use Rattle.bg_base.specs.Products.{parallel, merge, nest, close, place_beside, row_beside, place_in_one, row_in_one, in_one_region}
 use Rattle.bg_base.proofs.NameLaws.{same_name}
 use Rattle.bg_base.proofs.LookUps.{node_cmp_total, region_from_has}
 use Rattle.bg_algebra.proofs.Nested.{frame, frame_inner}

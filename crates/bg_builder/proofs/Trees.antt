@@ -1,14 +1,14 @@
 -- What search trees of names hold, as the lists that a bigraph has: outer names as a set, inner names as rows in order.
-use Rattle.std.proofs.Common.{◌≡◌, ℕ, Ordering, Equal, Greater, Bool, true, false, ◌||◌, cond, List, [], ◌∷◌, ◌++◌, map, filter, not, Less, is_eq, Option, Some, None, is_some, option_map, All, Contains, IsNone, refl, sym, ap, subst, ◌∙◌, ◌⊎◌, inl, inr, ◌↔◌}
+use Rattle.std.proofs.Common.{◌≡◌, ℕ, Ordering, Equal, Greater, Bool, true, false, ◌||◌, List, [], ◌∷◌, ◌++◌, map, filter, not, Less, is_eq, Option, Some, None, is_some, All, IsNone, refl, sym, ap, subst, ◌∙◌, ◌⊎◌, inl, inr, ◌↔◌}
 use Rattle.std.specs.Option.{option_or}
 use Rattle.std.specs.Ordering.{eq_by_cmp, ordering_then}
 use Rattle.std.specs.Cmp.Lexicographic.{slice_cmp}
 use Rattle.std.specs.Cmp.{eq_by_cmp_equiv}
-use Rattle.std.specs.List.{list_all, list_any, IsDistinct}
+use Rattle.std.specs.List.{list_all, list_any}
 use Rattle.std.specs.List.Sorted.{IsStrictlySortedBy}
 use Rattle.std.specs.Map.{keys_of, lookup, update_all}
-use Rattle.std.specs.Set.{is_member, IsUnion, remove_key}
-use Rattle.std.proofs.lemmas.Bool.{cond_both, cond-true, cond-false, cases_Bool, or_cases, or_left, or_right, true≢false, false≢true}
+use Rattle.std.specs.Set.{IsUnion, remove_key}
+use Rattle.std.proofs.lemmas.Bool.{cond-true, cond-false, cases_Bool, or_cases, or_left, or_right, true≢false, false≢true}
 use Rattle.std.proofs.lemmas.Cmp.{on_total, lists_total, tied_itself}
 use Rattle.std.proofs.lemmas.Map.Keys.{IsDistinct-from_sorted}
 use Rattle.std.proofs.lemmas.Map.Made.{update_all_distinct, update_all_none}

@@ -1,6 +1,6 @@
 -- What the operations come to where the numbers of the second bigraph lie behind those of the first: its rows after
 -- those of the first.
-use Rattle.std.specs.Prelude.{ℕ, List, ◌∷◌, ◌++◌, map, filter, not}
+use Rattle.std.specs.Prelude.{ℕ, ◌∷◌, ◌++◌, map, filter, not}
 use Rattle.std.specs.Ordering.{is_eq}
 use Rattle.bg_lists.specs.Lists.{sort}
 use Rattle.bg_lists.specs.Orders.{before, set_of}

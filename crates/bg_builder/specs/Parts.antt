@@ -1,5 +1,5 @@
 -- The bigraph that its parts are, and what is kept true of it.
-use Rattle.std.specs.Prelude.{ℕ, ◌-◌, ◌^◌, ◌<◌, List, length, map}
+use Rattle.std.specs.Prelude.{◌-◌, ◌^◌, ◌<◌, List, length, map}
 use Rattle.bg_base.specs.declared.names.Name.{Name}
 use Rattle.bg_base.specs.declared.names.Link.{Link}
 use Rattle.bg_base.specs.declared.big.InnerRow.{InnerRow}

@@ -82,6 +82,7 @@ pub(crate) fn inner_list(alloc: Global, tree: BTreeMap<Name, Link>) -> Mem<Vec<I
     ensures same { IfOk result (λ rows. rows.items ≡ inner_rows tree.entries) }
     ensures ascending { IfOk result (λ rows. IsStrictlySortedBy inner_cmp rows.items) }
 {
+    // Gives the proof that the names ascend.
     let _count = tree.len();
     let rows = rows_of(alloc, tree)?;
     Ok(rows)
@@ -105,6 +106,7 @@ pub(crate) fn inner_of_both(
     requires { All (λ (row : RowOfInner). IsNone (inner_of (inner_rows first.entries) row.name)) (inner_rows second.entries) }
     ensures { IfOk result (λ tree. inner_rows tree.entries ≡ sort (before inner_cmp) (inner_rows first.entries ++ inner_rows second.entries)) }
 {
+    // Gives the proof that the names ascend.
     let _count = first.len();
     first.append(&mut second)?;
     Ok(first)
@@ -189,6 +191,7 @@ pub(crate) fn has_outer(names: &BTreeSet<Name>, name: &Name) -> bool
 pub(crate) fn names_without(mut names: BTreeSet<Name>, name: &Name) -> BTreeSet<Name>
     ensures { result.keys ≡ filter (λ (other : NameOf). not (is_eq (name_cmp other name.now))) names.keys }
 {
+    // Gives the proof that the names ascend.
     let _count = names.len();
     let _there = names.remove(name);
     names
