@@ -1,5 +1,5 @@
 //! Controls that enter the signature.
-ghost use Rattle.std.specs.Prelude.{◌≡◌, ◌≤◌, IfOk, None};
+ghost use Rattle.std.specs.Prelude.{◌≡◌, ◌≤◌, IfOk, OnErr, None};
 ghost use Rattle.bg_base.specs.Signatures.{number_of};
 ghost use Rattle.bg_machine.specs.Calls.{Enters};
 ghost use Rattle.bg_terms.specs.Expansion.{control_of};
@@ -12,7 +12,7 @@ use bg_values::{Cause, LimitWord, Stop};
 use std::alloc::Global;
 
 /// The number of the control of this shape with these arguments; it enters the signature where it is new, and 52 comes where
-/// there is no room. Costs time n log n in the number of controls and the length of labels.
+/// there is no room. Where it gives no number the signature stays as it was. Costs time n log n in the number of controls and the length of labels.
 pub fn enter(
     alloc: Global,
     at: u32,
@@ -21,7 +21,8 @@ pub fn enter(
     signature: &mut Signature,
 ) -> Result<u32, Stop>
     requires small { shape.now.arity ≤ 16 }
-    ensures { Enters result signature.new (entered at (control_of shape.now args.items) signature.old) }
+    ensures entered { Enters result signature.new (entered at (control_of shape.now args.items) signature.old) }
+    ensures unchanged { OnErr result (signature.new ≡ signature.old) }
 {
     let label = label_of(alloc, shape, args)?;
     match signature.find(&label) {
@@ -49,8 +50,9 @@ fn add(
 ) -> Result<u32, Stop>
     requires small { shape.now.arity ≤ 16 }
     requires new { number_of signature.old label ≡ None }
-    ensures { Enters result signature.new
+    ensures entered { Enters result signature.new
         (entered_at at (record { label = label; arity = shape.now.arity; kind = shape.now.kind }) signature.old None) }
+    ensures unchanged { OnErr result (signature.new ≡ signature.old) }
 {
     if signature.len() >= 4096 {
         return Err(Stop::refuse(Cause::TooLarge(LimitWord::Controls), at));

@@ -17,7 +17,7 @@ use bg_lists::{Duplicate, Mem, OutOfMemory, Rows};
 use bg_values::{Cause, LimitWord, Stop};
 use std::alloc::Global;
 
-/// The bigraph, where it is within the limits; else 52 with the first limit that it passes. Takes constant time.
+/// The bigraph, where it is within the limits; else 52 with the first limit that it exceeds. Takes constant time.
 pub fn limited(at: u32, big: Builder) -> Result<Builder, Stop>
     ensures { result ≡ told (definition.limited at big) }
 {

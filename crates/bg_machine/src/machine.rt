@@ -70,8 +70,8 @@ impl Machine {
         }
     }
 
-    /// The bigraph on top, and the signature reached.
-    pub(crate) fn finish(self, alloc: Global) -> Result<(Big, Signature), Stop>
+    /// The bigraph on top, and the signature reached; 31 where there is none.
+    pub fn finish(self, alloc: Global) -> Result<(Big, Signature), Stop>
         ensures value { Gives result (calls.finished self) }
         ensures valid { IfOk result (λ found. IsValid found.0) }
     {

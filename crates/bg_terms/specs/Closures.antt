@@ -1,10 +1,11 @@
 -- Which closure takes which edge number.
-use Rattle.std.specs.Prelude.{◌≡◌, ℕ, ◌+◌, ◌⊎◌, Ok}
+use Rattle.std.specs.Prelude.{◌≡◌, ℕ, ◌+◌, ◌⊎◌, Bool, List, Ok}
 use Rattle.bg_base.specs.declared.big.Big.{Big}
+use Rattle.bg_terms.specs.declared.shape.Product.{Product}
 use Rattle.bg_terms.specs.Numbering.{closures}
 use Rattle.bg_terms.specs.Terms as terms
 use Rattle.bg_terms.specs.Terms.{Term}
-use Rattle.bg_terms.specs.Values.{Reached, value}
+use Rattle.bg_terms.specs.Values.{Reached, value, tallied}
 
 -- the term is the part itself, and no closure stands before it
 abbrev pub IsItself : Term → ℕ → Term → Type 0
@@ -30,11 +31,27 @@ StandsBehind part count (terms.product kind at t u) =
     IsItself part count (terms.product kind at t u)
     ⊎ (StandsBehind part count t ⊎ ((others : ℕ) × (count ≡ closures t + others) × StandsBehind part others u))
 
--- the part is evaluated where the first edge number that is free is that one; a closure takes it
-pub record IsEvaluatedAt (part : Term) (edge : ℕ) : Type 0 where
-  pub depth : ℕ
-  pub before : Reached
-  pub after : Reached
-  pub big : Big
-  pub comes : value depth part before ≡ Ok (big, after)
-  pub free : before.edges ≡ edge
+-- the evaluation of a term, around which so many `K` are open, from what was reached before it, comes to the part: around
+-- the part `inside` are open, and `there` was reached before it
+pub data Evaluates (part : Term) (inside : ℕ) (there : Reached) : ℕ → Term → Reached → Type 0 where
+  at_part : Evaluates part inside there inside part there
+  in_counted : {depth at : ℕ} {t : Term} {c d : Reached} → tallied at c ≡ Ok d → Evaluates part inside there depth t d
+      → Evaluates part inside there depth (terms.counted at t) c
+  in_deeper : {depth at : ℕ} {t : Term} {c : Reached} → Evaluates part inside there (depth + 1) t c → Evaluates part inside there depth (terms.deeper at t) c
+  in_closure : {depth at : ℕ} {word : List ℕ} {t : Term} {c : Reached} → Evaluates part inside there depth t (record c { edges = c.edges + 1 })
+      → Evaluates part inside there depth (terms.closure at word t) c
+  in_upper : {depth at : ℕ} {is_atom : Bool} {t u : Term} {c : Reached} → Evaluates part inside there depth t c
+      → Evaluates part inside there depth (terms.nesting at is_atom t u) c
+  in_lower : {depth at : ℕ} {is_atom : Bool} {t u : Term} {c d : Reached} {big : Big} → value depth t c ≡ Ok (big, d)
+      → Evaluates part inside there depth u d → Evaluates part inside there depth (terms.nesting at is_atom t u) c
+  in_left : {depth at : ℕ} {kind : Product} {t u : Term} {c : Reached} → Evaluates part inside there depth t c
+      → Evaluates part inside there depth (terms.product kind at t u) c
+  in_right : {depth at : ℕ} {kind : Product} {t u : Term} {c d : Reached} {big : Big} → value depth t c ≡ Ok (big, d)
+      → Evaluates part inside there depth u d → Evaluates part inside there depth (terms.product kind at t u) c
+
+-- the evaluation of the term comes to the part where that edge number is the first free one; a closure takes it
+pub record IsEvaluatedAt (depth : ℕ) (term : Term) (before : Reached) (part : Term) (edge : ℕ) : Type 0 where
+  pub inside : ℕ
+  pub there : Reached
+  pub evaluates : Evaluates part inside there depth term before
+  pub free : there.edges ≡ edge

@@ -45,11 +45,12 @@ pub fn nodes_stand_in_the_order_of_the_text()
 {}
 
 /// A closure before which `count` others begin in the order of the text takes the edge number that lies so many behind the
-/// first that is free: there it is evaluated, and `value` gives a closure the first free number.
+/// first that is free: the evaluation of the term comes to it where that is the first free number, which `value` gives a
+/// closure.
 pub fn closures_take_edge_numbers_in_the_order_of_the_text()
     ensures { (depth : ℕ) (term : Term) (before after : Reached) (big : Big) → value depth term before ≡ Ok (big, after)
         → (count at : ℕ) (word : List ℕ) (inside : Term) → StandsBehind (terms.closure at word inside) count term
-        → IsEvaluatedAt (terms.closure at word inside) (before.edges + count) }
+        → IsEvaluatedAt depth term before (terms.closure at word inside) (before.edges + count) }
 {}
 
 /// What a term comes to is a valid bigraph.
