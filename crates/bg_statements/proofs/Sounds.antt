@@ -1,6 +1,6 @@
 -- What statements define stays sound.
 use Rattle.std.proofs.Common.{◌≡◌, ◌≤◌, ◌++◌, ◌∷◌, [], ℕ, zero, suc, Bool, true, false, List, length, Option, Some, None, Result, Ok, Err, refl, sym, ap, subst, ◌∙◌, is_some, is_none, arith}
-use Rattle.std.specs.Prelude.{nat_abs, nat_lt}
+use Rattle.std.specs.Prelude.{nat_abs, nat_lt, if◌then◌else◌}
 use Rattle.std.proofs.lemmas.Bool.Decides.{nat_tests}
 use Rattle.std.proofs.lemmas.List.{map-append}
 use Rattle.bg_base.specs.declared.big.Big.{Big}
@@ -10,10 +10,12 @@ use Rattle.bg_base.specs.declared.signature.Kind.{Kind}
 use Rattle.bg_base.specs.Signatures.{IsSignature}
 use Rattle.bg_lists.specs.Lists.{Mem, here}
 use Rattle.bg_lists.proofs.Members.{Mem-append_right}
+use Rattle.bg_lists.proofs.Words.{All-from_members}
+use Rattle.std.specs.List.{IsDistinct}
 use Rattle.bg_machine.specs.Calls.{evaluated}
 use Rattle.bg_statements.specs.Defined.{Defined, visible_with}
 use Rattle.bg_statements.specs.Sound.{IsSound, nothing}
-use Rattle.bg_statements.specs.Statements.{new_word, formal_tokens, formals_behind, arity_at, entered_at_once, with_shape, with_control, tried, with_expression, with_bigraph, with_parameter}
+use Rattle.bg_statements.specs.Statements.{new_word, formals_read, arity_at, entered_at_once, with_shape, with_control, tried, with_expression, with_bigraph, with_parameter}
 use Rattle.bg_syntax.specs.declared.tree.statements.SynBigraph.{SynBigraph}
 use Rattle.bg_syntax.specs.declared.tree.statements.SynControl.{SynControl}
 use Rattle.bg_syntax.specs.declared.tree.statements.SynParam.{SynParam}
@@ -27,8 +29,9 @@ use Rattle.bg_terms.specs.Trees.{Visible, word_at, e_read}
 use Rattle.bg_terms.specs.Values.{Reached, entered, value}
 use Rattle.bg_terms.proofs.Controls.{controls_shapes}
 use Rattle.bg_terms.proofs.InTurn.{IsRead-now, read_none, read_control, read_definition, read_fits, AreOfShapes-more}
-use Rattle.bg_terms.proofs.Numbered.{bound, ok_same, tested, untested}
+use Rattle.bg_terms.proofs.Numbered.{bound, tested, untested}
 use Rattle.bg_terms.proofs.ShapesFit.{entered_fits}
+use Rattle.bg_values.proofs.Bindings.{ok_same}
 use Rattle.bg_values.specs.declared.refusal.Refusal.{Refusal}
 use Rattle.bg_values.specs.Names.{Entry, number_of}
 use Rattle.bg_values.specs.Outcome.{◌>>=◌}
@@ -36,11 +39,13 @@ use Rattle.bg_values.specs.Parameters.{parameter_values, name_token}
 use Rattle.bg_values.specs.Reading.{number_token, number_at}
 use Rattle.bg_values.specs.Scopes.{ScopeParts, spelling}
 
+-- the empty list of controls is a signature
+signature_none : IsSignature []
+unfolding IsDistinct
+signature_none = record { few = omega arith; arities = All-from_members (λ (control : Control). control.arity ≤ 16) [] (λ control m. elim m [ ]); labels_differ = tt }
+
 pub nothing_sound : IsSound nothing
 nothing_sound = record { read = read_none; signature = signature_none; of_shapes = λ control m. elim m [ ] }
-  where
-    signature_none : IsSignature []
-    signature_none = record { few = omega arith; arities = tt; labels_differ = tt }
 
 -- ---- what an Ok says of a name and of an arity
 
@@ -123,7 +128,7 @@ pub control_sound : (text : ScopeParts) (kind : Kind) (tree : SynControl) (befor
 control_sound text kind tree before after sound is =
     let a = bound (new_word text before.controls tree.part1) _ after is in
     let b = bound (word_at (visible_with text [] before) tree.part1) _ after a.goes_on in
-    let c = bound (formals_behind text [] (formal_tokens tree.part2)) _ after b.goes_on in
+    let c = bound (formals_read text tree.part2) _ after b.goes_on in
     let d = bound (arity_at text (number_token tree.part4)) _ after c.goes_on in
     let new = is_new text before.controls tree.part1 a.found a.is in
     shape_sound before sound a.found new.new tree.part1 (length c.found) (record { word = b.found; arity = d.found; kind = kind })
@@ -168,7 +173,7 @@ pub bigraph_sound : (text : ScopeParts) (tree : SynBigraph) (before after : Defi
     → with_bigraph text tree before ≡ Ok after → IsSound after
 bigraph_sound text tree before after sound is =
     let a = bound (new_word text before.bigraphs tree.part1) _ after is in
-    let b = bound (formals_behind text [] (formal_tokens tree.part2)) _ after a.goes_on in
+    let b = bound (formals_read text tree.part2) _ after a.goes_on in
     let c = bound ((e_read tree.part4).1 (visible_with text b.found before)) _ after b.goes_on in
     expression_sound before sound a.found (length b.found) c.found after (IsRead-now tree.part4 (visible_with text b.found before) c.found c.is) c.goes_on
 

@@ -1,5 +1,5 @@
 -- What each statement defines, where others stand before it, or its first refusal.
-use Rattle.std.specs.Prelude.{ℕ, zero, suc, nat_lt, is_some, nat_abs, if◌then◌else◌, List, [], ◌∷◌, ◌++◌, map, length, Result, Ok}
+use Rattle.std.specs.Prelude.{ℕ, zero, suc, nat_lt, is_some, nat_abs, if◌then◌else◌, List, [], ◌∷◌, ◌++◌, length, Result, Ok}
 use Rattle.bg_base.specs.declared.signature.Kind.{Kind}
 use Rattle.bg_machine.specs.Calls.{evaluated}
 use Rattle.bg_statements.specs.Defined.{Defined, scope_with, visible_with}
@@ -30,19 +30,23 @@ abbrev pub new_word : {T : Type 0} → ScopeParts → List (Entry T) → ℕ →
 new_word text entries token =
     if is_some (number_of (spelling text token) entries) then refused DuplicateName token else Ok (spelling text token)
 
--- the tokens of the formals
-abbrev pub formal_tokens : SynFormals → List ℕ
-formal_tokens (formals_ways.Way1 bracket first more end) = first ∷ map (λ (item : SynMoreLowItem). item.part2) more.items
-formal_tokens formals_ways.Way2 = []
-
 -- the formals with one more, which does not repeat
 abbrev pub with_formal : ScopeParts → List (Entry (Unit {0})) → ℕ → Result (List (Entry (Unit {0}))) Refusal
 with_formal text formals token = new_word text formals token >>= λ word. Ok (formals ++ (word, tt) ∷ [])
 
--- formals behind others
-abbrev pub formals_behind : ScopeParts → List (Entry (Unit {0})) → List ℕ → Result (List (Entry (Unit {0}))) Refusal
-formals_behind text formals [] = Ok formals
-formals_behind text formals (token ∷ tokens) = with_formal text formals token >>= λ longer. formals_behind text longer tokens
+-- the formals with those of the items
+abbrev pub with_formals : ScopeParts → List (Entry (Unit {0})) → List SynMoreLowItem → Result (List (Entry (Unit {0}))) Refusal
+with_formals text formals [] = Ok formals
+with_formals text formals (item ∷ items) = with_formal text formals item.part2 >>= λ longer. with_formals text longer items
+
+-- the first formal and those of the items
+abbrev pub listed_formals : ScopeParts → ℕ → List SynMoreLowItem → Result (List (Entry (Unit {0}))) Refusal
+listed_formals text first items = with_formal text [] first >>= λ formals. with_formals text formals items
+
+-- the formals of a statement
+abbrev pub formals_read : ScopeParts → SynFormals → Result (List (Entry (Unit {0}))) Refusal
+formals_read text (formals_ways.Way1 bracket first more end) = listed_formals text first more.items
+formals_read text formals_ways.Way2 = Ok []
 
 -- ---- `ctrl K(n) = 2;`
 
@@ -65,7 +69,7 @@ abbrev pub with_control : ScopeParts → Kind → SynControl → Defined → Res
 with_control text kind tree d =
     new_word text d.controls tree.part1 >>= λ word.
     word_at (visible_with text [] d) tree.part1 >>= λ name.
-    formals_behind text [] (formal_tokens tree.part2) >>= λ formals.
+    formals_read text tree.part2 >>= λ formals.
     arity_at text (number_token tree.part4) >>= λ arity.
     with_shape tree.part1 word (length formals) (record { word = name; arity = arity; kind = kind }) d
 
@@ -86,7 +90,7 @@ with_expression word formals e d =
 abbrev pub with_bigraph : ScopeParts → SynBigraph → Defined → Result Defined Refusal
 with_bigraph text tree d =
     new_word text d.bigraphs tree.part1 >>= λ word.
-    formals_behind text [] (formal_tokens tree.part2) >>= λ formals.
+    formals_read text tree.part2 >>= λ formals.
     (e_read tree.part4).1 (visible_with text formals d) >>= λ e.
     with_expression word (length formals) e d
 

@@ -1,7 +1,5 @@
 //! The names that statements define.
-ghost use Rattle.std.specs.Prelude.{◌∷◌, [], map};
 ghost use Rattle.bg_statements.specs.Statements as definition;
-ghost use Rattle.bg_syntax.specs.declared.tree.names.SynMoreLowItem.{SynMoreLowItem as MoreItem};
 ghost use Rattle.bg_values.specs.Outcome.{Gives, Goes};
 ghost use Rattle.bg_values.specs.Scopes.{spelling};
 
@@ -29,41 +27,39 @@ pub(crate) fn formals_of(
     text: &Scope,
     tree: &SynFormals,
 ) -> Result<NameTable<()>, Stop>
-    ensures { Gives result (definition.formals_behind text.now [] (definition.formal_tokens tree.now)) }
+    ensures { Gives result (definition.formals_read text.now tree.now) }
 {
-    let mut formals = NameTable::new(alloc);
     match tree {
-        SynFormals::Way1(_, first, more, _) => {
-            add_formals(alloc, text, *first, more.as_slice(), &mut formals)?;
-        }
-        SynFormals::Way2 => {}
+        SynFormals::Way1(_, first, more, _) => listed_formals(alloc, text, *first, more.as_slice()),
+        SynFormals::Way2 => Ok(NameTable::new(alloc)),
     }
-    Ok(formals)
 }
 
-/// Adds the first formal and those behind it.
-fn add_formals(
+/// The first formal and those behind it.
+fn listed_formals(
     alloc: Global,
     text: &Scope,
     first: u32,
     more: &[SynMoreLowItem],
-    formals: &mut NameTable<()>,
-) -> Result<(), Stop>
-    ensures { Goes result formals.new (definition.formals_behind text.now formals.old (first ∷ map (λ (item : MoreItem). item.part2) more.now)) }
+) -> Result<NameTable<()>, Stop>
+    ensures { Gives result (definition.listed_formals text.now first more.now) }
 {
-    add_formal(alloc, text, first, formals)?;
-    add_more(alloc, text, more, formals)
+    let mut formals = NameTable::new(alloc);
+    add_formal(alloc, text, first, &mut formals)?;
+    add_formals(alloc, text, more, &mut formals)?;
+    Ok(formals)
 }
 
-fn add_more(
+/// Adds the formals of the items.
+fn add_formals(
     alloc: Global,
     text: &Scope,
-    more: &[SynMoreLowItem],
+    items: &[SynMoreLowItem],
     formals: &mut NameTable<()>,
 ) -> Result<(), Stop>
-    ensures { Goes result formals.new (definition.formals_behind text.now formals.old (map (λ (item : MoreItem). item.part2) more.now)) }
+    ensures { Goes result formals.new (definition.with_formals text.now formals.old items.now) }
 {
-    for item in more {
+    for item in items {
         add_formal(alloc, text, item.part2, formals)?;
     }
     Ok(())
