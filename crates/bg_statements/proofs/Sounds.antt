@@ -8,10 +8,9 @@ use Rattle.bg_base.specs.declared.labels.Value.{Value}
 use Rattle.bg_base.specs.declared.signature.Control.{Control}
 use Rattle.bg_base.specs.declared.signature.Kind.{Kind}
 use Rattle.bg_base.specs.Signatures.{IsSignature}
+use Rattle.bg_base.proofs.SignatureLaws.{no_controls}
 use Rattle.bg_lists.specs.Lists.{Mem, here}
 use Rattle.bg_lists.proofs.Members.{Mem-append_right}
-use Rattle.bg_lists.proofs.Words.{All-from_members}
-use Rattle.std.specs.List.{IsDistinct}
 use Rattle.bg_machine.specs.Calls.{evaluated}
 use Rattle.bg_statements.specs.Defined.{Defined, visible_with}
 use Rattle.bg_statements.specs.Sound.{IsSound, nothing}
@@ -39,13 +38,8 @@ use Rattle.bg_values.specs.Parameters.{parameter_values, name_token}
 use Rattle.bg_values.specs.Reading.{number_token, number_at}
 use Rattle.bg_values.specs.Scopes.{ScopeParts, spelling}
 
--- the empty list of controls is a signature
-signature_none : IsSignature []
-unfolding IsDistinct
-signature_none = record { few = omega arith; arities = All-from_members (λ (control : Control). control.arity ≤ 16) [] (λ control m. elim m [ ]); labels_differ = tt }
-
 pub nothing_sound : IsSound nothing
-nothing_sound = record { read = read_none; signature = signature_none; of_shapes = λ control m. elim m [ ] }
+nothing_sound = record { read = read_none; signature = no_controls; of_shapes = λ control m. elim m [ ] }
 
 -- ---- what an Ok says of a name and of an arity
 
