@@ -1,1 +1,2 @@
 mod Sounds
+mod Formals
