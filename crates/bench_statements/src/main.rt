@@ -65,11 +65,15 @@ fn define_after_fun(
 }
 
 fn refused(text: &Scope, refusal: &Refusal) -> Answer {
+    let length = text.bytes.len();
+    if length > MOST as usize {
+        return Answer::NoModel;
+    }
     let offset = match text.tokens.get(refusal.token as usize) {
         Some(token) => token.start,
-        None => text.bytes.len() as u32,
+        None => length as u32,
     };
-    if offset as usize > text.bytes.len() || text.bytes.len() > MOST as usize {
+    if offset as usize > length {
         return Answer::NoModel;
     }
     let place = place_of(text.bytes, offset);

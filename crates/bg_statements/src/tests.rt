@@ -56,7 +56,7 @@ fn define_after_fun(
 }
 
 /// What the statements of the text come to.
-fn outcome(alloc: Global, bytes: &[u8]) -> Outcome {
+fn come(alloc: Global, bytes: &[u8]) -> Outcome {
     if bytes.len() > 100_000_000 {
         return Outcome::NoModel;
     }
@@ -125,7 +125,7 @@ fn outcome_behind(alloc: Global, marked: &str) -> Option<(Outcome, u32)> {
         return None;
     }
     Some((
-        outcome(alloc, bytes.as_slice()),
+        come(alloc, bytes.as_slice()),
         mark.wrapping_add(BEFORE.len() as u32),
     ))
 }
@@ -335,7 +335,7 @@ fn arguments(alloc: Global, count: u32) -> Result<Writing, AllocError> {
 }
 
 fn outcome_of(alloc: Global, text: &Writing) -> Outcome {
-    outcome(alloc, text.bytes.as_slice())
+    come(alloc, text.bytes.as_slice())
 }
 
 fn is_too_large(found: Outcome, limit: LimitWord, place: u32) -> bool {
