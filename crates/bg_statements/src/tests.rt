@@ -13,7 +13,7 @@ enum Outcome {
     /// How many controls the signature has.
     Defined(u32),
     /// The cause, and the first byte of the token.
-    Refused(Cause, u32),
+    Refused(Cause, usize),
     NoMemory,
     /// The text is no model.
     NoModel,
@@ -89,20 +89,20 @@ fn come(alloc: Global, bytes: &[u8]) -> Outcome {
 }
 
 /// The first byte of the refused token.
-fn byte_of(text: &Scope, refusal: &Refusal) -> u32 {
+fn byte_of(text: &Scope, refusal: &Refusal) -> usize {
     match text.tokens.get(refusal.token as usize) {
-        Some(token) => token.start,
+        Some(token) => token.start as usize,
         None => 0,
     }
 }
 
 /// The text without the mark `$`, and where the mark stood.
-fn unmarked(alloc: Global, marked: &str) -> Option<(Vec<u8>, u32)> {
+fn unmarked(alloc: Global, marked: &str) -> Option<(Vec<u8>, usize)> {
     let mut bytes = Vec::new(alloc);
     let mut mark = 0;
     for byte in marked.as_bytes() {
         if *byte == b'$' {
-            mark = bytes.len() as u32;
+            mark = bytes.len();
         } else if bytes.push(*byte).is_err() {
             return None;
         }
@@ -115,7 +115,7 @@ const BEFORE: &str = "ctrl A = 0; ctrl B = 2; atomic ctrl D = 0; atomic ctrl E =
     fun big c(n) = K(n){x}; big d = D; ";
 
 /// The case behind the names that it uses.
-fn outcome_behind(alloc: Global, marked: &str) -> Option<(Outcome, u32)> {
+fn outcome_behind(alloc: Global, marked: &str) -> Option<(Outcome, usize)> {
     let (case, mark) = unmarked(alloc, marked)?;
     let mut bytes = Vec::new(alloc);
     if bytes.extend_from_slice(BEFORE.as_bytes()).is_err() {
@@ -126,7 +126,7 @@ fn outcome_behind(alloc: Global, marked: &str) -> Option<(Outcome, u32)> {
     }
     Some((
         come(alloc, bytes.as_slice()),
-        mark.wrapping_add(BEFORE.len() as u32),
+        mark.wrapping_add(BEFORE.len()),
     ))
 }
 
@@ -269,8 +269,8 @@ impl Writing {
         Ok(())
     }
 
-    fn len(&self) -> u32 {
-        self.bytes.len() as u32
+    fn len(&self) -> usize {
+        self.bytes.len()
     }
 }
 
@@ -338,7 +338,7 @@ fn outcome_of(alloc: Global, text: &Writing) -> Outcome {
     come(alloc, text.bytes.as_slice())
 }
 
-fn is_too_large(found: Outcome, limit: LimitWord, place: u32) -> bool {
+fn is_too_large(found: Outcome, limit: LimitWord, place: usize) -> bool {
     found == Outcome::Refused(Cause::TooLarge(limit), place)
 }
 
