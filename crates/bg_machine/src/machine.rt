@@ -328,13 +328,7 @@ impl Machine {
     }
 
     /// The second nested in the first, on top.
-    fn nest_these(
-        &mut self,
-        at: u32,
-        is_atom: bool,
-        f: Builder,
-        g: Builder,
-    ) -> Result<(), Stop>
+    fn nest_these(&mut self, at: u32, is_atom: bool, f: Builder, g: Builder) -> Result<(), Stop>
         ensures { Goes result self.new (definition.joined_onto at (values.nested at is_atom) self.old f g) }
     {
         if !f.follows(&g) {

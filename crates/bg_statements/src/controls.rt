@@ -41,7 +41,13 @@ impl Definitions {
         let formals = formals_of(alloc, text, &tree.part2)?;
         let arity = arity_at(text, &tree.part4)?;
         let shape = Shape { word, arity, kind };
-        self.add_shape(alloc, text.spelling(tree.part1), tree.part1, formals.len(), shape)
+        self.add_shape(
+            alloc,
+            text.spelling(tree.part1),
+            tree.part1,
+            formals.len(),
+            shape,
+        )
     }
 
     /// The identifier that a token spells.
@@ -84,7 +90,8 @@ impl Definitions {
             let args: Vec<Value> = Vec::new(alloc);
             enter(alloc, at, &shape, args, &mut self.signature)?;
         }
-        self.controls.add(alloc, word, ControlEntry { formals, shape })?;
+        self.controls
+            .add(alloc, word, ControlEntry { formals, shape })?;
         Ok(())
     }
 }

@@ -38,6 +38,6 @@ pub fn values_fit_the_signature_reached()
         → (e_read tree).1 (visible_with text formals d) ≡ Ok expression
         → (env : List Value) (depth nodes edges terms : ℕ) (big : Big) (after : Reached)
         → value depth (expand (shapes_of d.controls) (meanings_of (shapes_of d.controls) d.expressions) env expression)
-            (record { signature = d.signature; nodes = nodes; edges = edges; terms = terms }) ≡ Ok (big, after)
+        (record { signature = d.signature; nodes = nodes; edges = edges; terms = terms }) ≡ Ok (big, after)
         → FitsShapes (shapes_of d.controls) after.signature big }
 {}

@@ -111,7 +111,8 @@ fn unmarked(alloc: Global, marked: &str) -> Option<(Vec<u8>, usize)> {
 }
 
 /// What defines the names that the cases use.
-const BEFORE: &str = "ctrl A = 0; ctrl B = 2; atomic ctrl D = 0; atomic ctrl E = 1; fun ctrl K(n) = 1; \
+const BEFORE: &str =
+    "ctrl A = 0; ctrl B = 2; atomic ctrl D = 0; atomic ctrl E = 1; fun ctrl K(n) = 1; \
     fun big c(n) = K(n){x}; big d = D; ";
 
 /// The case behind the names that it uses.
@@ -158,7 +159,10 @@ const REFUSED: [(&str, Cause); 54] = [
     ("int n = {1/0, $k};", Cause::UnknownName),
     ("fun ctrl N(a, $a) = 17;", Cause::DuplicateName),
     // arithmetic
-    ("big s = c(9223372036854775807 $+ 1);", Cause::NumberOverflow),
+    (
+        "big s = c(9223372036854775807 $+ 1);",
+        Cause::NumberOverflow,
+    ),
     ("big s = c(1 $/ 0);", Cause::ZeroDivisor),
     ("big s = c(\"a\" + 1 $/ 0);", Cause::ZeroDivisor),
     ("big s = c($\"a\" / 0);", Cause::WrongKind),
@@ -190,11 +194,23 @@ const REFUSED: [(&str, Cause); 54] = [
     ("big s = id{x} $|| id{x};", Cause::InnerNamesMeet),
     ("big s = id{x} $| id{x};", Cause::InnerNamesMeet),
     ("big s = $id(65537);", Cause::TooLarge(LimitWord::Places)),
-    ("big s = $merge(9223372036854775807);", Cause::TooLarge(LimitWord::Places)),
-    ("big s = id(65536) $|| id;", Cause::TooLarge(LimitWord::Places)),
+    (
+        "big s = $merge(9223372036854775807);",
+        Cause::TooLarge(LimitWord::Places),
+    ),
+    (
+        "big s = id(65536) $|| id;",
+        Cause::TooLarge(LimitWord::Places),
+    ),
     // in the text of the definition that is referred to
-    ("fun big e(a) = c(1 $/ a); big s = e(1) | e(0);", Cause::ZeroDivisor),
-    ("fun big e(a) = D$.c(a); big s = e(1);", Cause::AtomicHasChild),
+    (
+        "fun big e(a) = c(1 $/ a); big s = e(1) | e(0);",
+        Cause::ZeroDivisor,
+    ),
+    (
+        "fun big e(a) = D$.c(a); big s = e(1);",
+        Cause::AtomicHasChild,
+    ),
 ];
 
 /// Statements that are accepted, and how many controls enter the signature by them.
@@ -219,8 +235,14 @@ const DEFINED: [(&str, u32); 22] = [
     ("big s = c(\"a\") | c(\"b\");", 2),
     ("fun big e(a) = c(1/0);", 0),
     ("int n = [9223372036854775806:2:9223372036854775807];", 0),
-    ("int n = [1:1:4096]; int k = {1, 1, 2}; string t = {\"a\", \"b\"};", 0),
-    ("big n = A; int n = 1; ctrl N = 0; fun big x(x) = c(x); big y = x(1);", 2),
+    (
+        "int n = [1:1:4096]; int k = {1, 1, 2}; string t = {\"a\", \"b\"};",
+        0,
+    ),
+    (
+        "big n = A; int n = 1; ctrl N = 0; fun big x(x) = c(x); big y = x(1);",
+        2,
+    ),
 ];
 
 #[test]
@@ -240,7 +262,10 @@ fn accepts_what_is_allowed(rt: HostRuntime) {
             return;
         };
         // A, B, D and E enter at their statements.
-        assert!(rt; found == Outcome::Defined(controls.wrapping_add(4)), "{case}");
+        assert!(rt;
+            found == Outcome::Defined(controls.wrapping_add(4)),
+            "{case}"
+        );
     }
 }
 
