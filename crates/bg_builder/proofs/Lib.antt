@@ -3,3 +3,4 @@ pub mod Behind
 pub mod Faults
 pub mod InPlace
 pub mod Trees
+pub mod Turned

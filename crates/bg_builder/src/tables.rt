@@ -1,6 +1,6 @@
 //! Inner and outer names in search trees, and as rows.
 ghost use Rattle.std.specs.Prelude as prelude;
-ghost use Rattle.std.specs.Prelude.{◌≡◌, ◌↔◌, [], ◌++◌, filter, not, is_some, All, IsNone, IsTrue, IfOk};
+ghost use Rattle.std.specs.Prelude.{◌≡◌, ◌≤◌, ◌↔◌, [], ◌++◌, length, drop, take, filter, not, is_some, All, IsNone, IsTrue, IfOk};
 ghost use Rattle.std.specs.BTreeMap as map;
 ghost use Rattle.std.specs.BTreeSet as set;
 ghost use Rattle.std.specs.Cmp.Lexicographic.{slice_cmp};
@@ -151,12 +151,42 @@ fn no_name_in(first: &BTreeSet<Name>, second: &BTreeSet<Name>) -> bool
     second.iter().all(|name| !first.contains(name))
 }
 
+/// The one list after the other, in the memory of the longer one.
+pub(crate) fn joined<T: Drop>(first: Vec<T>, second: Vec<T>) -> Mem<Vec<T>>
+    ensures { IfOk result (λ whole. whole.items ≡ first.items ++ second.items) }
+{
+    if first.len() < second.len() {
+        put_in_front(first, second)
+    } else {
+        put_behind(first, second)
+    }
+}
+
 /// The one list after the other. Moves the items of the second.
-pub(crate) fn joined<T: Drop>(mut first: Vec<T>, mut second: Vec<T>) -> Mem<Vec<T>>
+fn put_behind<T: Drop>(mut first: Vec<T>, mut second: Vec<T>) -> Mem<Vec<T>>
     ensures { IfOk result (λ whole. whole.items ≡ first.items ++ second.items) }
 {
     first.append(&mut second)?;
     Ok(first)
+}
+
+/// The one list after the other. Moves the items of the first, and shifts those of the second.
+#[tactic(auto, using(crate::proofs::Turned::turned_back))]
+fn put_in_front<T: Drop>(mut first: Vec<T>, mut second: Vec<T>) -> Mem<Vec<T>>
+    ensures { IfOk result (λ whole. whole.items ≡ first.items ++ second.items) }
+{
+    let count = second.len();
+    second.append(&mut first)?;
+    Ok(turned(second, count))
+}
+
+/// The items from that place on, and then those before it.
+fn turned<T: Drop>(mut items: Vec<T>, place: usize) -> Vec<T>
+    requires { place ≤ length items.items }
+    ensures { result.items ≡ drop place items.items ++ take place items.items }
+{
+    items.as_mut_slice().rotate_left(place);
+    items
 }
 
 /// Whether the names are the inner names.

@@ -221,3 +221,57 @@ fn refuses_at_the_first_place(rt: HostRuntime) {
         );
     }
 }
+
+/// The edges of the whole bigraph of the text's first statement, which refers to none.
+fn whole_edges(alloc: Global, tables: &Tables, text: &str) -> Option<(u32, u32)>
+    requires small { AreSmall tables.now.controls }
+{
+    let Ok(code) = read(alloc, tables, text) else {
+        return None;
+    };
+    let come = evaluate(
+        alloc,
+        &tables.controls,
+        &[],
+        &[],
+        code.as_slice(),
+        Signature::new(alloc),
+    );
+    let Ok((big, _)) = come else {
+        return None;
+    };
+    let Ok(made) = whole(alloc, &big) else {
+        return None;
+    };
+    Some((made.edges.len(), last_edge(&made)))
+}
+
+/// The edge of the last port of the first node, 9 for none.
+fn last_edge(big: &Big) -> u32 {
+    match big.nodes.first() {
+        Some(row) => match row.links.as_slice().last() {
+            Some(Link::Edge(edge)) => *edge,
+            Some(Link::Outer(_)) => 9,
+            None => 9,
+        },
+        None => 9,
+    }
+}
+
+#[test]
+fn drops_idle_edges_at_the_end(rt: HostRuntime) {
+    let alloc = rt.alloc();
+    let Ok(tables) = tables_here(alloc) else {
+        return;
+    };
+    for (text, edges, last) in [
+        ("big s = /x /y /z (B{x,z} | {y});", 2, 1),
+        ("big s = /x /y B{x,y};", 2, 1),
+        ("big s = /x {x} | B{x,y};", 0, 9),
+    ] {
+        assert!(rt;
+            whole_edges(alloc, &tables, text) == Some((edges, last)),
+            "{text}"
+        );
+    }
+}
