@@ -387,6 +387,20 @@ fn values_have_limits(rt: HostRuntime) {
 }
 
 #[test]
+fn terms_have_a_limit(rt: HostRuntime) {
+    let alloc = rt.alloc();
+    let Ok(most) = doublings(alloc, "big p00000 = 1;\n", " |", 18) else {
+        return;
+    };
+    assert!(rt; outcome_of(alloc, &most) == Outcome::Defined(0));
+    let Ok(more) = doublings(alloc, "big p00000 = 1;\n", " |", 19) else {
+        return;
+    };
+    // The term that is one too many is a `1` in the text of the first definition.
+    assert!(rt; is_too_large(outcome_of(alloc, &more), LimitWord::Terms, 13));
+}
+
+#[test]
 fn references_have_limits(rt: HostRuntime) {
     let alloc = rt.alloc();
     let Ok(deepest) = references(alloc, 1023) else {
