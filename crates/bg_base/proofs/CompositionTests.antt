@@ -17,7 +17,7 @@ use Rattle.bg_base.proofs.NameLaws.{same_name_from_test, test_same_name}
 both : (a b : Bool) → a ≡ true → b ≡ true → (a && b) ≡ true
 both a b e f = rw (e, f) refl
 
-same_names : (xs ys : List Name) → pointwise (λ (x y : Name). is_eq (name_cmp x y)) xs ys ≡ true → xs ≡ ys
+pub same_names : (xs ys : List Name) → pointwise (λ (x y : Name). is_eq (name_cmp x y)) xs ys ≡ true → xs ≡ ys
 same_names [] [] e = refl
 same_names [] (y ∷ ys) e = absurd (false≢true e)
 same_names (x ∷ xs) [] e = absurd (false≢true e)
@@ -25,7 +25,7 @@ same_names (x ∷ xs) (y ∷ ys) e =
     let parts = and_parts (is_eq (name_cmp x y)) (pointwise (λ (v w : Name). is_eq (name_cmp v w)) xs ys) e in
     ap₂ (λ v vs. v ∷ vs) (same_name_from_test x y parts.0) (same_names xs ys parts.1)
 
-names_same : (xs ys : List Name) → xs ≡ ys → pointwise (λ (x y : Name). is_eq (name_cmp x y)) xs ys ≡ true
+pub names_same : (xs ys : List Name) → xs ≡ ys → pointwise (λ (x y : Name). is_eq (name_cmp x y)) xs ys ≡ true
 names_same xs ys e =
     subst (λ zs. pointwise (λ (x y : Name). is_eq (name_cmp x y)) xs zs ≡ true) e (names_itself xs)
   where

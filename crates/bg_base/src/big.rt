@@ -1,6 +1,6 @@
 //! A concrete bigraph, row by row.
 use crate::{Link, Name, Place, PortLinks};
-use bg_lists::{Duplicate, Mem, Rows};
+use bg_lists::{Duplicate, Mem, Numbered, Rows};
 use std::alloc::Global;
 
 /// A node: its number, its control by number in the signature, where it lies, and the links of its ports in order.
@@ -29,6 +29,14 @@ pub struct Big {
     pub inner: Rows<InnerRow>,
     pub regions: u32,
     pub outer: Rows<Name>,
+}
+
+impl Numbered for NodeRow {
+    ghost number = { λ row. row.id };
+
+    fn number(&self) -> u32 {
+        self.id
+    }
 }
 
 impl Duplicate for NodeRow {
