@@ -1,5 +1,5 @@
 -- One region in place of all, a name closed, idle edges dropped: each of a valid bigraph is valid.
-use Rattle.std.proofs.Common.{◌≡◌, ℕ, true, false, Bool, ◌||◌, not, List, map, filter, is_eq, nat_cmp, refl, sym, subst, ◌∙◌, arith, eq-eqb, is_some, ap, ◌∷◌}
+use Rattle.std.proofs.Common.{◌≡◌, ℕ, true, false, Bool, ◌||◌, not, List, map, filter, All, IsTrue, is_eq, nat_cmp, refl, sym, subst, ◌∙◌, arith, eq-eqb, is_some, ap, ◌∷◌}
 use Rattle.std.specs.Ordering.{eq_by_cmp}
 use Rattle.std.specs.List.{list_any, IsDistinct}
 use Rattle.std.specs.List.Sorted.{IsStrictlySortedBy}
@@ -8,10 +8,10 @@ use Rattle.std.proofs.lemmas.Cmp.{nat_cmp_total}
 use Rattle.std.proofs.lemmas.List.{map-id}
 use Rattle.bg_lists.specs.Lists.{Mem, put, sort}
 use Rattle.bg_lists.specs.Orders.{before}
-use Rattle.bg_lists.proofs.Members.{Mem-map, Mem-unmap, Mem-filter}
+use Rattle.bg_lists.proofs.Members.{Mem-map, Mem-unmap, Mem-filter, Mem-unfilter}
 use Rattle.bg_lists.proofs.Ascents.{Ascending-from_sorted, sorted_from_Ascending, Ascending-map, Ascending-filter, all_of_members}
 use Rattle.bg_lists.proofs.Sorting.{Mem-put_here, Mem-put_there, Ascending-put, sort-ascending, IsDistinct-from_Ascending}
-use Rattle.bg_lists.proofs.Words.{list_any-from_member}
+use Rattle.bg_lists.proofs.Words.{All-from_members, list_any-from_member}
 use Rattle.bg_base.specs.declared.names.Name.{Name}
 use Rattle.bg_base.specs.declared.names.Link.{Link}
 use Rattle.bg_base.specs.declared.names.Link.TheVariants.{Edge, Outer}
@@ -177,6 +177,12 @@ module _ (f : Big) (name : Name) (edge : ℕ) where
         (site_fits closed_up closed_part signature fits (λ region below. refl))
 
 -- ---- idle edges dropped
+
+pub lean_used : (big : Big) → All (λ edge. IsTrue (has_point (lean big) (Edge edge))) (lean big).edges
+unfolding lean
+lean_used big =
+    All-from_members (λ edge. IsTrue (has_point big (Edge edge))) (filter (λ edge. has_point big (Edge edge)) big.edges)
+    (λ edge m. (Mem-unfilter (λ edge. has_point big (Edge edge)) big.edges m).1)
 
 module _ (big : Big) where
   pub port_is_point : (row : NodeRow) (link : Link) → Mem row big.nodes → Mem link row.links → has_point big link ≡ true

@@ -1,7 +1,7 @@
 //! The algebra of concrete bigraphs: how large bigraphs are made of small ones (Milner, chapters 2 and 3).
 //!
 //! - [`compose`]: composition, which puts one bigraph into the sites of another and joins their links;
-//!   [`compose_by_rows`] is the same by a plainer program.
+//!   [`compose_by_rows`] is the same by a plainer program. [`faces_agree`] and [`supports_apart`] are its conditions.
 //! - [`tensor`], [`parallel`], [`merge`]: products. [`nest`]: nesting. [`close`]: a name made an edge.
 //! - [`lean`]: idle edges dropped. [`rename`]: nodes and edges numbered anew.
 //! - [`ion`], [`atom`], [`identity`], [`idle`], [`merger`], [`barren`], [`empty`]: elementary bigraphs.
@@ -26,6 +26,7 @@ mod renumbering;
 pub use by_rows::compose_by_rows;
 pub use closing::close;
 pub use composition::compose;
+pub use conditions::{faces_agree, supports_apart};
 pub use elementary::{atom, barren, empty, identity, idle, ion, merger};
 pub use fault::AlgebraFault;
 pub use idle_edges::lean;
