@@ -1,12 +1,11 @@
 -- What a reaction keeps: regions, outer names, and the numbers that were given; and no edge of its result is idle.
-use Rattle.std.proofs.Common.{◌≡◌, ℕ, ◌+◌, ◌≤◌, List, [], filter, length, All, IsTrue, refl, sym, ap, subst, ◌∙◌, arith}
-use Rattle.bg_lists.proofs.Members.{Mem-unfilter}
-use Rattle.bg_lists.proofs.Words.{All-from_members}
+use Rattle.std.proofs.Common.{◌≡◌, ℕ, ◌+◌, ◌≤◌, List, [], length, All, IsTrue, refl, sym, ap, subst, ◌∙◌, arith}
 use Rattle.bg_base.specs.declared.names.Link.TheVariants.{Edge}
 use Rattle.bg_base.specs.declared.big.Big.{Big}
 use Rattle.bg_base.specs.Composition.{compose}
 use Rattle.bg_base.specs.Products.{lean, has_point}
 use Rattle.bg_base.proofs.Composed.{compose_regions, compose_outer}
+use Rattle.bg_algebra.proofs.Changes.{lean_used}
 use Rattle.bg_rules.specs.Instantiation.{late_nodes}
 use Rattle.bg_rules.specs.Reaction.{HostParts, Reacts}
 use Rattle.bg_rules.specs.Recomposition.{next_frame, next_instance}
@@ -19,12 +18,6 @@ lean_regions big = refl
 lean_outer : (big : Big) → (lean big).outer ≡ big.outer
 unfolding lean
 lean_outer big = refl
-
-lean_used : (big : Big) → All (λ edge. IsTrue (has_point (lean big) (Edge edge))) (lean big).edges
-unfolding lean
-lean_used big =
-    All-from_members (λ edge. IsTrue (has_point big (Edge edge))) (filter (λ edge. has_point big (Edge edge)) big.edges)
-    (λ edge m. (Mem-unfilter (λ edge. has_point big (Edge edge)) big.edges m).1)
 
 module _ (host : HostParts) (redex reactum : Big) (entries nodes : List ℕ) (after : HostParts) (r : Reacts host redex reactum entries nodes after) where
   abbrev inside : Big

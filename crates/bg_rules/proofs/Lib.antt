@@ -20,6 +20,7 @@ pub mod Copies
 pub mod Instances
 pub mod Frames
 pub mod Reactions
+pub mod SideTests
 pub mod Signed
 pub mod Grounded
 pub mod Kept

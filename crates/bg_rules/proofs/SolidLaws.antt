@@ -85,7 +85,7 @@ test_from_some : (count : ℕ) → 0 < count → not (count == 0) ≡ true
 test_from_some count below =
     not_from_false (count == 0) (false_from_ne_true (count == 0) (λ none. let e : count ≡ 0 = eqb-true count 0 none in absurd (omega arith)))
 
-nil_from_test : {X : Type 0} (xs : List X) → (length xs == 0) ≡ true → xs ≡ []
+pub nil_from_test : {X : Type 0} (xs : List X) → (length xs == 0) ≡ true → xs ≡ []
 nil_from_test [] e = refl
 nil_from_test (x ∷ xs) e = let none : suc (length xs) ≡ 0 = eqb-true (suc (length xs)) 0 e in absurd (omega arith)
 

@@ -1,5 +1,10 @@
 -- Reaction: the redex replaced by the reactum, its parameter by an instance (Milner, chapter 8).
-use Rattle.std.specs.Prelude.{◌≡◌, ℕ, ◌+◌, ◌<◌, List, [], length, All}
+use Rattle.std.specs.Prelude.{◌≡◌, ℕ, ◌+◌, ◌<◌, nat_lt, Bool, ◌&&◌, ◌==◌, List, [], length, All}
+use Rattle.std.specs.List.{list_all}
+use Rattle.std.specs.Cmp.Lexicographic.{pointwise}
+use Rattle.std.specs.Ordering.{is_eq}
+use Rattle.bg_base.specs.declared.names.Name.{Name}
+use Rattle.bg_base.specs.Order.{name_cmp}
 use Rattle.bg_base.specs.declared.big.NodeRow.{NodeRow}
 use Rattle.bg_base.specs.declared.big.Big.{Big}
 use Rattle.bg_base.specs.Bigraph.{IsValid, IsGround}
@@ -32,6 +37,16 @@ pub record SidesAgree (redex reactum : Big) : Type 0 where
 pub record MapFits (redex reactum : Big) (entries : List ℕ) : Type 0 where
   pub as_many : length entries ≡ length reactum.sites
   pub entries_there : All (λ entry. entry < length redex.sites) entries
+
+-- the tests of these two facts
+abbrev pub sides_agree : Big → Big → Bool
+sides_agree redex reactum =
+    (redex.regions == reactum.regions)
+    && (pointwise (λ (x y : Name). is_eq (name_cmp x y)) redex.outer reactum.outer && (length reactum.inner == 0))
+
+abbrev pub map_fits : Big → Big → List ℕ → Bool
+map_fits redex reactum entries =
+    (length entries == length reactum.sites) && list_all (λ entry. nat_lt entry (length redex.sites)) entries
 
 -- the redex is a pattern, the reactum valid; they agree, and the map fits
 pub record AreSides (redex reactum : Big) (entries : List ℕ) : Type 0 where

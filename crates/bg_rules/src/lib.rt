@@ -1,7 +1,8 @@
 //! Patterns, where they occur in a host, and how a host reacts there.
 //!
 //! - [`first_unsolid`]: the clause of a solid bigraph that fails. [`Pattern`]: what occurs in a host.
-//! - [`Rule`] and [`Condition`]: what a reaction replaces, and where it may.
+//! - [`Rule`] and [`Condition`]: what a reaction replaces, and where it may. [`sides_agree`] and [`map_fits`]: what a rule asks
+//!   of its sides.
 //! - [`Host`]: a bigraph that rules change. [`System`] and [`Predicate`]: what a model describes.
 //! - [`RuleFault`], [`ReactFault`], [`ListFault`]: why a call gives no result.
 //! - [`laws`]: occurrences are decompositions. [`reaction_laws`]: a reaction at an occurrence has one result.
@@ -23,7 +24,7 @@ pub use fault::{ListFault, ReactFault, RuleFault};
 pub use host::Host;
 pub use pattern::{NotSolid, Pattern};
 pub use predicate::Predicate;
-pub use rule::Rule;
+pub use rule::{Rule, map_fits, sides_agree};
 pub use solid::first_unsolid;
 pub use system::System;
 

@@ -2,6 +2,7 @@
 ghost use Rattle.std.specs.Prelude.{◌≡◌, ◌↔◌, ◌<◌, IfOk, IsErrOf, IsTrue};
 ghost use Rattle.std.specs.List.{All};
 ghost use Rattle.bg_base.specs.Bigraph.{IsValid};
+ghost use Rattle.bg_rules.specs.Reaction as reaction;
 ghost use Rattle.bg_rules.specs.Reaction.{SidesAgree, MapFits};
 ghost use Rattle.bg_rules.specs.Rules.{IsNumberedFromZero, IsRule};
 
@@ -136,8 +137,17 @@ impl Rule {
     }
 }
 
-/// Whether the reactum has the regions and the outer names of the redex, and no inner name.
-fn sides_agree(redex: &Big, reactum: &Big) -> bool
+/// Whether the reactum has the regions and the outer names of the redex, and no inner name. Takes no memory, and time in
+/// proportion to the names.
+pub fn sides_agree(redex: &Big, reactum: &Big) -> bool
+    ensures test { result ≡ reaction.sides_agree redex.now reactum.now }
+    ensures agree { IsTrue result ↔ SidesAgree redex.now reactum.now }
+{
+    let agree = are_alike(redex, reactum);
+    agree
+}
+
+fn are_alike(redex: &Big, reactum: &Big) -> bool
     ensures { IsTrue result ↔ SidesAgree redex.now reactum.now }
 {
     redex.regions == reactum.regions
@@ -166,8 +176,17 @@ fn is_name(other: &Name, name: &Name) -> bool
     *other == *name
 }
 
-/// Whether the map has an entry for each site of the reactum, and each entry is a site of the redex.
-fn map_fits(redex: &Big, reactum: &Big, map: &Map) -> bool
+/// Whether the map has an entry for each site of the reactum, and each entry is a site of the redex. Takes no memory, and
+/// time in proportion to the map.
+pub fn map_fits(redex: &Big, reactum: &Big, map: &Map) -> bool
+    ensures test { result ≡ reaction.map_fits redex.now reactum.now map.now }
+    ensures fits { IsTrue result ↔ MapFits redex.now reactum.now map.now }
+{
+    let fits = leads_to_sites(redex, reactum, map);
+    fits
+}
+
+fn leads_to_sites(redex: &Big, reactum: &Big, map: &Map) -> bool
     ensures { IsTrue result ↔ MapFits redex.now reactum.now map.now }
 {
     map.len() == reactum.sites.len() && are_below(map, redex.sites.len())
