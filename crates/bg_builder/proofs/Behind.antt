@@ -81,10 +81,9 @@ place_beside_none (Region region) = ap Region (zero-add region)
 row_beside_none : (row : NodeRow) → row_beside 0 row ≡ row
 row_beside_none row = let place = place_beside_none row.parent in λ t. record row { parent = place t }
 
--- ---- two bigraphs, the numbers of the second behind those of the first
+-- ---- the sites and the inner names of F, taken alone
 
-module _ (f g : Big) (f_valid : IsValid f) (g_valid : IsValid g) (behind : follows f g ≡ true) where
-  -- the sites and the inner names of F, taken alone
+module _ (f : Big) where
   place_agrees : (place : Place) → place_at f.sites place ≡ place_through f place
   place_agrees (Node node) = refl
   place_agrees (Region region) = refl
@@ -102,6 +101,20 @@ module _ (f g : Big) (f_valid : IsValid f) (g_valid : IsValid g) (behind : follo
   inner_agrees : (row : InnerRow) → inner_by f.inner row ≡ inner_through f row
   inner_agrees row = let link = link_agrees row.link in λ t. record row { link = link t }
 
+  pub rows_agree : (rows : List NodeRow) → map (row_by f.inner) (map (row_at f.sites) rows) ≡ map (row_through f) rows
+  rows_agree rows =
+      map-map (row_at f.sites) (row_by f.inner) rows
+      ∙ map_agree (λ row. row_by f.inner (row_at f.sites row)) (row_through f) rows (λ row m. row_agrees row)
+
+  pub places_agree : (places : List Place) → map (place_at f.sites) places ≡ map (place_through f) places
+  places_agree places = map_agree (place_at f.sites) (place_through f) places (λ place m. place_agrees place)
+
+  pub inner_rows_agree : (rows : List InnerRow) → map (inner_by f.inner) rows ≡ map (inner_through f) rows
+  inner_rows_agree rows = map_agree (inner_by f.inner) (inner_through f) rows (λ row m. inner_agrees row)
+
+-- ---- two bigraphs, the numbers of the second behind those of the first
+
+module _ (f g : Big) (f_valid : IsValid f) (g_valid : IsValid g) (behind : follows f g ≡ true) where
   nodes_in_order : (change : NodeRow → NodeRow) → ((x y : NodeRow) → node_cmp x y ≡ Less → node_cmp (change x) (change y) ≡ Less)
       → ((row : NodeRow) → (change row).id ≡ row.id) → sort (before node_cmp) (f.nodes ++ map change g.nodes) ≡ f.nodes ++ map change g.nodes
   nodes_in_order change rises keeps =
@@ -140,11 +153,9 @@ module _ (f g : Big) (f_valid : IsValid f) (g_valid : IsValid g) (behind : follo
   pub compose_behind : compose f g ≡ put_under f g
   unfolding compose
   compose_behind =
-      let rows = map-map (row_at f.sites) (row_by f.inner) g.nodes
-      ∙ map_agree (λ row. row_by f.inner (row_at f.sites row)) (row_through f) g.nodes (λ row m. row_agrees row) in
-      let nodes = nodes_in_order (row_through f) (λ x y less. less) (λ row. refl) ∙ ap (λ rs. f.nodes ++ rs) (sym rows) in
-      let sites = map_agree (place_through f) (place_at f.sites) g.sites (λ place m. sym (place_agrees place)) in
-      let inner = map_agree (inner_through f) (inner_by f.inner) g.inner (λ row m. sym (inner_agrees row)) in
+      let nodes = nodes_in_order (row_through f) (λ x y less. less) (λ row. refl) ∙ ap (λ rs. f.nodes ++ rs) (sym (rows_agree f g.nodes)) in
+      let sites = sym (places_agree f g.sites) in
+      let inner = sym (inner_rows_agree f g.inner) in
       λ t. record (put_under f g) { nodes = nodes t; edges = edges_in_order t; sites = sites t; inner = inner t }
 
   -- ---- nesting: the frame is F, with the names of G beside it

@@ -121,7 +121,12 @@ fn put_under(alloc: Global, f: Parts, mut g: Parts) -> Mem<Parts>
 }
 
 /// Puts the rows into these sites, and ties their ports by these inner names.
-fn put_rows(alloc: Global, rows: &mut [NodeRow], sites: &[Place], inner: &[InnerRow]) -> Mem<()>
+pub(crate) fn put_rows(
+    alloc: Global,
+    rows: &mut [NodeRow],
+    sites: &[Place],
+    inner: &[InnerRow],
+) -> Mem<()>
     requires { IsStrictlySortedBy inner_cmp inner.now }
     ensures { OnOk result (rows.new ≡ map (inside.row_by inner.now) (map (inside.row_at sites.now) rows.old)) }
 {

@@ -3,12 +3,14 @@
 //! - [`Builder`]: the bigraph in the making. `of` begins with one, `finish` gives it as lists of rows.
 //! - `compose`, `tensor`, `parallel`, `merge`, `nest`, `close`: what `bg_algebra` gives, where the numbers of the right
 //!   operand follow those of the left one (`follows`), or the edges lie behind the one that closes (`lies_behind`).
+//! - [`compose`]: the composition of two bigraphs whose numbers lie in any order.
 #![tactic(auto)]
 
 mod appending;
 mod builder;
 mod closing;
 mod composing;
+mod composition;
 mod conditions;
 mod inside;
 mod numbering;
@@ -17,6 +19,7 @@ mod products;
 mod tables;
 
 pub use builder::Builder;
+pub use composition::compose;
 
 #[cfg(test)]
 mod tests;

@@ -339,6 +339,31 @@ fn agrees_with_the_algebra(rt: HostRuntime) {
     }
 }
 
+/// Whether the rows of two samples, with numbers from 100 and from `base` on, give the composition of bg_algebra.
+fn composes_alike(alloc: Global, upper: u32, lower: u32, base: u32) -> Result<bool, AlgebraFault> {
+    let g = sample(alloc, upper, 100)?;
+    let f = sample(alloc, lower, base)?;
+    let copied = compose(alloc, &g, &f);
+    let moved = crate::compose(alloc, g, f);
+    Ok(is_same_outcome(&copied, &moved))
+}
+
+#[test]
+fn composes_rows_of_any_numbers(rt: HostRuntime) {
+    let alloc = rt.alloc();
+    for base in [0, 100, 101, 105, 200] {
+        for upper in 0..SAMPLES {
+            for lower in 0..SAMPLES {
+                assert_eq!(rt;
+                    composes_alike(alloc, upper, lower, base),
+                    Ok(true),
+                    "{upper} {lower} {base}"
+                );
+            }
+        }
+    }
+}
+
 /// How many nodes, edges, sites, inner names, regions and outer names it has; the number of the refusal, if it is refused.
 fn counts_of(come: Result<Big, AlgebraFault>) -> [u32; 6] {
     match come {

@@ -7,7 +7,7 @@ ghost use Rattle.bg_top.specs.Compose.{composed, compose_answer, joined, told};
 ghost use Rattle.bg_top.specs.Failure.{Gives};
 
 use crate::failure::Failure;
-use crate::operands::read_operands;
+use crate::operands::{Operands, read_operands};
 use crate::refusal::Refusal;
 use crate::reply::{Reply, Status};
 use bg_base::Big;
@@ -35,22 +35,26 @@ fn composition(alloc: Global, input: &[u8]) -> Result<Vec<u8>, Failure>
     requires { length input.now < 2 ^ 32 - 1 }
     ensures { Gives (λ text. text.items) result (composed input.now) }
 {
-    let operands = read_operands(alloc, input)?;
-    let whole = join(alloc, &operands.upper, &operands.lower)?;
+    let Operands {
+        signature,
+        upper,
+        lower,
+    } = read_operands(alloc, input)?;
+    let whole = join(alloc, upper, lower)?;
     let mut text = Vec::new(alloc);
-    write_big(alloc, &operands.signature, &whole, &mut text)?;
+    write_big(alloc, &signature, &whole, &mut text)?;
     Ok(text)
 }
 
 /// The composition of G, the upper bigraph, and F, the lower one.
-fn join(alloc: Global, upper: &Big, lower: &Big) -> Result<Big, Failure>
-    requires upper_valid { IsValid upper.now }
-    requires lower_valid { IsValid lower.now }
-    ensures exact { Gives (λ whole. whole) result (joined upper.now lower.now) }
-    ensures fits { (signature : List Control) → IsValidUnder signature upper.now → IsValidUnder signature lower.now
+fn join(alloc: Global, upper: Big, lower: Big) -> Result<Big, Failure>
+    requires upper_valid { IsValid upper }
+    requires lower_valid { IsValid lower }
+    ensures exact { Gives (λ whole. whole) result (joined upper lower) }
+    ensures fits { (signature : List Control) → IsValidUnder signature upper → IsValidUnder signature lower
         → IfOk result (IsValidUnder signature) }
 {
-    Ok(bg_algebra::compose(alloc, upper, lower)?)
+    Ok(bg_builder::compose(alloc, upper, lower)?)
 }
 
 /// The answer to an input that is refused.
