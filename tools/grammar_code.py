@@ -275,27 +275,37 @@ def list_steps(s, name):
             f'{steps_name(s)} items = in_turn (opens symbols.{s} {len(WAYS[s]) - 1}) (map {item_name(s)} items)']
 
 
-def cycle_steps(first, uses, read):
+def cycle_folds(first, uses, results, layer, word, kind, equation):
+    """The layers of the types of a cycle, and the folds that they make; `equation` gives what stands behind a layer's case."""
     types = cycle_types(first)
     module = module_of(first)
-    results = ' '.join(['Steps'] * len(types))
-    layers = ' '.join(layer_name(t) for _, t, _ in types)
-    lines = ['', '-- the types of this cycle are read by folds; a layer has the steps of its parts in place of the parts']
+    layers = ' '.join(layer(t) for _, t, _ in types)
+    lines = []
+    for name, t, single in types:
+        uses.add(f'{module}.TheOpen', f'{name}-F')
+        lines += ['', f'-- {rule(t)}', f'abbrev pub {layer(t)} : {name}-F {results} → {kind(t)}']
+        for pattern, i, w, names in layer_cases(t, uses):
+            lines.append(f'{layer(t)} {pattern} {equation(t, i, w, names)}')
+    for name, t, single in types:
+        uses.add(type_module(t)[0], name)
+        uses.add(f'{module}.TheFolds', f'fold-{name}')
+        lines += ['', f'unfoldable pub {word(t)} : {name} → {kind(t)}', f'{word(t)} = fold-{name} {results} {layers}']
+    return lines
+
+
+def cycle_steps(first, uses, read):
+    types = cycle_types(first)
 
     def part(p, value, d):
         if p in CYCLE[first]:
             return f'in_turn (opens symbols.{p} {len(WAYS[p]) - 1}) {value}.items {d}' if is_list(p) else f'{value}.value {d}'
         return read(p, value, d)
 
-    for name, t, single in types:
-        uses.add(f'{module}.TheOpen', f'{name}-F')
-        lines += ['', f'-- {rule(t)}', f'abbrev pub {layer_name(t)} : {name}-F {results} → Steps']
-        for pattern, i, w, names in layer_cases(t, uses):
-            lines.append(f'{layer_name(t)} {pattern} d = {steps_term(t, i, w, names, part)}')
-    for name, t, single in types:
-        uses.add(type_module(t)[0], name)
-        uses.add(f'{module}.TheFolds', f'fold-{name}')
-        lines += ['', f'unfoldable pub {item_name(t)} : {name} → Steps', f'{item_name(t)} = fold-{name} {results} {layers}']
+    def equation(t, i, way, names):
+        return f'd = {steps_term(t, i, way, names, part)}'
+
+    lines = ['', '-- the types of this cycle are read by folds; a layer has the steps of its parts in place of the parts']
+    lines += cycle_folds(first, uses, ' '.join(['Steps'] * len(types)), layer_name, item_name, lambda t: 'Steps', equation)
     for name, t, single in types:
         if is_list(t):
             lines += list_steps(t, name)

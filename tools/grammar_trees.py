@@ -77,26 +77,17 @@ def cycle_results(first):
 
 
 def cycle_trees(first, uses, read):
-    types = cycle_types(first)
-    module = module_of(first)
-    layers = ' '.join(tree_layer(t) for _, t, _ in types)
-    lines = ['', '-- the types of this cycle are read by folds; a layer has the trees of its parts in place of the parts']
-
     def part(p, value):
         if p in CYCLE[first]:
             return f'nested symbols.{p} {len(WAYS[p]) - 1} {value}.items' if is_list(p) else f'{value}.value'
         return read(p, value)
 
-    for name, t, single in types:
-        uses.add(f'{module}.TheOpen', f'{name}-F')
-        lines += ['', f'-- {rule(t)}', f'abbrev pub {tree_layer(t)} : {name}-F {cycle_results(first)} → {growth(t)}']
-        for pattern, i, w, names in layer_cases(t, uses):
-            lines.append(f'{tree_layer(t)} {pattern} {arguments(t)} = {tree_term(t, i, w, names, part)}')
-    for name, t, single in types:
-        uses.add(type_module(t)[0], name)
-        uses.add(f'{module}.TheFolds', f'fold-{name}')
-        lines += ['', f'unfoldable pub {item_tree(t)} : {name} → {growth(t)}', f'{item_tree(t)} = fold-{name} {cycle_results(first)} {layers}']
-    for name, t, single in types:
+    def equation(t, i, way, names):
+        return f'{arguments(t)} = {tree_term(t, i, way, names, part)}'
+
+    lines = ['', '-- the types of this cycle are read by folds; a layer has the trees of its parts in place of the parts']
+    lines += cycle_folds(first, uses, cycle_results(first), tree_layer, item_tree, growth, equation)
+    for name, t, single in cycle_types(first):
         if is_list(t):
             lines += list_tree(t, name)
     return lines
