@@ -11,7 +11,8 @@ use Rattle.bg_terms.specs.declared.shape.ControlEntry.{ControlEntry}
 use Rattle.bg_terms.specs.declared.shape.Shape.{Shape}
 use Rattle.bg_terms.specs.Read.{shapes_of}
 use Rattle.bg_terms.specs.Terms.{Term}
-use Rattle.bg_terms.specs.Values.{Come, value}
+use Rattle.bg_terms.specs.Values.{Reached, Come, value}
+use Rattle.bg_machine.specs.declared.met.Met.{Met}
 use Rattle.bg_machine.specs.States.{State}
 use Rattle.bg_base.specs.declared.big.Big.{Big}
 
@@ -24,14 +25,22 @@ abbrev pub Enters : Result ℕ Stop → List Control → Result (ℕ × List Con
 Enters (Ok number) signature wanted = wanted ≡ Ok (number, signature)
 Enters (Err stop) signature wanted = Stops stop wanted
 
--- what a term comes to as a whole expression, where these controls were met so far
-abbrev pub evaluated : List Control → Term → Come
-evaluated signature t = value 0 t (record { signature = signature; nodes = 0; edges = 0; terms = 0 })
+-- a statement begins: these controls were met, and no term
+abbrev pub begun : List Control → Met
+begun signature = record { signature = signature; terms = 0 }
 
--- the bigraph and the signature reached
-abbrev pub valued : Come → Result (Big × List Control) Refusal
-valued come = come >>= λ v. Ok (v.0, v.1.signature)
+-- what a term comes to as a whole expression, where these controls and so many terms were met so far
+abbrev pub evaluated : Met → Term → Come
+evaluated met t = value 0 t (record { signature = met.signature; nodes = 0; edges = 0; terms = met.terms })
 
--- the bigraph on top, and the signature reached
-abbrev pub finished : State → Result (Big × List Control) Refusal
-finished s = there_or Unexpected 0 (first s.stack) >>= λ big. Ok (big, s.reached.signature)
+-- what was met, of what was reached
+abbrev pub met_of : Reached → Met
+met_of c = record { signature = c.signature; terms = c.terms }
+
+-- the bigraph, and what was met
+abbrev pub valued : Come → Result (Big × Met) Refusal
+valued come = come >>= λ v. Ok (v.0, met_of v.1)
+
+-- the bigraph on top, and what was met
+abbrev pub finished : State → Result (Big × Met) Refusal
+finished s = there_or Unexpected 0 (first s.stack) >>= λ big. Ok (big, met_of s.reached)

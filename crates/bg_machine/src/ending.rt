@@ -1,5 +1,7 @@
 //! The end of a whole expression.
-ghost use Rattle.std.specs.Prelude.{◌≡◌, IfOk, length, map};
+ghost use Rattle.std.specs.Prelude.{◌≡◌, IfOk, IsTrue, All, length, map};
+ghost use Rattle.bg_base.specs.declared.names.Link.TheVariants.{Edge};
+ghost use Rattle.bg_base.specs.Products.{has_point};
 ghost use Rattle.bg_base.specs.Bigraph.{IsValid};
 ghost use Rattle.bg_base.specs.Elementary.{counted};
 ghost use Rattle.bg_base.specs.Translation.{node_numbers};
@@ -16,9 +18,11 @@ pub fn whole(alloc: Global, big: &Big) -> Mem<Big>
     requires valid { IsValid big.now }
     ensures value { IfOk result (λ made. made ≡ definition.whole big.now) }
     ensures valid { IfOk result IsValid }
+    ensures edges_used { IfOk result (λ made. All (λ edge. IsTrue (has_point made (Edge edge))) made.edges) }
 {
     let lean = lean(alloc, big)?;
-    edges_counted(alloc, &lean)
+    let made = edges_counted(alloc, &lean)?;
+    Ok(made)
 }
 
 /// The bigraph with its edges numbered 0, 1, 2 and so on.
@@ -45,9 +49,9 @@ fn numbers_of(alloc: Global, rows: &[NodeRow]) -> Mem<Vec<u32>>
     Ok(numbers)
 }
 
-/// 0, 1, 2 and so on, so many.
+/// 0, 1, 2 and so on, so many. Costs time and memory in proportion to their number.
 #[tactic(auto, using(bg_algebra::proofs::Nested::counted_more))]
-fn numbers_below(alloc: Global, count: u32) -> Mem<Vec<u32>>
+pub fn numbers_below(alloc: Global, count: u32) -> Mem<Vec<u32>>
     ensures { IfOk result (λ numbers. numbers.items ≡ counted 0 count) }
 {
     let mut numbers = Vec::new(alloc);

@@ -2,6 +2,7 @@
 use crate::entering::enter;
 use crate::forms::{closed, idle_names, limited, single, wide_identity, wide_merger};
 use crate::held::Held;
+use crate::met::Met;
 use crate::operators::{nested, product_of};
 use bg_algebra::{barren, empty};
 use bg_base::{Big, Ident, Signature, Value};
@@ -55,35 +56,36 @@ impl Machine {
     ghost use Rattle.bg_values.specs.Stacks.{first, rest};
     ghost use Rattle.bg_values.specs.declared.refusal.Cause.TheVariants as causes;
 
-    /// The machine before a whole expression, where these controls were met. Takes no memory.
-    pub fn new(alloc: Global, signature: Signature) -> Machine
-        ensures { result ≡ record { stack = []; edges_open = []; depth = 0; reached = record { signature = signature; nodes = 0; edges = 0; terms = 0 } } }
+    /// The machine before a whole expression, where these controls and so many terms were met. Takes no memory.
+    pub fn new(alloc: Global, met: Met) -> Machine
+        ensures { result ≡ record { stack = []; edges_open = []; depth = 0; reached = record { signature = met.signature; nodes = 0; edges = 0; terms = met.terms } } }
     {
         Machine {
             stack: Stack::new(alloc),
             edges_open: Stack::new(alloc),
             depth: 0,
-            signature,
+            signature: met.signature,
             nodes: 0,
             edges: 0,
-            terms: 0,
+            terms: met.terms,
         }
     }
 
-    /// The bigraph on top, and the signature reached; 31 where there is none.
-    pub fn finish(self, alloc: Global) -> Result<(Big, Signature), Stop>
+    /// The bigraph on top, and what was met; 31 where there is none.
+    pub fn finish(self, alloc: Global) -> Result<(Big, Met), Stop>
         ensures value { Gives result (calls.finished self) }
         ensures valid { IfOk result (λ found. IsValid found.0) }
     {
         let Machine {
             mut stack,
             signature,
+            terms,
             ..
         } = self;
         match stack.pop() {
             Some(held) => {
                 let big = held.big.finish(alloc)?;
-                Ok((big, signature))
+                Ok((big, Met { signature, terms }))
             }
             None => Err(Stop::refuse(Cause::Unexpected, 0)),
         }

@@ -36,14 +36,14 @@ fn first_edge(big: &Big) -> u32 {
     }
 }
 
-fn outcome_of(come: Result<(Big, Signature), Stop>) -> Outcome {
+fn outcome_of(come: Result<(Big, Met), Stop>) -> Outcome {
     match come {
-        Ok((big, signature)) => Outcome::Value([
+        Ok((big, met)) => Outcome::Value([
             big.nodes.len(),
             big.edges.len(),
             big.regions,
             big.outer.len(),
-            signature.len(),
+            met.signature.len(),
             first_edge(&big),
         ]),
         Err(stop) => stopped(stop),
@@ -170,7 +170,7 @@ fn come(alloc: Global, tables: &Tables, text: &str) -> Outcome
         definitions.as_slice(),
         &[Value::Int(7)],
         code.as_slice(),
-        Signature::new(alloc),
+        Met::begun(Signature::new(alloc)),
     ))
 }
 
@@ -235,7 +235,7 @@ fn whole_edges(alloc: Global, tables: &Tables, text: &str) -> Option<(u32, u32)>
         &[],
         &[],
         code.as_slice(),
-        Signature::new(alloc),
+        Met::begun(Signature::new(alloc)),
     );
     let Ok((big, _)) = come else {
         return None;
