@@ -1,2 +1,4 @@
+pub mod Turns
+mod Codes
 mod Sounds
-mod Formals
+mod RulesSound

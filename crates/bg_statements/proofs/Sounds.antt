@@ -11,9 +11,10 @@ use Rattle.bg_base.specs.Signatures.{IsSignature}
 use Rattle.bg_base.proofs.SignatureLaws.{no_controls}
 use Rattle.bg_lists.specs.Lists.{Mem, here}
 use Rattle.bg_lists.proofs.Members.{Mem-append_right}
-use Rattle.bg_machine.specs.Calls.{evaluated}
+use Rattle.bg_machine.specs.Calls.{begun, evaluated}
 use Rattle.bg_statements.specs.Defined.{Defined, visible_with}
-use Rattle.bg_statements.specs.Sound.{IsSound, nothing}
+use Rattle.bg_statements.specs.Rules.{RuleExpression}
+use Rattle.bg_statements.specs.Sound.{IsRuleRead, IsSound, nothing}
 use Rattle.bg_statements.specs.Statements.{new_word, formals_read, arity_at, entered_at_once, with_shape, with_control, tried, with_expression, with_bigraph, with_parameter}
 use Rattle.bg_syntax.specs.declared.tree.statements.SynBigraph.{SynBigraph}
 use Rattle.bg_syntax.specs.declared.tree.statements.SynControl.{SynControl}
@@ -27,19 +28,18 @@ use Rattle.bg_terms.specs.Shapes.{AreShapes, AreOfShapes, FitsShapes}
 use Rattle.bg_terms.specs.Trees.{Visible, word_at, e_read}
 use Rattle.bg_terms.specs.Values.{Reached, entered, value}
 use Rattle.bg_terms.proofs.Controls.{controls_shapes}
-use Rattle.bg_terms.proofs.InTurn.{IsRead-now, read_none, read_control, read_definition, read_fits, AreOfShapes-more}
+use Rattle.bg_terms.proofs.InTurn.{IsRead-now, IsRead-more, read_none, read_control, read_definition, read_fits, AreOfShapes-more}
 use Rattle.bg_terms.proofs.Numbered.{bound, tested, untested}
 use Rattle.bg_terms.proofs.ShapesFit.{entered_fits}
 use Rattle.bg_values.proofs.Bindings.{ok_same}
 use Rattle.bg_values.specs.declared.refusal.Refusal.{Refusal}
 use Rattle.bg_values.specs.Names.{Entry, number_of}
-use Rattle.bg_values.specs.Outcome.{◌>>=◌}
 use Rattle.bg_values.specs.Parameters.{parameter_values, name_token}
 use Rattle.bg_values.specs.Reading.{number_token, number_at}
 use Rattle.bg_values.specs.Scopes.{ScopeParts, spelling}
 
 pub nothing_sound : IsSound nothing
-nothing_sound = record { read = read_none; signature = no_controls; of_shapes = λ control m. elim m [ ] }
+nothing_sound = record { read = read_none; rules_read = λ rule m. elim m [ ]; signature = no_controls; of_shapes = λ control m. elim m [ ] }
 
 -- ---- what an Ok says of a name and of an arity
 
@@ -74,18 +74,33 @@ at_most n e y = by (nat_lt 16 n) refl
 small_arity : (text : ScopeParts) (token arity : ℕ) → arity_at text token ≡ Ok arity → arity ≤ 16
 small_arity text token arity is = let b = bound (number_at text token) _ arity is in at_most (nat_abs b.found) _ arity b.goes_on
 
+-- ---- rules, where more controls are visible
+
+abbrev pub AreRulesRead : List Shape → List RuleExpression → Type 0
+AreRulesRead shapes rules = (rule : RuleExpression) → Mem rule rules → IsRuleRead shapes rule
+
+rules_more : (shapes others : List Shape) (rules : List RuleExpression) → AreRulesRead shapes rules → AreRulesRead (shapes ++ others) rules
+rules_more shapes others rules are rule m =
+    let is = are rule m in
+    record {
+      redex = IsRead-more shapes others rule.redex is.redex;
+      reactum = IsRead-more shapes others rule.reactum is.reactum;
+      conditions = λ condition k. IsRead-more shapes others condition.pattern (is.conditions condition k);
+    }
+
 -- ---- the signature alone grows
 
-record Entered (shapes : List Shape) (before after : Defined) : Type 0 where
-  controls_same : after.controls ≡ before.controls
-  expressions_same : after.expressions ≡ before.expressions
-  signature : IsSignature after.signature
-  of_shapes : AreOfShapes shapes after.signature
+pub record Entered (shapes : List Shape) (before after : Defined) : Type 0 where
+  pub controls_same : after.controls ≡ before.controls
+  pub expressions_same : after.expressions ≡ before.expressions
+  pub rules_same : after.rule_expressions ≡ before.rule_expressions
+  pub signature : IsSignature after.signature
+  pub of_shapes : AreOfShapes shapes after.signature
 
-grown : (shapes : List Shape) (before after : Defined) (signature : List Control) → ◌≡◌ {A = Result Defined Refusal} (Ok (record before { signature = signature })) (Ok after)
+pub grown : (shapes : List Shape) (before after : Defined) (signature : List Control) → ◌≡◌ {A = Result Defined Refusal} (Ok (record before { signature = signature })) (Ok after)
     → IsSignature signature → AreOfShapes shapes signature → Entered shapes before after
 grown shapes before after signature is kept of_shapes =
-    subst (Entered shapes before) (ok_same is) (record { controls_same = refl; expressions_same = refl; signature = kept; of_shapes = of_shapes })
+    subst (Entered shapes before) (ok_same is) (record { controls_same = refl; expressions_same = refl; rules_same = refl; signature = kept; of_shapes = of_shapes })
 
 -- ---- controls
 
@@ -113,6 +128,9 @@ module _ (before : Defined) (sound : IsSound before) (word : List ℕ) (none : i
       subst IsSound (ok_same b.goes_on)
       (record {
         read = subst (λ cs. AreRead cs b.found.expressions) same (subst (AreRead longer) (sym so.expressions_same) are);
+        rules_read = subst (λ cs. AreRulesRead (shapes_of cs) b.found.rule_expressions) same
+            (subst (AreRulesRead (shapes_of longer)) (sym so.rules_same)
+            (subst (λ ss. AreRulesRead ss before.rule_expressions) (sym more) (rules_more (shapes_of before.controls) (shape ∷ []) before.rule_expressions sound.rules_read)));
         signature = so.signature;
         of_shapes = subst (λ cs. AreOfShapes (shapes_of cs) b.found.signature) same so.of_shapes;
       })
@@ -144,7 +162,7 @@ module _ (before : Defined) (sound : IsSound before) where
 
   tried_sound : (formals : ℕ) (e : Expression) (after : Defined) → IsRead shapes e → tried formals e before ≡ Ok after → Entered shapes before after
   tried_sound zero e after read is =
-      let b = bound (evaluated before.signature (expand shapes (meanings_of shapes before.expressions) [] e)) (λ v. Ok (record before { signature = v.1.signature })) after is in
+      let b = bound (evaluated (begun before.signature) (expand shapes (meanings_of shapes before.expressions) [] e)) (λ v. Ok (record before { signature = v.1.signature })) after is in
       let so = value_fits e read [] 0 0 0 0 b.found.0 b.found.1 b.is in
       grown shapes before after b.found.1.signature b.goes_on so.kept so.of_shapes
   tried_sound (suc n) e after read is = grown shapes before after before.signature is sound.signature sound.of_shapes
@@ -159,6 +177,7 @@ module _ (before : Defined) (sound : IsSound before) where
       (record {
         read = subst (λ cs. AreRead cs (b.found.expressions ++ e ∷ [])) same
             (subst (λ es. AreRead before.controls (es ++ e ∷ [])) (sym so.expressions_same) (read_definition before.controls before.expressions e sound.read read));
+        rules_read = subst (λ cs. AreRulesRead (shapes_of cs) b.found.rule_expressions) same (subst (AreRulesRead shapes) (sym so.rules_same) sound.rules_read);
         signature = so.signature;
         of_shapes = subst (λ cs. AreOfShapes (shapes_of cs) b.found.signature) same so.of_shapes;
       })
@@ -178,4 +197,4 @@ pub parameter_sound : (text : ScopeParts) (tree : SynParam) (before after : Defi
 parameter_sound text tree before after sound is =
     let a = bound (new_word text before.parameters (name_token tree)) _ after is in
     let b = bound (parameter_values text tree) (λ values. Ok (record before { parameters = before.parameters ++ (a.found, values) ∷ [] })) after a.goes_on in
-    subst IsSound (ok_same b.goes_on) (record { read = sound.read; signature = sound.signature; of_shapes = sound.of_shapes })
+    subst IsSound (ok_same b.goes_on) (record { read = sound.read; rules_read = sound.rules_read; signature = sound.signature; of_shapes = sound.of_shapes })

@@ -3,17 +3,20 @@ use Rattle.std.specs.Prelude.{ℕ, List}
 use Rattle.bg_base.specs.declared.labels.Value.{Value}
 use Rattle.bg_base.specs.declared.signature.Control.{Control}
 use Rattle.bg_terms.specs.declared.shape.ControlEntry.{ControlEntry}
+use Rattle.bg_statements.specs.Rules.{RuleExpression}
 use Rattle.bg_terms.specs.Expressions.{Expression}
 use Rattle.bg_terms.specs.Trees.{Visible}
 use Rattle.bg_values.specs.Names.{Entry}
 use Rattle.bg_values.specs.Scopes.{ScopeParts}
 
--- the controls; the bigraphs, each with how many formals it has, and their expressions in the same order; the parameters with
--- their values; and the signature of the controls that have entered it
+-- the controls; the bigraphs, each with how many formals it has, and their expressions in the same order; the rules likewise;
+-- the parameters with their values; and the signature of the controls that have entered it
 pub record Defined : Type 0 where
   pub controls : List (Entry ControlEntry)
   pub bigraphs : List (Entry ℕ)
   pub expressions : List Expression
+  pub rules : List (Entry ℕ)
+  pub rule_expressions : List RuleExpression
   pub parameters : List (Entry (List Value))
   pub signature : List Control
 

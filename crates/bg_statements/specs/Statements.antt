@@ -1,15 +1,19 @@
 -- What each statement defines, where others stand before it, or its first refusal.
 use Rattle.std.specs.Prelude.{ℕ, zero, suc, nat_lt, is_some, nat_abs, if◌then◌else◌, List, [], ◌∷◌, ◌++◌, length, Result, Ok}
+use Rattle.bg_base.specs.declared.signature.Control.{Control}
 use Rattle.bg_base.specs.declared.signature.Kind.{Kind}
-use Rattle.bg_machine.specs.Calls.{evaluated}
-use Rattle.bg_statements.specs.Defined.{Defined, scope_with, visible_with}
+use Rattle.bg_machine.specs.Calls.{begun, evaluated}
+use Rattle.bg_statements.specs.Defined.{Defined, visible_with}
+use Rattle.bg_statements.specs.InTurn.{in_turn}
+use Rattle.bg_statements.specs.Rules.{RuleExpression, rule_read}
+use Rattle.bg_statements.specs.RuleValues.{Setting, rule_valued}
 use Rattle.bg_syntax.specs.declared.tree.names.SynFormals.{SynFormals}
 use Rattle.bg_syntax.specs.declared.tree.names.SynFormals.TheVariants as formals_ways
 use Rattle.bg_syntax.specs.declared.tree.names.SynMoreLowItem.{SynMoreLowItem}
-use Rattle.bg_syntax.specs.declared.tree.names.SynNumber.{SynNumber}
 use Rattle.bg_syntax.specs.declared.tree.statements.SynBigraph.{SynBigraph}
 use Rattle.bg_syntax.specs.declared.tree.statements.SynControl.{SynControl}
 use Rattle.bg_syntax.specs.declared.tree.statements.SynParam.{SynParam}
+use Rattle.bg_syntax.specs.declared.tree.statements.SynReact.{SynReact}
 use Rattle.bg_terms.specs.declared.shape.Shape.{Shape}
 use Rattle.bg_terms.specs.Expansion.{control_of, expand, meanings_of}
 use Rattle.bg_terms.specs.Expressions.{Expression}
@@ -31,17 +35,16 @@ new_word text entries token =
     if is_some (number_of (spelling text token) entries) then refused DuplicateName token else Ok (spelling text token)
 
 -- the formals with one more, which does not repeat
-abbrev pub with_formal : ScopeParts → List (Entry (Unit {0})) → ℕ → Result (List (Entry (Unit {0}))) Refusal
-with_formal text formals token = new_word text formals token >>= λ word. Ok (formals ++ (word, tt) ∷ [])
+abbrev pub with_formal : ScopeParts → ℕ → List (Entry (Unit {0})) → Result (List (Entry (Unit {0}))) Refusal
+with_formal text token formals = new_word text formals token >>= λ word. Ok (formals ++ (word, tt) ∷ [])
 
 -- the formals with those of the items
-abbrev pub with_formals : ScopeParts → List (Entry (Unit {0})) → List SynMoreLowItem → Result (List (Entry (Unit {0}))) Refusal
-with_formals text formals [] = Ok formals
-with_formals text formals (item ∷ items) = with_formal text formals item.part2 >>= λ longer. with_formals text longer items
+abbrev pub with_formals : ScopeParts → List SynMoreLowItem → List (Entry (Unit {0})) → Result (List (Entry (Unit {0}))) Refusal
+with_formals text = in_turn (λ (item : SynMoreLowItem). with_formal text item.part2)
 
 -- the first formal and those of the items
 abbrev pub listed_formals : ScopeParts → ℕ → List SynMoreLowItem → Result (List (Entry (Unit {0}))) Refusal
-listed_formals text first items = with_formal text [] first >>= λ formals. with_formals text formals items
+listed_formals text first items = with_formal text first [] >>= with_formals text items
 
 -- the formals of a statement
 abbrev pub formals_read : ScopeParts → SynFormals → Result (List (Entry (Unit {0}))) Refusal
@@ -65,6 +68,7 @@ with_shape at word formals shape d =
     entered_at_once at formals shape d >>= λ t.
     Ok (record t { controls = t.controls ++ (word, record { formals = formals; shape = shape }) ∷ [] })
 
+-- the definitions with the control of this statement: its name, then its formals, then its arity
 abbrev pub with_control : ScopeParts → Kind → SynControl → Defined → Result Defined Refusal
 with_control text kind tree d =
     new_word text d.controls tree.part1 >>= λ word.
@@ -78,7 +82,7 @@ with_control text kind tree d =
 -- a definition without formals is evaluated at its statement, for its refusals and for the controls that enter
 abbrev pub tried : ℕ → Expression → Defined → Result Defined Refusal
 tried zero e d =
-    evaluated d.signature (expand (shapes_of d.controls) (meanings_of (shapes_of d.controls) d.expressions) [] e) >>= λ v.
+    evaluated (begun d.signature) (expand (shapes_of d.controls) (meanings_of (shapes_of d.controls) d.expressions) [] e) >>= λ v.
     Ok (record d { signature = v.1.signature })
 tried (suc n) e d = Ok d
 
@@ -87,6 +91,7 @@ abbrev pub with_expression : List ℕ → ℕ → Expression → Defined → Res
 with_expression word formals e d =
     tried formals e d >>= λ t. Ok (record t { bigraphs = t.bigraphs ++ (word, formals) ∷ []; expressions = t.expressions ++ e ∷ [] })
 
+-- the definitions with the bigraph of this statement: its name, then its formals, then its expression
 abbrev pub with_bigraph : ScopeParts → SynBigraph → Defined → Result Defined Refusal
 with_bigraph text tree d =
     new_word text d.bigraphs tree.part1 >>= λ word.
@@ -94,8 +99,40 @@ with_bigraph text tree d =
     (e_read tree.part4).1 (visible_with text formals d) >>= λ e.
     with_expression word (length formals) e d
 
+-- ---- `react r(n) = E --> E @ [0] if E in ctx;`
+
+-- what expressions without formals are evaluated in
+abbrev pub setting_of : Defined → Setting
+setting_of d = record { controls = d.controls; expressions = d.expressions; values = [] }
+
+-- the signature that the evaluation of a rule without formals leaves
+abbrev pub signature_after : RuleExpression → Defined → Result (List Control) Refusal
+signature_after rule d = rule_valued (setting_of d) rule (begun d.signature) >>= λ v. Ok v.1.signature
+
+-- a rule without formals is evaluated at its statement, for its refusals and for the controls that enter
+abbrev pub rule_tried : ℕ → RuleExpression → Defined → Result Defined Refusal
+rule_tried zero rule d = signature_after rule d >>= λ signature. Ok (record d { signature = signature })
+rule_tried (suc n) rule d = Ok d
+
+-- what is defined, and a rule with that name, so many formals and these expressions
+abbrev pub and_rule : List ℕ → ℕ → RuleExpression → Defined → Defined
+and_rule word formals rule d = record d { rules = d.rules ++ (word, formals) ∷ []; rule_expressions = d.rule_expressions ++ rule ∷ [] }
+
+-- the same, once the rule was tried
+abbrev pub with_rule_expression : List ℕ → ℕ → RuleExpression → Defined → Result Defined Refusal
+with_rule_expression word formals rule d = rule_tried formals rule d >>= λ t. Ok (and_rule word formals rule t)
+
+-- the name is new, the formals do not repeat, the names of the expressions are visible; then the rule is tried
+abbrev pub with_rule : ScopeParts → SynReact → Defined → Result Defined Refusal
+with_rule text tree d =
+    new_word text d.rules tree.part1 >>= λ word.
+    formals_read text tree.part2 >>= λ formals.
+    rule_read (visible_with text formals d) tree >>= λ rule.
+    with_rule_expression word (length formals) rule d
+
 -- ---- `int n = 1;`
 
+-- the definitions with the parameter of this statement: its name, then its values
 abbrev pub with_parameter : ScopeParts → SynParam → Defined → Result Defined Refusal
 with_parameter text tree d =
     new_word text d.parameters (name_token tree) >>= λ word.

@@ -4,7 +4,7 @@ use crate::names::{check_new, formals_of};
 use bg_base::Signature;
 use bg_code::{Operation, Visible, code_of};
 use bg_lists::Rows;
-use bg_machine::evaluate;
+use bg_machine::{Met, evaluate};
 use bg_syntax::tree::expressions::SynE;
 use bg_syntax::tree::statements::SynBigraph;
 use bg_values::{NameTable, Scope, Stop};
@@ -89,15 +89,15 @@ impl Definitions {
             → Goes result self.new (kept_after (definition.tried 0 e d)) }
     {
         let signature = replace(&mut self.signature, Signature::new(alloc));
-        let (_, signature) = evaluate(
+        let (_, met) = evaluate(
             alloc,
             &self.controls,
             self.codes.as_slice(),
             &[],
             code,
-            signature,
+            Met::begun(signature),
         )?;
-        self.signature = signature;
+        self.signature = met.signature;
         Ok(())
     }
 }

@@ -1,6 +1,5 @@
 //! What the statements of a model define.
-ghost use Rattle.std.specs.Prelude.{◌≡◌, [], IfOk};
-
+use crate::rule_code::RuleCode;
 use bg_base::{Signature, Value};
 use bg_code::Operation;
 use bg_lists::Rows;
@@ -9,13 +8,15 @@ use bg_values::NameTable;
 use std::alloc::Global;
 use std::marker::Model;
 
-/// What the statements of a model so far define: the controls, the bigraphs with the code of their expressions, the
-/// parameters with their values, and the signature of the controls that have entered it. No arity is above 16.
+/// What the statements of a model so far define: the controls, the bigraphs and the rules with the code of their expressions,
+/// the parameters with their values, and the signature of the controls that have entered it. No arity is above 16.
 #[derive(Drop)]
 pub struct Definitions {
     pub(crate) controls: NameTable<ControlEntry>,
     pub(crate) bigraphs: NameTable<u32>,
     pub(crate) codes: Vec<Rows<Operation>>,
+    pub(crate) rules: NameTable<u32>,
+    pub(crate) rule_codes: Vec<RuleCode>,
     pub(crate) parameters: NameTable<Rows<Value>>,
     pub(crate) signature: Signature,
 }
@@ -30,6 +31,8 @@ impl Model for Definitions {
       controls = definitions.controls;
       bigraphs = definitions.bigraphs;
       codes = definitions.codes.items;
+      rules = definitions.rules;
+      rule_codes = definitions.rule_codes.items;
       parameters = definitions.parameters;
       signature = definitions.signature;
     } };
@@ -43,12 +46,14 @@ impl Definitions {
     /// Nothing is defined. Takes no memory.
     #[tactic(auto, using(bg_machine::proofs::Small::none_small))]
     pub fn new(alloc: Global) -> Definitions
-        ensures { result ≡ record { controls = []; bigraphs = []; codes = []; parameters = []; signature = [] } }
+        ensures { result ≡ record { controls = []; bigraphs = []; codes = []; rules = []; rule_codes = []; parameters = []; signature = [] } }
     {
         Definitions {
             controls: NameTable::new(alloc),
             bigraphs: NameTable::new(alloc),
             codes: Vec::new(alloc),
+            rules: NameTable::new(alloc),
+            rule_codes: Vec::new(alloc),
             parameters: NameTable::new(alloc),
             signature: Signature::new(alloc),
         }

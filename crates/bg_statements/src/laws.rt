@@ -5,11 +5,12 @@ ghost use Rattle.bg_base.specs.declared.labels.Value.{Value};
 ghost use Rattle.bg_base.specs.declared.signature.Kind.{Kind};
 ghost use Rattle.bg_statements.specs.Defined.{Defined, visible_with};
 ghost use Rattle.bg_statements.specs.Sound.{IsSound, nothing};
-ghost use Rattle.bg_statements.specs.Statements.{with_control, with_bigraph, with_parameter};
+ghost use Rattle.bg_statements.specs.Statements.{with_control, with_bigraph, with_rule, with_parameter};
 ghost use Rattle.bg_syntax.specs.declared.tree.expressions.SynE.{SynE};
 ghost use Rattle.bg_syntax.specs.declared.tree.statements.SynBigraph.{SynBigraph};
 ghost use Rattle.bg_syntax.specs.declared.tree.statements.SynControl.{SynControl};
 ghost use Rattle.bg_syntax.specs.declared.tree.statements.SynParam.{SynParam};
+ghost use Rattle.bg_syntax.specs.declared.tree.statements.SynReact.{SynReact};
 ghost use Rattle.bg_terms.specs.Expansion.{expand, meanings_of};
 ghost use Rattle.bg_terms.specs.Expressions.{Expression};
 ghost use Rattle.bg_terms.specs.Read.{shapes_of};
@@ -20,13 +21,16 @@ ghost use Rattle.bg_values.specs.Names.{Entry};
 ghost use Rattle.bg_values.specs.Scopes.{ScopeParts};
 
 /// What statements define one after the other is sound, from nothing on: no word stands for two controls and no arity is
-/// above 16; the signature is one, of these controls with some arguments; each expression was read from a tree.
+/// above 16; the signature is one, of these controls with some arguments; each expression, of a bigraph or
+/// of a rule, was read from a tree.
 pub fn definitions_stay_sound()
     ensures none { IsSound nothing }
     ensures control { (text : ScopeParts) (kind : Kind) (tree : SynControl) (before after : Defined) → IsSound before
         → with_control text kind tree before ≡ Ok after → IsSound after }
     ensures bigraph { (text : ScopeParts) (tree : SynBigraph) (before after : Defined) → IsSound before
         → with_bigraph text tree before ≡ Ok after → IsSound after }
+    ensures rule { (text : ScopeParts) (tree : SynReact) (before after : Defined) → IsSound before
+        → with_rule text tree before ≡ Ok after → IsSound after }
     ensures parameter { (text : ScopeParts) (tree : SynParam) (before after : Defined) → IsSound before
         → with_parameter text tree before ≡ Ok after → IsSound after }
 {}

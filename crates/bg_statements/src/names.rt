@@ -57,7 +57,7 @@ fn add_formals(
     items: &[SynMoreLowItem],
     formals: &mut NameTable<()>,
 ) -> Result<(), Stop>
-    ensures { Goes result formals.new (definition.with_formals text.now formals.old items.now) }
+    ensures { Goes result formals.new (definition.with_formals text.now items.now formals.old) }
 {
     for item in items {
         add_formal(alloc, text, item.part2, formals)?;
@@ -72,7 +72,7 @@ fn add_formal(
     token: u32,
     formals: &mut NameTable<()>,
 ) -> Result<(), Stop>
-    ensures { Goes result formals.new (definition.with_formal text.now formals.old token) }
+    ensures { Goes result formals.new (definition.with_formal text.now token formals.old) }
 {
     if formals.add(alloc, text.spelling(token), ())? {
         Ok(())

@@ -32,7 +32,7 @@ fn define(
         SynStmt::Way2(_, after) => define_after_fun(alloc, definitions, text, after),
         SynStmt::Way3(_, control) => definitions.add_control(alloc, text, Kind::Normal, control),
         SynStmt::Way4(_, bigraph) => definitions.add_bigraph(alloc, text, bigraph),
-        SynStmt::Way5(_, _) => Ok(()),
+        SynStmt::Way5(_, rule) => definitions.add_rule(alloc, text, rule),
         SynStmt::Way6(parameter) => definitions.add_parameter(alloc, text, parameter),
     }
 }
@@ -51,7 +51,7 @@ fn define_after_fun(
             definitions.add_control(alloc, text, Kind::Normal, control)
         }
         SynAfterFun::Way3(_, bigraph) => definitions.add_bigraph(alloc, text, bigraph),
-        SynAfterFun::Way4(_, _) => Ok(()),
+        SynAfterFun::Way4(_, rule) => definitions.add_rule(alloc, text, rule),
     }
 }
 
@@ -213,6 +213,78 @@ const REFUSED: [(&str, Cause); 54] = [
     ),
 ];
 
+/// Rules that are refused, with a mark before the token of the refusal.
+const REFUSED_RULES: [(&str, Cause); 30] = [
+    // names, all before the first value
+    (
+        "react r = D --> D; react $r = D --> D;",
+        Cause::DuplicateName,
+    ),
+    ("fun react r(a, $a) = D --> D;", Cause::DuplicateName),
+    ("react r = $Z --> Y;", Cause::UnknownName),
+    ("react r = D --> $Z if Y in ctx;", Cause::UnknownName),
+    ("react r = D --> D @ [0] if $Y in ctx;", Cause::UnknownName),
+    (
+        "react r = D --> D if D in ctx, $Y in param @ [7];",
+        Cause::UnknownName,
+    ),
+    ("fun react r(n) = K(n){x} --> K($m){x};", Cause::UnknownName),
+    ("react r = D.1 --> $Z;", Cause::UnknownName),
+    ("react r = $r --> D;", Cause::UnknownName),
+    // values in the order of the text, all before the tests
+    ("react r = D$.1 --> (D).1;", Cause::AtomicHasChild),
+    (
+        "react r = D --> D$.1 if (D).1 in ctx;",
+        Cause::AtomicHasChild,
+    ),
+    ("react r = 1 --> 0 if D$.1 in ctx;", Cause::AtomicHasChild),
+    // sides
+    ("react $r = D --> D || D;", Cause::SidesDiffer),
+    ("react $r = E{x} --> E{y};", Cause::SidesDiffer),
+    ("react $r = D | {x} --> D | id{x};", Cause::SidesDiffer),
+    ("react $r = 1 --> 1 || 1 @ [7];", Cause::SidesDiffer),
+    // the map
+    ("react $r = A --> A @ [1];", Cause::BadMap),
+    ("react $r = A --> A @ [0, 0];", Cause::BadMap),
+    ("react $r = A --> A @ [];", Cause::BadMap),
+    ("react $r = A --> A @ [4294967296];", Cause::BadMap),
+    ("react $r = A --> A.1;", Cause::BadMap),
+    ("react $r = A.1 --> A;", Cause::BadMap),
+    ("react $r = 1 --> 1 @ [7];", Cause::BadMap),
+    // a redex that is not solid
+    ("react $r = 1 --> 1;", Cause::NotSolid(1)),
+    ("react $r = {x} | D --> {x} | D;", Cause::NotSolid(2)),
+    ("react $r = D | id --> D | id;", Cause::NotSolid(4)),
+    ("react $r = 0 --> 0;", Cause::NotSolid(5)),
+    // conditions
+    ("react $r = 1 --> 1 if 1 in ctx;", Cause::NotSolid(1)),
+    ("react r = D --> D if 1 $in ctx;", Cause::NotSolid(1)),
+    (
+        "react r = D --> D if !D in ctx, id $in param;",
+        Cause::NotSolid(1),
+    ),
+];
+
+/// Rules that are accepted, and how many controls enter the signature by them.
+const DEFINED_RULES: [(&str, u32); 10] = [
+    ("react r = D --> D;", 0),
+    ("react r = A --> A | A @ [0, 0];", 0),
+    ("react r = A | A --> A @ [1];", 0),
+    ("react r = A.1 --> A.1 @ [];", 0),
+    ("react r = D --> D if D in ctx @ [];", 0),
+    ("react r = /x E{x} --> /y /x B{x,y}.1;", 0),
+    ("fun react r(n) = K(n){x} --> K(n + 1){x};", 0),
+    ("fun react r(n) = 1 --> 1 || D.1;", 0),
+    (
+        "react r = K(1){x}.1 --> K(2){x}.1 if !K(3){x} in ctx, D in param;",
+        3,
+    ),
+    (
+        "react d = d --> d; react c = c(1).1 --> c(1).1; int d = 1;",
+        1,
+    ),
+];
+
 /// Statements that are accepted, and how many controls enter the signature by them.
 const DEFINED: [(&str, u32); 22] = [
     ("", 0),
@@ -262,6 +334,29 @@ fn accepts_what_is_allowed(rt: HostRuntime) {
             return;
         };
         // A, B, D and E enter at their statements.
+        assert!(rt;
+            found == Outcome::Defined(controls.wrapping_add(4)),
+            "{case}"
+        );
+    }
+}
+
+#[test]
+fn refuses_rules_at_the_first_place(rt: HostRuntime) {
+    for (case, cause) in REFUSED_RULES {
+        let Some((found, mark)) = outcome_behind(rt.alloc(), case) else {
+            return;
+        };
+        assert!(rt; found == Outcome::Refused(cause, mark), "{case}");
+    }
+}
+
+#[test]
+fn accepts_rules(rt: HostRuntime) {
+    for (case, controls) in DEFINED_RULES {
+        let Some((found, _)) = outcome_behind(rt.alloc(), case) else {
+            return;
+        };
         assert!(rt;
             found == Outcome::Defined(controls.wrapping_add(4)),
             "{case}"
@@ -398,6 +493,18 @@ fn terms_have_a_limit(rt: HostRuntime) {
     };
     // The term that is one too many is a `1` in the text of the first definition.
     assert!(rt; is_too_large(outcome_of(alloc, &more), LimitWord::Terms, 13));
+}
+
+#[test]
+fn the_sides_of_a_rule_count_their_terms_together(rt: HostRuntime) {
+    let alloc = rt.alloc();
+    let Ok(mut text) = doublings(alloc, "big p00000 = 1;\n", " |", 18) else {
+        return;
+    };
+    if text.word("react r = p00018 --> p00017;\n").is_err() {
+        return;
+    }
+    assert!(rt; is_too_large(outcome_of(alloc, &text), LimitWord::Terms, 13));
 }
 
 #[test]

@@ -1,4 +1,5 @@
 use Rattle.bg_statements.proofs.Sounds.{nothing_sound, control_sound, bigraph_sound, parameter_sound}
+use Rattle.bg_statements.proofs.RulesSound.{rule_sound}
 use Rattle.bg_statements.proofs.laws.definitions_stay_sound.Goals as goal
 
 pub returns-clause-none : goal.returns-clause-none
@@ -9,6 +10,9 @@ returns-clause-control c = control_sound
 
 pub returns-clause-bigraph : goal.returns-clause-bigraph
 returns-clause-bigraph c = bigraph_sound
+
+pub returns-clause-rule : goal.returns-clause-rule
+returns-clause-rule c = rule_sound
 
 pub returns-clause-parameter : goal.returns-clause-parameter
 returns-clause-parameter c = parameter_sound
