@@ -13,6 +13,7 @@ doubled      a bigraph that is joined with itself 16 times over
 referred     1,024 references, each in the definition before
 arguments    4,096 controls with arguments, used a million times in all
 definitions  8 MiB of definitions
+rules        8 MiB of rules without formals, each with a condition
 terms        a bigraph that is joined with itself until it has too many terms
 """
 import sys
@@ -65,6 +66,18 @@ def definitions():
     return ''.join(lines)
 
 
+def rules():
+    lines = []
+    size = 0
+    n = 0
+    while size < 8_000_000:
+        line = f'react move{n} = A | N.(P{{x}} | id) --> N.(A | P{{x}} | id) if !Q{{x,y}} in ctx;\n'
+        lines.append(line)
+        size += len(line)
+        n += 1
+    return ''.join(lines)
+
+
 CONTROLS = 'atomic ctrl A = 0;\nctrl N = 0;\natomic ctrl P = 1;\natomic ctrl Q = 2;\n'
 
 KINDS = {
@@ -80,6 +93,7 @@ KINDS = {
     'referred': lambda: referred(1023),
     'arguments': arguments,
     'definitions': definitions,
+    'rules': rules,
     'terms': lambda: doubled('big p0 = 1;\n', '|', 19),
 }
 

@@ -41,7 +41,7 @@ fn define(
         SynStmt::Way2(_, after) => define_after_fun(alloc, definitions, text, after),
         SynStmt::Way3(_, control) => definitions.add_control(alloc, text, Kind::Normal, control),
         SynStmt::Way4(_, bigraph) => definitions.add_bigraph(alloc, text, bigraph),
-        SynStmt::Way5(_, _) => Ok(()),
+        SynStmt::Way5(_, rule) => definitions.add_rule(alloc, text, rule),
         SynStmt::Way6(parameter) => definitions.add_parameter(alloc, text, parameter),
     }
 }
@@ -60,7 +60,7 @@ fn define_after_fun(
             definitions.add_control(alloc, text, Kind::Normal, control)
         }
         SynAfterFun::Way3(_, bigraph) => definitions.add_bigraph(alloc, text, bigraph),
-        SynAfterFun::Way4(_, _) => Ok(()),
+        SynAfterFun::Way4(_, rule) => definitions.add_rule(alloc, text, rule),
     }
 }
 
