@@ -1,13 +1,11 @@
 //! Defines the statements of a model from the standard input, so that `bench/run` can time the calls of `bg_statements`.
-//! Rules and the block are read and passed over. It writes how many controls have entered the signature, or the code, the
+//! The block is read and passed over. It writes how many controls have entered the signature, or the code, the
 //! line and the column of the first refusal, and no times.
 #![tactic(auto)]
 
-use bg_base::Kind;
 use bg_io::{StdSource, read_all};
 use bg_statements::Definitions;
 use bg_syntax::parse;
-use bg_syntax::tree::statements::{SynAfterFun, SynStmt};
 use bg_text::{place_of, tokens};
 use bg_values::{NameTable, Refusal, Scope, Stop};
 use std::alloc::Global;
@@ -26,42 +24,6 @@ enum Answer {
     /// The text is no model.
     NoModel,
     NoMemory,
-}
-
-fn define(
-    alloc: Global,
-    definitions: &mut Definitions,
-    text: &Scope,
-    statement: &SynStmt,
-) -> Result<(), Stop> {
-    match statement {
-        SynStmt::Way1(_, _, _, control) => {
-            definitions.add_control(alloc, text, Kind::Atomic, control)
-        }
-        SynStmt::Way2(_, after) => define_after_fun(alloc, definitions, text, after),
-        SynStmt::Way3(_, control) => definitions.add_control(alloc, text, Kind::Normal, control),
-        SynStmt::Way4(_, bigraph) => definitions.add_bigraph(alloc, text, bigraph),
-        SynStmt::Way5(_, rule) => definitions.add_rule(alloc, text, rule),
-        SynStmt::Way6(parameter) => definitions.add_parameter(alloc, text, parameter),
-    }
-}
-
-fn define_after_fun(
-    alloc: Global,
-    definitions: &mut Definitions,
-    text: &Scope,
-    after: &SynAfterFun,
-) -> Result<(), Stop> {
-    match after {
-        SynAfterFun::Way1(_, _, control) => {
-            definitions.add_control(alloc, text, Kind::Atomic, control)
-        }
-        SynAfterFun::Way2(_, control) => {
-            definitions.add_control(alloc, text, Kind::Normal, control)
-        }
-        SynAfterFun::Way3(_, bigraph) => definitions.add_bigraph(alloc, text, bigraph),
-        SynAfterFun::Way4(_, rule) => definitions.add_rule(alloc, text, rule),
-    }
 }
 
 fn refused(text: &Scope, refusal: &Refusal) -> Answer {
@@ -100,14 +62,11 @@ fn answer_to(alloc: Global, bytes: &[u8]) -> Answer {
         names: &nothing,
     };
     let mut definitions = Definitions::new(alloc);
-    for item in tree.part1.iter() {
-        match define(alloc, &mut definitions, &text, &item.part1) {
-            Ok(()) => {}
-            Err(Stop::Refused(refusal)) => return refused(&text, &refusal),
-            Err(Stop::OutOfMemory) => return Answer::NoMemory,
-        }
+    match definitions.add_statements(alloc, &text, tree.part1.as_slice()) {
+        Ok(()) => Answer::Defined(definitions.signature().len()),
+        Err(Stop::Refused(refusal)) => refused(&text, &refusal),
+        Err(Stop::OutOfMemory) => Answer::NoMemory,
     }
-    Answer::Defined(definitions.signature().len())
 }
 
 /// Writes the answer; whether it was written.

@@ -1,5 +1,5 @@
 -- Rules and their codes.
-use Rattle.std.proofs.Common.{◌≡◌, ◌∙◌, [], ℕ, List, map, Option, Result, Ok, Err, ap, refl}
+use Rattle.std.proofs.Common.{◌≡◌, ◌∙◌, [], ℕ, List, map, Option, Result, Ok, Err, ap, refl, subst, sym}
 use Rattle.bg_base.specs.declared.signature.Control.{Control}
 use Rattle.bg_code.specs.declared.operation.Operation.{Operation}
 use Rattle.bg_code.specs.Code.{code_of}
@@ -79,3 +79,23 @@ pub record Tried (r : Result Defined Refusal) (new : Kept) : Type 0 where
 pub tried_so : (r : Result Defined Refusal) (new : Kept) → kept_after r ≡ Ok new → Tried r new
 tried_so (Ok d) new is = record { found = d; is = refl; keeps = cc }
 tried_so (Err refusal) new is = absurd cc
+
+-- ---- statements in turn
+
+-- what is kept now is what is kept of definitions from which the others lead to what is wanted
+pub record Reached (wanted : Result Defined Refusal) (now : Kept) (others : Defined → Result Defined Refusal) : Type 0 where
+  pub left : Defined
+  pub keeps : now ≡ kept left
+  pub wants : wanted ≡ others left
+
+pub reached_more : (wanted : Result Defined Refusal) (now next : Kept) (before one others : Defined → Result Defined Refusal) → Reached wanted now before
+    → ((d : Defined) → before d ≡ one d >>= others) → ((d : Defined) → now ≡ kept d → kept_after (one d) ≡ Ok next) → Reached wanted next others
+reached_more wanted now next before one others reached splits step =
+    let t = tried_so (one reached.left) next (step reached.left reached.keeps) in
+    record { left = t.found; keeps = t.keeps; wants = reached.wants ∙ splits reached.left ∙ ap (λ r. r >>= others) t.is }
+
+pub reached_stops : (stop : Stop) (wanted : Result Defined Refusal) (now : Kept) (before one others : Defined → Result Defined Refusal) → Reached wanted now before
+    → ((d : Defined) → before d ≡ one d >>= others) → ((d : Defined) → now ≡ kept d → Stops stop (kept_after (one d))) → Stops stop (kept_after wanted)
+reached_stops stop wanted now before one others reached splits step =
+    subst (λ r. Stops stop (kept_after r)) (sym (reached.wants ∙ splits reached.left))
+    (tried_stops stop (one reached.left) others (step reached.left reached.keeps))

@@ -1,8 +1,9 @@
--- What a rule's statement defines stays sound.
+-- What a rule's statement defines stays sound, and so what any statement does.
 use Rattle.std.proofs.Common.{◌≡◌, ◌++◌, ◌∷◌, [], ℕ, zero, suc, List, length, Option, Ok, sym, ap, subst, ◌∙◌, inl, inr}
 use Rattle.bg_base.specs.declared.big.Big.{Big}
 use Rattle.bg_base.specs.declared.labels.Value.{Value}
 use Rattle.bg_base.specs.declared.signature.Control.{Control}
+use Rattle.bg_base.specs.declared.signature.Kind.TheVariants.{Normal, Atomic}
 use Rattle.bg_base.specs.Signatures.{IsSignature}
 use Rattle.bg_lists.specs.Lists.{Mem, here, there}
 use Rattle.bg_lists.proofs.Members.{Mem-append_cases}
@@ -15,13 +16,18 @@ use Rattle.bg_statements.specs.Defined.{Defined, visible_with}
 use Rattle.bg_statements.specs.Rules.{ConditionExpression, RuleExpression, condition_read, with_condition, with_conditions, conditions_read, later_conditions, map_read, later_map, tail_read, rule_read}
 use Rattle.bg_statements.specs.RuleValues.{Setting, term_in, whole_value, with_value, conditions_valued, rule_tested, map_or_identity, rule_valued}
 use Rattle.bg_statements.specs.Sound.{IsRuleRead, IsSound}
-use Rattle.bg_statements.specs.Statements.{new_word, formals_read, setting_of, signature_after, rule_tried, and_rule, with_rule_expression, with_rule}
-use Rattle.bg_statements.proofs.Sounds.{AreRulesRead, Entered, grown}
+use Rattle.bg_statements.specs.Statements.{new_word, formals_read, setting_of, signature_after, rule_tried, and_rule, with_rule_expression, with_rule, with_after_fun, with_statement, with_statements}
+use Rattle.bg_statements.proofs.Sounds.{AreRulesRead, Entered, grown, control_sound, bigraph_sound, parameter_sound}
 use Rattle.bg_statements.proofs.Turns.{turns_keep}
+use Rattle.bg_syntax.specs.declared.tree.models.SynStmtsItem.{SynStmtsItem}
+use Rattle.bg_syntax.specs.declared.tree.statements.SynAfterFun.{SynAfterFun}
+use Rattle.bg_syntax.specs.declared.tree.statements.SynAfterFun.TheVariants as after_fun
 use Rattle.bg_syntax.specs.declared.tree.statements.SynCond.{SynCond}
 use Rattle.bg_syntax.specs.declared.tree.statements.SynIfTail.{SynIfTail}
 use Rattle.bg_syntax.specs.declared.tree.statements.SynIfTail.TheVariants as if_tails
 use Rattle.bg_syntax.specs.declared.tree.statements.SynReact.{SynReact}
+use Rattle.bg_syntax.specs.declared.tree.statements.SynStmt.{SynStmt}
+use Rattle.bg_syntax.specs.declared.tree.statements.SynStmt.TheVariants as statements
 use Rattle.bg_syntax.specs.declared.tree.statements.SynTail.{SynTail}
 use Rattle.bg_syntax.specs.declared.tree.statements.SynTail.TheVariants as tails
 use Rattle.bg_syntax.specs.declared.tree.statements.SynTest.{SynTest}
@@ -184,3 +190,24 @@ rule_sound text tree before after sound is =
     let b = bound (formals_read text tree.part2) _ after a.goes_on in
     let c = bound (rule_read (visible_with text b.found before) tree) _ after b.goes_on in
     expression_sound before sound a.found (length b.found) c.found after (rule_is_read (visible_with text b.found before) tree c.found c.is) c.goes_on
+
+-- ---- any statement
+
+after_fun_sound : (text : ScopeParts) (tree : SynAfterFun) (before after : Defined) → IsSound before → with_after_fun text tree before ≡ Ok after → IsSound after
+after_fun_sound text (after_fun.Way1 word ctrl control) before after sound is = control_sound text Atomic control before after sound is
+after_fun_sound text (after_fun.Way2 ctrl control) before after sound is = control_sound text Normal control before after sound is
+after_fun_sound text (after_fun.Way3 big bigraph) before after sound is = bigraph_sound text bigraph before after sound is
+after_fun_sound text (after_fun.Way4 react rule) before after sound is = rule_sound text rule before after sound is
+
+pub statement_sound : (text : ScopeParts) (tree : SynStmt) (before after : Defined) → IsSound before → with_statement text tree before ≡ Ok after → IsSound after
+statement_sound text (statements.Way1 word fun ctrl control) before after sound is = control_sound text Atomic control before after sound is
+statement_sound text (statements.Way2 fun rest) before after sound is = after_fun_sound text rest before after sound is
+statement_sound text (statements.Way3 ctrl control) before after sound is = control_sound text Normal control before after sound is
+statement_sound text (statements.Way4 big bigraph) before after sound is = bigraph_sound text bigraph before after sound is
+statement_sound text (statements.Way5 react rule) before after sound is = rule_sound text rule before after sound is
+statement_sound text (statements.Way6 parameter) before after sound is = parameter_sound text parameter before after sound is
+
+pub statements_sound : (text : ScopeParts) (items : List SynStmtsItem) (before after : Defined) → IsSound before → with_statements text items before ≡ Ok after
+    → IsSound after
+statements_sound text items before after sound is =
+    turns_keep (λ (item : SynStmtsItem). with_statement text item.part1) IsSound items (λ item m s t. statement_sound text item.part1 s t) before after sound is

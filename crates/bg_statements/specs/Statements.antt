@@ -2,6 +2,7 @@
 use Rattle.std.specs.Prelude.{ℕ, zero, suc, nat_lt, is_some, nat_abs, if◌then◌else◌, List, [], ◌∷◌, ◌++◌, length, Result, Ok}
 use Rattle.bg_base.specs.declared.signature.Control.{Control}
 use Rattle.bg_base.specs.declared.signature.Kind.{Kind}
+use Rattle.bg_base.specs.declared.signature.Kind.TheVariants.{Normal, Atomic}
 use Rattle.bg_machine.specs.Calls.{begun, evaluated}
 use Rattle.bg_statements.specs.Defined.{Defined, visible_with}
 use Rattle.bg_statements.specs.InTurn.{in_turn}
@@ -10,10 +11,15 @@ use Rattle.bg_statements.specs.RuleValues.{Setting, rule_valued}
 use Rattle.bg_syntax.specs.declared.tree.names.SynFormals.{SynFormals}
 use Rattle.bg_syntax.specs.declared.tree.names.SynFormals.TheVariants as formals_ways
 use Rattle.bg_syntax.specs.declared.tree.names.SynMoreLowItem.{SynMoreLowItem}
+use Rattle.bg_syntax.specs.declared.tree.models.SynStmtsItem.{SynStmtsItem}
+use Rattle.bg_syntax.specs.declared.tree.statements.SynAfterFun.{SynAfterFun}
+use Rattle.bg_syntax.specs.declared.tree.statements.SynAfterFun.TheVariants as after_fun
 use Rattle.bg_syntax.specs.declared.tree.statements.SynBigraph.{SynBigraph}
 use Rattle.bg_syntax.specs.declared.tree.statements.SynControl.{SynControl}
 use Rattle.bg_syntax.specs.declared.tree.statements.SynParam.{SynParam}
 use Rattle.bg_syntax.specs.declared.tree.statements.SynReact.{SynReact}
+use Rattle.bg_syntax.specs.declared.tree.statements.SynStmt.{SynStmt}
+use Rattle.bg_syntax.specs.declared.tree.statements.SynStmt.TheVariants as statements
 use Rattle.bg_terms.specs.declared.shape.Shape.{Shape}
 use Rattle.bg_terms.specs.Expansion.{control_of, expand, meanings_of}
 use Rattle.bg_terms.specs.Expressions.{Expression}
@@ -138,3 +144,23 @@ with_parameter text tree d =
     new_word text d.parameters (name_token tree) >>= λ word.
     parameter_values text tree >>= λ values.
     Ok (record d { parameters = d.parameters ++ (word, values) ∷ [] })
+
+-- ---- any statement; `fun` has no effect of its own
+
+abbrev pub with_after_fun : ScopeParts → SynAfterFun → Defined → Result Defined Refusal
+with_after_fun text (after_fun.Way1 word ctrl control) d = with_control text Atomic control d
+with_after_fun text (after_fun.Way2 ctrl control) d = with_control text Normal control d
+with_after_fun text (after_fun.Way3 big bigraph) d = with_bigraph text bigraph d
+with_after_fun text (after_fun.Way4 react rule) d = with_rule text rule d
+
+abbrev pub with_statement : ScopeParts → SynStmt → Defined → Result Defined Refusal
+with_statement text (statements.Way1 word fun ctrl control) d = with_control text Atomic control d
+with_statement text (statements.Way2 fun rest) d = with_after_fun text rest d
+with_statement text (statements.Way3 ctrl control) d = with_control text Normal control d
+with_statement text (statements.Way4 big bigraph) d = with_bigraph text bigraph d
+with_statement text (statements.Way5 react rule) d = with_rule text rule d
+with_statement text (statements.Way6 parameter) d = with_parameter text parameter d
+
+-- statements in the order of the text
+abbrev pub with_statements : ScopeParts → List SynStmtsItem → Defined → Result Defined Refusal
+with_statements text = in_turn (λ (item : SynStmtsItem). with_statement text item.part1)

@@ -5,8 +5,9 @@ ghost use Rattle.bg_base.specs.declared.labels.Value.{Value};
 ghost use Rattle.bg_base.specs.declared.signature.Kind.{Kind};
 ghost use Rattle.bg_statements.specs.Defined.{Defined, visible_with};
 ghost use Rattle.bg_statements.specs.Sound.{IsSound, nothing};
-ghost use Rattle.bg_statements.specs.Statements.{with_control, with_bigraph, with_rule, with_parameter};
+ghost use Rattle.bg_statements.specs.Statements.{with_control, with_bigraph, with_rule, with_parameter, with_statements};
 ghost use Rattle.bg_syntax.specs.declared.tree.expressions.SynE.{SynE};
+ghost use Rattle.bg_syntax.specs.declared.tree.models.SynStmtsItem.{SynStmtsItem};
 ghost use Rattle.bg_syntax.specs.declared.tree.statements.SynBigraph.{SynBigraph};
 ghost use Rattle.bg_syntax.specs.declared.tree.statements.SynControl.{SynControl};
 ghost use Rattle.bg_syntax.specs.declared.tree.statements.SynParam.{SynParam};
@@ -31,6 +32,8 @@ pub fn definitions_stay_sound()
         → with_bigraph text tree before ≡ Ok after → IsSound after }
     ensures rule { (text : ScopeParts) (tree : SynReact) (before after : Defined) → IsSound before
         → with_rule text tree before ≡ Ok after → IsSound after }
+    ensures statements { (text : ScopeParts) (items : List SynStmtsItem) (before after : Defined) → IsSound before
+        → with_statements text items before ≡ Ok after → IsSound after }
     ensures parameter { (text : ScopeParts) (tree : SynParam) (before after : Defined) → IsSound before
         → with_parameter text tree before ≡ Ok after → IsSound after }
 {}

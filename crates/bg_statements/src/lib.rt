@@ -2,8 +2,10 @@
 //!
 //! - [`Definitions`]: what the statements so far define: controls, bigraphs, rules, parameters, and the signature reached.
 //! - [`laws`]: definitions stay sound, and what expressions come to is valid.
+//! - [`Definitions::add_statement`], [`Definitions::add_statements`]: a statement of any kind, and statements in their order.
 //! - [`Definitions::add_control`], [`Definitions::add_bigraph`], [`Definitions::add_rule`],
-//!   [`Definitions::add_parameter`]: one statement.
+//!   [`Definitions::add_parameter`]: one statement of each kind.
+//! - [`RuleValue`], [`Whole`]: what a rule comes to, and the bigraph of a whole expression.
 #![tactic(auto)]
 
 mod bigraphs;
@@ -15,6 +17,7 @@ mod parameters;
 mod rule_code;
 mod rule_values;
 mod rules;
+mod statements;
 
 pub use definitions::Definitions;
 pub use rule_values::{RuleValue, Whole};

@@ -1,10 +1,13 @@
 use super::*;
-use bg_base::Kind;
+use crate::rule_values::Setting;
+use bg_base::Signature;
+use bg_machine::Met;
+use bg_rules::{Condition, Side};
 use bg_syntax::parse;
-use bg_syntax::tree::statements::{SynAfterFun, SynStmt};
 use bg_text::tokens;
 use bg_values::{Cause, LimitWord, NameTable, Refusal, Scope, Stop};
 use std::alloc::{AllocError, Global};
+use std::mem::replace;
 use std::test::*;
 
 /// What the statements of a text come to.
@@ -17,42 +20,6 @@ enum Outcome {
     NoMemory,
     /// The text is no model.
     NoModel,
-}
-
-fn define(
-    alloc: Global,
-    definitions: &mut Definitions,
-    text: &Scope,
-    statement: &SynStmt,
-) -> Result<(), Stop> {
-    match statement {
-        SynStmt::Way1(_, _, _, control) => {
-            definitions.add_control(alloc, text, Kind::Atomic, control)
-        }
-        SynStmt::Way2(_, after) => define_after_fun(alloc, definitions, text, after),
-        SynStmt::Way3(_, control) => definitions.add_control(alloc, text, Kind::Normal, control),
-        SynStmt::Way4(_, bigraph) => definitions.add_bigraph(alloc, text, bigraph),
-        SynStmt::Way5(_, rule) => definitions.add_rule(alloc, text, rule),
-        SynStmt::Way6(parameter) => definitions.add_parameter(alloc, text, parameter),
-    }
-}
-
-fn define_after_fun(
-    alloc: Global,
-    definitions: &mut Definitions,
-    text: &Scope,
-    after: &SynAfterFun,
-) -> Result<(), Stop> {
-    match after {
-        SynAfterFun::Way1(_, _, control) => {
-            definitions.add_control(alloc, text, Kind::Atomic, control)
-        }
-        SynAfterFun::Way2(_, control) => {
-            definitions.add_control(alloc, text, Kind::Normal, control)
-        }
-        SynAfterFun::Way3(_, bigraph) => definitions.add_bigraph(alloc, text, bigraph),
-        SynAfterFun::Way4(_, rule) => definitions.add_rule(alloc, text, rule),
-    }
 }
 
 /// What the statements of the text come to.
@@ -76,16 +43,11 @@ fn come(alloc: Global, bytes: &[u8]) -> Outcome {
         names: &nothing,
     };
     let mut definitions = Definitions::new(alloc);
-    for item in tree.part1.iter() {
-        match define(alloc, &mut definitions, &text, &item.part1) {
-            Ok(()) => {}
-            Err(Stop::Refused(refusal)) => {
-                return Outcome::Refused(refusal.cause, byte_of(&text, &refusal));
-            }
-            Err(Stop::OutOfMemory) => return Outcome::NoMemory,
-        }
+    match definitions.add_statements(alloc, &text, tree.part1.as_slice()) {
+        Ok(()) => Outcome::Defined(definitions.signature().len()),
+        Err(Stop::Refused(refusal)) => Outcome::Refused(refusal.cause, byte_of(&text, &refusal)),
+        Err(Stop::OutOfMemory) => Outcome::NoMemory,
     }
-    Outcome::Defined(definitions.signature().len())
 }
 
 /// The first byte of the refused token.
@@ -132,10 +94,16 @@ fn outcome_behind(alloc: Global, marked: &str) -> Option<(Outcome, usize)> {
 }
 
 /// Statements that are refused, with a mark before the token of the refusal.
-const REFUSED: [(&str, Cause); 54] = [
+const REFUSED: [(&str, Cause); 60] = [
     // names
     ("big s = $Room.1;", Cause::UnknownName),
     ("big s = $s;", Cause::UnknownName),
+    ("int n = 1; big s = c($n);", Cause::UnknownName),
+    ("fun big e(a) = c(a); big s = c($a);", Cause::UnknownName),
+    ("react q = D --> D; big s = $q;", Cause::UnknownName),
+    ("big s = $d(1);", Cause::WrongArguments),
+    ("big s = $A(1);", Cause::WrongArguments),
+    ("fun big e = D$.1;", Cause::AtomicHasChild),
     ("ctrl $A = 0;", Cause::DuplicateName),
     ("big $d = D;", Cause::DuplicateName),
     ("int n = 1; string $n = \"a\";", Cause::DuplicateName),
@@ -214,7 +182,7 @@ const REFUSED: [(&str, Cause); 54] = [
 ];
 
 /// Rules that are refused, with a mark before the token of the refusal.
-const REFUSED_RULES: [(&str, Cause); 30] = [
+const REFUSED_RULES: [(&str, Cause); 34] = [
     // names, all before the first value
     (
         "react r = D --> D; react $r = D --> D;",
@@ -256,6 +224,17 @@ const REFUSED_RULES: [(&str, Cause); 30] = [
     ("react $r = {x} | D --> {x} | D;", Cause::NotSolid(2)),
     ("react $r = D | id --> D | id;", Cause::NotSolid(4)),
     ("react $r = 0 --> 0;", Cause::NotSolid(5)),
+    (
+        "react $r = A.(id | id) --> A.(id | id);",
+        Cause::NotSolid(3),
+    ),
+    ("react $r = D | id{x} --> D | {x};", Cause::NotSolid(6)),
+    ("fun react $r = D --> D || D;", Cause::SidesDiffer),
+    // in the text of a definition
+    (
+        "fun big e(a) = c(1 $/ a); react r = e(0).1 --> D;",
+        Cause::ZeroDivisor,
+    ),
     // conditions
     ("react $r = 1 --> 1 if 1 in ctx;", Cause::NotSolid(1)),
     ("react r = D --> D if 1 $in ctx;", Cause::NotSolid(1)),
@@ -266,7 +245,7 @@ const REFUSED_RULES: [(&str, Cause); 30] = [
 ];
 
 /// Rules that are accepted, and how many controls enter the signature by them.
-const DEFINED_RULES: [(&str, u32); 10] = [
+const DEFINED_RULES: [(&str, u32); 11] = [
     ("react r = D --> D;", 0),
     ("react r = A --> A | A @ [0, 0];", 0),
     ("react r = A | A --> A @ [1];", 0),
@@ -275,6 +254,7 @@ const DEFINED_RULES: [(&str, u32); 10] = [
     ("react r = /x E{x} --> /y /x B{x,y}.1;", 0),
     ("fun react r(n) = K(n){x} --> K(n + 1){x};", 0),
     ("fun react r(n) = 1 --> 1 || D.1;", 0),
+    ("react r(n) = 1 --> 1 || D.1;", 0),
     (
         "react r = K(1){x}.1 --> K(2){x}.1 if !K(3){x} in ctx, D in param;",
         3,
@@ -286,10 +266,13 @@ const DEFINED_RULES: [(&str, u32); 10] = [
 ];
 
 /// Statements that are accepted, and how many controls enter the signature by them.
-const DEFINED: [(&str, u32); 22] = [
+const DEFINED: [(&str, u32); 25] = [
     ("", 0),
     ("ctrl N = 16;", 1),
     ("fun ctrl N(a) = 16;", 0),
+    ("ctrl N(a) = 16;", 0),
+    ("fun ctrl N = 0;", 1),
+    ("big e(a) = c(1/0);", 0),
     ("big s = A{};", 0),
     ("big s = {};", 0),
     ("big s = id{};", 0),
@@ -361,6 +344,119 @@ fn accepts_rules(rt: HostRuntime) {
             found == Outcome::Defined(controls.wrapping_add(4)),
             "{case}"
         );
+    }
+}
+
+/// What the statements of a text define, if none is refused.
+fn defined(alloc: Global, bytes: &[u8]) -> Option<Definitions> {
+    if bytes.len() > 100_000_000 {
+        return None;
+    }
+    let tokens = tokens(alloc, bytes).ok()?;
+    if tokens.len() > 100_000_000 {
+        return None;
+    }
+    let tree = parse(alloc, &tokens).ok()?;
+    let nothing = NameTable::new(alloc);
+    let text = Scope {
+        bytes,
+        tokens: tokens.as_slice(),
+        names: &nothing,
+    };
+    let mut definitions = Definitions::new(alloc);
+    definitions
+        .add_statements(alloc, &text, tree.part1.as_slice())
+        .ok()?;
+    Some(definitions)
+}
+
+/// What the last rule of the definitions comes to.
+fn last_value(alloc: Global, mut definitions: Definitions) -> Option<RuleValue> {
+    let mut met = Met::begun(replace(&mut definitions.signature, Signature::new(alloc)));
+    let code = definitions.rule_codes.last()?;
+    let setting = Setting {
+        controls: &definitions.controls,
+        definitions: definitions.codes.as_slice(),
+        values: &[],
+    };
+    setting.rule_value(alloc, code, &mut met).ok()
+}
+
+/// Whether the pattern has to occur, and 2 more where it is looked for in the parameter; 9 for no condition.
+fn kind_of(condition: Option<&Condition>) -> u32 {
+    let Some(condition) = condition else {
+        return 9;
+    };
+    match condition.side {
+        Side::Ctx => u32::from(condition.positive),
+        Side::Param => u32::from(condition.positive) + 2,
+    }
+}
+
+fn entry_or_9(entry: Option<&u32>) -> u32 {
+    match entry {
+        Some(entry) => *entry,
+        None => 9,
+    }
+}
+
+/// How many nodes and edges the redex has, and the reactum; the entries of the map, the first and the last; and how many
+/// conditions, the first and the last.
+fn summary(value: &RuleValue) -> [u32; 10] {
+    let redex = value.redex.big();
+    let reactum = value.reactum.big();
+    let map = value.map.as_slice();
+    let conditions = value.conditions.as_slice();
+    [
+        redex.nodes.len(),
+        redex.edges.len(),
+        reactum.nodes.len(),
+        reactum.edges.len(),
+        value.map.len(),
+        entry_or_9(map.first()),
+        entry_or_9(map.last()),
+        value.conditions.len(),
+        kind_of(conditions.first()),
+        kind_of(conditions.last()),
+    ]
+}
+
+fn summary_behind(alloc: Global, rule: &str) -> Option<[u32; 10]> {
+    let mut bytes = Vec::new(alloc);
+    bytes.extend_from_slice(BEFORE.as_bytes()).ok()?;
+    bytes.extend_from_slice(rule.as_bytes()).ok()?;
+    let value = last_value(alloc, defined(alloc, bytes.as_slice())?)?;
+    Some(summary(&value))
+}
+
+#[test]
+fn rules_come_to_their_parts(rt: HostRuntime) {
+    let alloc = rt.alloc();
+    for (rule, parts) in [
+        ("react r = D --> 1;", [1, 0, 0, 0, 0, 9, 9, 0, 9, 9]),
+        ("react r = A | A --> A | A;", [2, 0, 2, 0, 2, 0, 1, 0, 9, 9]),
+        (
+            "react r = A | A --> A | A @ [1, 0];",
+            [2, 0, 2, 0, 2, 1, 0, 0, 9, 9],
+        ),
+        (
+            "react r = A | A --> A | A.A @ [1, 1];",
+            [2, 0, 3, 0, 2, 1, 1, 0, 9, 9],
+        ),
+        (
+            "react r = /x /y B{x,y}.1 | /z ({z} | D) --> /x E{x} | /y (E{y} | {y});",
+            [2, 2, 2, 2, 0, 9, 9, 0, 9, 9],
+        ),
+        (
+            "react r = D --> D if !D in ctx, E{x} in param;",
+            [1, 0, 1, 0, 0, 9, 9, 2, 0, 3],
+        ),
+        (
+            "react r = A --> A if D in ctx, D in ctx, !D in param @ [0];",
+            [1, 0, 1, 0, 1, 0, 0, 3, 1, 2],
+        ),
+    ] {
+        assert!(rt; summary_behind(alloc, rule) == Some(parts), "{rule}");
     }
 }
 
@@ -505,6 +601,21 @@ fn the_sides_of_a_rule_count_their_terms_together(rt: HostRuntime) {
         return;
     }
     assert!(rt; is_too_large(outcome_of(alloc, &text), LimitWord::Terms, 13));
+}
+
+#[test]
+fn depth_begins_anew_for_each_side_of_a_rule(rt: HostRuntime) {
+    let alloc = rt.alloc();
+    let Ok(mut text) = references(alloc, 1023) else {
+        return;
+    };
+    if text
+        .word("react r = p01022 --> p01022 if p01022 in ctx;\n")
+        .is_err()
+    {
+        return;
+    }
+    assert!(rt; outcome_of(alloc, &text) == Outcome::Defined(1));
 }
 
 #[test]

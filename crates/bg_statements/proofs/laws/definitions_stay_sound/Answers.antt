@@ -1,5 +1,5 @@
 use Rattle.bg_statements.proofs.Sounds.{nothing_sound, control_sound, bigraph_sound, parameter_sound}
-use Rattle.bg_statements.proofs.RulesSound.{rule_sound}
+use Rattle.bg_statements.proofs.RulesSound.{rule_sound, statements_sound}
 use Rattle.bg_statements.proofs.laws.definitions_stay_sound.Goals as goal
 
 pub returns-clause-none : goal.returns-clause-none
@@ -13,6 +13,9 @@ returns-clause-bigraph c = bigraph_sound
 
 pub returns-clause-rule : goal.returns-clause-rule
 returns-clause-rule c = rule_sound
+
+pub returns-clause-statements : goal.returns-clause-statements
+returns-clause-statements c = statements_sound
 
 pub returns-clause-parameter : goal.returns-clause-parameter
 returns-clause-parameter c = parameter_sound
