@@ -10,8 +10,8 @@ composed     identities of 64 places joined by *, 16,384 of them
 nested       330 nodes in one another, 197 nodes in each; three symbols K a level
 closed       250 closures of names around 65,000 operands
 doubled      a bigraph that is joined with itself 16 times over
-referred     1,024 references, each in the definition before
-arguments    4,096 controls with arguments, used a million times in all
+referred     1,023 references, each in the definition before
+arguments    4,000 controls with arguments, used a million times in all
 definitions  8 MiB of definitions
 rules        8 MiB of rules without formals, each with a condition
 terms        a bigraph that is joined with itself until it has too many terms
@@ -47,7 +47,7 @@ def nested(levels, width):
 
 
 def arguments():
-    # 4,096 nodes of controls with arguments in one bigraph, which 250 statements evaluate anew
+    # 4,000 nodes of controls with arguments in one bigraph, which 250 statements evaluate anew
     lines = ['fun ctrl K(n) = 0;\nfun big k(n) = ' + ' | '.join(f'K(n + {m})' for m in range(4000)) + ';\n']
     for n in range(250):
         lines.append(f'big s{n} = k(0);\n')
