@@ -600,7 +600,8 @@ fn the_sides_of_a_rule_count_their_terms_together(rt: HostRuntime) {
     if text.word("react r = p00018 --> p00017;\n").is_err() {
         return;
     }
-    assert!(rt; is_too_large(outcome_of(alloc, &text), LimitWord::Terms, 13));
+    // The term that is one too many is the second p00000 in the text of p00001.
+    assert!(rt; is_too_large(outcome_of(alloc, &text), LimitWord::Terms, 38));
 }
 
 #[test]
