@@ -39,7 +39,7 @@ impl Arguments {
 }
 
 /// The formulas of arguments. Refuses the first name that is not visible. Linear in the trees.
-pub(crate) fn arguments_of(alloc: Global, scope: &Scope, tree: &SynArgs) -> Result<Arguments, Stop>
+pub fn arguments_of(alloc: Global, scope: &Scope, tree: &SynArgs) -> Result<Arguments, Stop>
     ensures { lowering.ReadsArguments result (operands_read scope.now (trees.arguments tree.now)) }
 {
     let operands = match tree {
@@ -49,8 +49,8 @@ pub(crate) fn arguments_of(alloc: Global, scope: &Scope, tree: &SynArgs) -> Resu
     Ok(Arguments { operands })
 }
 
-/// How many arguments there are.
-pub(crate) fn argument_count(tree: &SynArgs) -> usize
+/// How many arguments there are. Takes constant time.
+pub fn argument_count(tree: &SynArgs) -> usize
     ensures { result ≡ length (trees.arguments tree.now) }
 {
     match tree {

@@ -1,5 +1,5 @@
 -- Choices by their numbers: a number's digits, where the bases are the lengths of the lists.
-use Rattle.std.proofs.Common.{◌≡◌, ℕ, zero, suc, ◌+◌, ◌-◌, ◌*◌, ◌/◌, ◌%◌, ◌<◌, ◌≤◌, List, [], ◌∷◌, ◌++◌, map, length, drop, reverse, get_or, slice_get, All, Some, None, Option, refl, sym, ap, subst, ◌∙◌, arith, drop-cons}
+use Rattle.std.proofs.Common.{◌≡◌, ℕ, zero, suc, ◌+◌, ◌-◌, ◌*◌, ◌/◌, ◌%◌, ◌<◌, ◌≤◌, List, [], ◌∷◌, ◌++◌, map, length, drop, reverse, get_or, slice_get, Some, None, Option, refl, sym, ap, subst, ◌∙◌, arith, drop-cons}
 use Rattle.std.proofs.Math.Arith.{mod-mul}
 use Rattle.std.proofs.Math.Nat.{div-div-eq-div-mul, div-eq_of_lt, div-add-mod, div-one, mod-one, mod-lt, mod-eq_of_lt, mul_comm, mul-pos, suc-mul, zero-mul}
 use Rattle.std.proofs.Math.Seq.{drop-length}
@@ -101,6 +101,24 @@ module _ {X : Type 0} where
           let over = picks.over in
           absurd (omega (arith, some, over, zero_left))
 
+  -- where a list is empty there is no choice
+  with_each_none : (xs : List X) → with_each xs [] ≡ []
+  unfolding with_each
+  with_each_none [] = refl
+  with_each_none (x ∷ xs) = with_each_none xs
+
+  empty_list : (list : List X) (rest : List (List X)) → length list ≡ 0 → with_each list rest ≡ []
+  unfolding with_each
+  empty_list [] rest none = refl
+  empty_list (x ∷ xs) rest none = absurd cc
+
+  no_choices : (lists : List (List X)) (at : ℕ) (list : List X) → at < length lists → list ≡ get_or lists at list → length list ≡ 0 → choices lists ≡ []
+  unfolding choices
+  no_choices [] at list below is none = absurd (omega (arith, below))
+  no_choices (xs ∷ lists) zero list below is none = empty_list xs (choices lists) (ap length (sym is) ∙ none)
+  no_choices (xs ∷ lists) (suc at) list below is none =
+      ap (with_each xs) (no_choices lists at list (omega (arith, below)) is none) ∙ with_each_none xs
+
   -- the items of the lists from `at` on are picked, the last first
   pub record Going (lists : List (List X)) (number at : ℕ) (values : List X) (left : ℕ) : Type 0 where
     pub within : at ≤ length lists
@@ -116,15 +134,14 @@ module _ {X : Type 0} where
 
   -- after one step more
   pub going_on : (lists : List (List X)) (number at : ℕ) (values : List X) (left : ℕ) (list : List X) (x : X) (values' : List X) → Going lists number at values left
-      → 0 < at → All (λ list. 0 < length list) lists → list ≡ get_or lists (at - 1) list → slice_get list (left % length list) ≡ Some x → values' ≡ values ++ x ∷ []
+      → 0 < at → 0 < length list → list ≡ get_or lists (at - 1) list → slice_get list (left % length list) ≡ Some x → values' ≡ values ++ x ∷ []
       → Going lists number (at - 1) values' (left / length list)
-  going_on lists number at values left list x values' going some full is digit pushed =
+  going_on lists number at values left list x values' going some long is digit pushed =
       let within = going.within in
       let below : at - 1 < length lists = omega (arith, some, within) in
       let again : suc (at - 1) ≡ at = omega (arith, some) in
       let opened : drop (at - 1) lists ≡ list ∷ drop at lists =
       drop-cons lists (at - 1) list below ∙ ap (λ l. l ∷ drop (suc (at - 1)) lists) (sym is) ∙ ap (λ n. list ∷ drop n lists) again in
-      let long : 0 < length list = subst (λ l. 0 < length l) (sym is) (full (at - 1) list below) in
       let turned : reverse values' ≡ x ∷ reverse values = ap reverse pushed ∙ reverse-append values (x ∷ []) in
       record {
         within = omega (arith, some, within);
@@ -139,3 +156,10 @@ module _ {X : Type 0} where
   going_last {lists} {number} {at} {values} {left} going none =
       let first : at ≡ 0 = omega (arith, none) in
       subst (λ n. Picks (drop n lists) number (reverse values) left) first going.picks
+
+  -- an empty list was met
+  pub picked_nothing : (lists : List (List X)) (number at : ℕ) (values : List X) (left : ℕ) (list : List X) → Going lists number at values left → 0 < at
+      → list ≡ get_or lists (at - 1) list → length list ≡ 0 → None ≡ slice_get (choices lists) number
+  picked_nothing lists number at values left list going some is none =
+      let within = going.within in
+      sym (ap (λ cs. slice_get cs number) (no_choices lists (at - 1) list (omega (arith, some, within)) is none))

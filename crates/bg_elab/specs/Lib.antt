@@ -1,1 +1,4 @@
 pub mod Choices
+pub mod References
+pub mod Blocks
+pub mod Systems

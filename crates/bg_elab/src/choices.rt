@@ -1,6 +1,5 @@
 //! The choices of values for the parameters of a reference.
-ghost use Rattle.std.specs.Prelude.{◌≡◌, ◌<◌, ◌%◌, Some, length, reverse, slice_get, All, IfOk, List};
-ghost use Rattle.bg_base.specs.declared.labels.Value.{Value as ValueOf};
+ghost use Rattle.std.specs.Prelude.{◌≡◌, ◌<◌, ◌%◌, Some, length, reverse, slice_get, IfOk};
 ghost use Rattle.bg_elab.specs.Choices.{choices};
 
 use bg_base::Value;
@@ -8,11 +7,10 @@ use bg_lists::{Duplicate, Mem, Rows};
 use std::alloc::Global;
 
 /// The choice with that number, counted from 0, of one value from each list, where the value of the first list varies
-/// slowest; none behind the last choice. No list is empty. Of no lists there is one choice, which is empty. Makes no other
-/// choice, so it costs time and memory in proportion to the number of lists and to the texts among the values that it takes.
+/// slowest; none behind the last choice, and none at all where a list is empty. Of no lists there is one choice, which is
+/// empty. Makes no other choice, so it costs time and memory in proportion to the number of lists and to the texts among the values that it takes.
 /// Of 4,294,967,295 lists or more there is no memory for a choice.
 pub fn choice(alloc: Global, lists: &[Rows<Value>], number: u32) -> Mem<Option<Rows<Value>>>
-    requires { All (λ (list : List ValueOf). 0 < length list) lists.now }
     ensures { IfOk result (λ found. found ≡ slice_get (choices lists.now) number) }
 {
     let mut left = number;
@@ -21,6 +19,9 @@ pub fn choice(alloc: Global, lists: &[Rows<Value>], number: u32) -> Mem<Option<R
     while at > 0 {
         at -= 1;
         let list = &lists[at];
+        if list.is_empty() {
+            return Ok(None);
+        }
         values.push(digit(alloc, list, left)?)?;
         left /= list.len();
     }

@@ -1,6 +1,3 @@
-ghost use Rattle.std.specs.Prelude.{◌≡◌, ◌<◌, false, length, All, List};
-ghost use Rattle.bg_base.specs.declared.labels.Value.{Value as ValueOf};
-
 use super::*;
 use bg_base::Value;
 use bg_lists::{Mem, Rows};
@@ -15,19 +12,9 @@ fn list(alloc: Global, first: i64, count: i64) -> Mem<Rows<Value>> {
     Rows::try_from_vec(values)
 }
 
-/// Whether one of the lists is empty.
-fn has_empty(lists: &[Rows<Value>]) -> bool
-    ensures { (result ≡ false) → All (λ (list : List ValueOf). 0 < length list) lists.now }
-{
-    lists.iter().any(|list| list.is_empty())
-}
-
 /// The choice with that number of one value of 1, 2; of 3; and of 4, 5, 6.
 fn of_three(alloc: Global, number: u32) -> Mem<Option<Rows<Value>>> {
     let lists = [list(alloc, 1, 2)?, list(alloc, 3, 1)?, list(alloc, 4, 3)?];
-    if has_empty(&lists) {
-        return Ok(None);
-    }
     choice(alloc, &lists, number)
 }
 
@@ -68,4 +55,12 @@ fn of_no_lists_there_is_one_choice(rt: HostRuntime) {
     let alloc = rt.alloc();
     assert!(rt; matches!(choice(alloc, &[], 0), Ok(Some(values)) if values.is_empty()));
     assert!(rt; matches!(choice(alloc, &[], 1), Ok(None)));
+}
+
+#[test]
+fn of_an_empty_list_there_is_no_choice(rt: HostRuntime) {
+    let alloc = rt.alloc();
+    let empty = Rows::from_vec(Vec::new(alloc));
+    let lists = [Rows::from_vec(Vec::new(alloc)), empty];
+    assert!(rt; matches!(choice(alloc, &lists, 0), Ok(None)));
 }

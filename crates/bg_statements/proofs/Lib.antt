@@ -1,4 +1,9 @@
 pub mod Turns
-mod Codes
-mod Sounds
-mod RulesSound
+pub mod Codes
+pub mod Sounds
+pub mod RulesSound
+pub mod UseCodes
+pub mod TestsPassed
+pub mod UsesFit
+pub mod WholeValues
+pub mod UsesAre

@@ -95,3 +95,8 @@ kept_after defined = defined >>= λ d. Ok (kept d)
 -- a call keeps what a statement defines behind the others, or stops as it is refused
 abbrev pub Defines : {X : Type 0} → Result X Stop → Kept → Kept → (Defined → Result Defined Refusal) → Type 0
 Defines result old new statement = (d : Defined) → old ≡ kept d → Goes result new (kept_after (statement d))
+
+-- it is what is kept of some definitions
+pub record IsKept (k : Kept) : Type 0 where
+  pub defined : Defined
+  pub is : k ≡ kept defined

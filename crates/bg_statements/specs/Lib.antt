@@ -5,4 +5,5 @@ pub mod Settings
 pub mod Defined
 pub mod Statements
 pub mod Calls
+pub mod Uses
 pub mod Sound

@@ -11,6 +11,7 @@ use Rattle.bg_statements.specs.RuleValues.{Setting, rule_valued}
 use Rattle.bg_syntax.specs.declared.tree.names.SynFormals.{SynFormals}
 use Rattle.bg_syntax.specs.declared.tree.names.SynFormals.TheVariants as formals_ways
 use Rattle.bg_syntax.specs.declared.tree.names.SynMoreLowItem.{SynMoreLowItem}
+use Rattle.bg_syntax.specs.declared.tree.models.SynParamsItem.{SynParamsItem}
 use Rattle.bg_syntax.specs.declared.tree.models.SynStmtsItem.{SynStmtsItem}
 use Rattle.bg_syntax.specs.declared.tree.statements.SynAfterFun.{SynAfterFun}
 use Rattle.bg_syntax.specs.declared.tree.statements.SynAfterFun.TheVariants as after_fun
@@ -164,3 +165,7 @@ with_statement text (statements.Way6 parameter) d = with_parameter text paramete
 -- statements in the order of the text
 abbrev pub with_statements : ScopeParts → List SynStmtsItem → Defined → Result Defined Refusal
 with_statements text = in_turn (λ (item : SynStmtsItem). with_statement text item.part1)
+
+-- the parameters of a block, each as a statement
+abbrev pub with_parameters : ScopeParts → List SynParamsItem → Defined → Result Defined Refusal
+with_parameters text = in_turn (λ (item : SynParamsItem). with_parameter text item.part1)

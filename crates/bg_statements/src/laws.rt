@@ -3,7 +3,10 @@ ghost use Rattle.std.specs.Prelude.{◌≡◌, ℕ, List, Ok};
 ghost use Rattle.bg_base.specs.declared.big.Big.{Big};
 ghost use Rattle.bg_base.specs.declared.labels.Value.{Value};
 ghost use Rattle.bg_base.specs.declared.signature.Kind.{Kind};
+ghost use Rattle.bg_machine.specs.declared.met.Met.{Met};
 ghost use Rattle.bg_statements.specs.Defined.{Defined, visible_with};
+ghost use Rattle.bg_statements.specs.RuleValues.{Setting, whole_value};
+ghost use Rattle.bg_statements.specs.Settings.{IsWholeValue};
 ghost use Rattle.bg_statements.specs.Sound.{IsSound, nothing};
 ghost use Rattle.bg_statements.specs.Statements.{with_control, with_bigraph, with_rule, with_parameter, with_statements};
 ghost use Rattle.bg_syntax.specs.declared.tree.expressions.SynE.{SynE};
@@ -47,4 +50,10 @@ pub fn values_fit_the_signature_reached()
         → value depth (expand (shapes_of d.controls) (meanings_of (shapes_of d.controls) d.expressions) env expression)
         (record { signature = d.signature; nodes = nodes; edges = edges; terms = terms }) ≡ Ok (big, after)
         → FitsShapes (shapes_of d.controls) after.signature big }
+{}
+
+/// The bigraph of a whole expression has its nodes, and its edges, numbered 0, 1, 2 and so on; it is valid, without idle
+/// edges, and within the limits, and its outer names are names that a user wrote.
+pub fn whole_values_are_numbered_from_zero()
+    ensures { (s : Setting) (e : Expression) (met : Met) (big : Big) (after : Met) → whole_value s e met ≡ Ok (big, after) → IsWholeValue big }
 {}

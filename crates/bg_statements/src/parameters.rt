@@ -2,6 +2,7 @@
 use crate::Definitions;
 use crate::names::check_new;
 use bg_lists::Rows;
+use bg_syntax::tree::models::SynParamsItem;
 use bg_syntax::tree::statements::SynParam;
 use bg_values::{Scope, Stop, parameter_name, parameter_values};
 use std::alloc::Global;
@@ -9,6 +10,22 @@ use std::alloc::Global;
 impl Definitions {
     ghost use Rattle.bg_statements.specs.Calls.{Defines};
     ghost use Rattle.bg_statements.specs.Statements as definition;
+
+    /// The parameters of a block in the order of the text, or the first refusal of one of them. Costs what they cost one by
+    /// one.
+    pub fn add_parameters(
+        &mut self,
+        alloc: Global,
+        text: &Scope,
+        items: &[SynParamsItem],
+    ) -> Result<(), Stop>
+        ensures { Defines result self.old self.new (definition.with_parameters text.now items.now) }
+    {
+        for item in items {
+            self.add_parameter(alloc, text, &item.part1)?;
+        }
+        Ok(())
+    }
 
     /// A parameter with its values. It refuses with the first cause: 42 at its name where it is there, then what
     /// [`parameter_values`] refuses. Linear in the statement and the values.

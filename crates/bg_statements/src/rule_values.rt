@@ -133,7 +133,12 @@ impl<'a> Setting<'a> {
     }
 
     /// The bigraph of a whole expression.
-    fn whole_value(&self, alloc: Global, code: &[Operation], met: &mut Met) -> Result<Whole, Stop>
+    pub(crate) fn whole_value(
+        &self,
+        alloc: Global,
+        code: &[Operation],
+        met: &mut Met,
+    ) -> Result<Whole, Stop>
         ensures { (s : definition.Setting) (e : Expression) → self.now ≡ coded_setting s → code.now ≡ code_of e
             → GivesAnd result met.new (definition.whole_value s e met.old) }
     {
@@ -247,7 +252,7 @@ fn redex_tested(at: u32, redex: Whole, reactum: &Big, map: &Map) -> Result<Patte
 }
 
 /// The pattern that the bigraph is, or 49.
-fn solid_at(at: u32, big: Whole) -> Result<Pattern, Stop>
+pub(crate) fn solid_at(at: u32, big: Whole) -> Result<Pattern, Stop>
     ensures { Gives result (definition.solid_at at big) }
 {
     match Pattern::new(big.into_big()) {

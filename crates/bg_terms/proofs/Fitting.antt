@@ -71,7 +71,7 @@ same_atomic signature more big fits (Node node) = by (row_of big.nodes node) ref
         same_kind signature more row.control
         (All-member (λ (r : NodeRow). r.control < length signature) big.nodes fits.controls_there (row_from_row_of big.nodes node is).0)
 
-still_fits : (signature more : List Control) (big : Big) → IsValidUnder signature big → IsValidUnder (signature ++ more) big
+pub still_fits : (signature more : List Control) (big : Big) → IsValidUnder signature big → IsValidUnder (signature ++ more) big
 still_fits signature more big fits =
     valid_under_from_rows (signature ++ more) big fits.valid
     (λ row m.

@@ -6,8 +6,8 @@ mod Edges
 pub mod Closures
 pub mod Valid
 mod Labels
-mod Ordered
-mod Fitting
+pub mod Ordered
+pub mod Fitting
 mod Placed
 pub mod ShapesFit
 mod Made
@@ -16,3 +16,5 @@ pub mod Ports
 pub mod InTurn
 pub mod Controls
 mod Later
+pub mod OuterNames
+pub mod Limits

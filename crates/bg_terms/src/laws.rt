@@ -1,6 +1,8 @@
 //! Laws of expressions. A call does nothing.
-ghost use Rattle.std.specs.Prelude.{◌≡◌, ◌≤◌, ◌+◌, ◌++◌, ◌∷◌, [], ℕ, true, List, All, length, is_none, Ok};
+ghost use Rattle.std.specs.Prelude.{◌≡◌, ◌≤◌, ◌+◌, ◌++◌, ◌∷◌, [], ℕ, true, List, All, IsTrue, length, is_none, Ok};
+ghost use Rattle.bg_algebra.specs.Frame.{is_plain};
 ghost use Rattle.bg_base.specs.declared.big.Big.{Big};
+ghost use Rattle.bg_base.specs.declared.names.Name.{Name};
 ghost use Rattle.bg_lists.specs.Lists.{Mem};
 ghost use Rattle.bg_base.specs.declared.labels.Value.{Value};
 ghost use Rattle.bg_base.specs.declared.signature.Control.{Control};
@@ -56,6 +58,22 @@ pub fn closures_take_edge_numbers_in_the_order_of_the_text()
 /// What a term comes to is a valid bigraph.
 pub fn values_are_valid()
     ensures { (depth : ℕ) (term : Term) (before after : Reached) (big : Big) → value depth term before ≡ Ok (big, after) → IsValid big }
+{}
+
+/// The outer names of what a term comes to are names that a user wrote.
+pub fn outer_names_of_values_are_plain()
+    ensures { (depth : ℕ) (term : Term) (before after : Reached) (big : Big) → value depth term before ≡ Ok (big, after)
+        → All (λ (name : Name). IsTrue (is_plain name)) big.outer }
+{}
+
+/// What a term comes to has at most 65,536 nodes, as many edges, as many regions and as many sites.
+pub fn values_are_within_the_limits()
+    ensures nodes { (depth : ℕ) (term : Term) (before after : Reached) (big : Big) → value depth term before ≡ Ok (big, after)
+        → length big.nodes ≤ 65536 }
+    ensures edges { (depth : ℕ) (term : Term) (before after : Reached) (big : Big) → value depth term before ≡ Ok (big, after)
+        → length big.edges ≤ 65536 }
+    ensures places { (depth : ℕ) (term : Term) (before after : Reached) (big : Big) → value depth term before ≡ Ok (big, after)
+        → (big.regions ≤ 65536) × (length big.sites ≤ 65536) }
 {}
 
 /// Where each control symbol has as many names as its control has ports, at most 16, and controls with the same label are
