@@ -1,8 +1,9 @@
 -- Choices by their numbers: a number's digits, where the bases are the lengths of the lists.
-use Rattle.std.proofs.Common.{◌≡◌, ℕ, zero, suc, ◌+◌, ◌-◌, ◌*◌, ◌/◌, ◌%◌, ◌<◌, ◌≤◌, List, [], ◌∷◌, ◌++◌, map, length, drop, reverse, get_or, slice_get, Some, None, Option, refl, sym, ap, subst, ◌∙◌, arith, drop-cons}
+use Rattle.std.proofs.Common.{◌≡◌, Bool, true, false, ℕ, zero, suc, ◌+◌, ◌-◌, ◌*◌, ◌/◌, ◌%◌, ◌<◌, ◌≤◌, List, [], ◌∷◌, ◌++◌, map, length, drop, reverse, get_or, slice_get, Some, None, Option, refl, sym, ap, subst, ◌∙◌, arith, drop-cons}
 use Rattle.std.proofs.Math.Arith.{mod-mul}
 use Rattle.std.proofs.Math.Nat.{div-div-eq-div-mul, div-eq_of_lt, div-add-mod, div-one, mod-one, mod-lt, mod-eq_of_lt, mul_comm, mul-pos, suc-mul, zero-mul}
 use Rattle.std.proofs.Math.Seq.{drop-length}
+use Rattle.std.proofs.lemmas.Bool.{false≢true}
 use Rattle.std.proofs.lemmas.List.{length-map, length-append, reverse-append}
 use Rattle.bg_lists.specs.Lists.{At, at_here, at_there}
 use Rattle.bg_lists.proofs.Places.{At-append_left, At-append_right, At-map, At-below, At-slice_get, slice_get-At}
@@ -18,6 +19,11 @@ whole n size some none =
     let less = mod-lt n some in
     let both : size * 0 + n % size ≡ n = subst (λ q. size * q + n % size ≡ n) none (div-add-mod n size) in
     omega (arith, less, both)
+
+-- what is not empty has an item
+pub some_there : (count : ℕ) (empty : Bool) → (count ≡ 0 → empty ≡ true) → empty ≡ false → 0 < count
+some_there zero empty none is = absurd (false≢true (sym is ∙ none refl))
+some_there (suc count) empty none is = omega arith
 
 module _ {X : Type 0} where
   -- each of m items before each of n choices: these are m * n choices

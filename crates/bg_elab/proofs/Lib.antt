@@ -1,2 +1,12 @@
+mod BlockRead
+mod BlockValued
+mod Classes
 mod Digits
+mod Elaborated
+mod Labels
+mod Numbers
+mod Picked
+mod ReferenceRead
+mod Turns
+mod UsesMade
 pub mod SystemsKept

@@ -70,7 +70,7 @@ classes_below text spaces tree read is =
     turns_keep (with_class text spaces) (λ (r : List Listed × ℕ). AreBelow r.1 r.0) (trees_of_classes tree)
     (λ class m before after. one_class text spaces class before after) ([], 0) read (λ l m. elim m [ ]) is
 
-block_below : (text : ScopeParts) (init : SynRef) (classes : SynClasses) (preds : SynPreds) (spaces : NameSpacesParts) (block : Block)
+pub block_below : (text : ScopeParts) (init : SynRef) (classes : SynClasses) (preds : SynPreds) (spaces : NameSpacesParts) (block : Block)
     → block_read text init classes preds spaces ≡ Ok block → AreBelow block.classes block.rules
 block_below text init classes preds spaces block is =
     let a = bound (reference_read text [] spaces.bigraphs init) _ block is in

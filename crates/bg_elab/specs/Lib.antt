@@ -2,3 +2,5 @@ pub mod Choices
 pub mod References
 pub mod Blocks
 pub mod Systems
+pub mod Calls
+pub mod Elaboration

@@ -1,5 +1,5 @@
-use Rattle.std.proofs.Common.{◌-◌, ◌/◌, subst, sym}
-use Rattle.bg_elab.proofs.Digits.{Going, going_first, going_on, going_last, picked_all, picked_none, picked_nothing}
+use Rattle.std.proofs.Common.{◌-◌, ◌/◌, length, subst, sym}
+use Rattle.bg_elab.proofs.Digits.{Going, going_first, going_on, going_last, picked_all, picked_none, picked_nothing, some_there}
 use Rattle.bg_elab.proofs.choices.choice.Goals as goal
 
 -- before the first step nothing is picked
@@ -11,7 +11,7 @@ pub loop-at-preserved : goal.loop-at-preserved
 loop-at-preserved c =
     subst (λ long. Going c.args.lists.now c.args.number (c.loop-at.at - 1) c.push.new.self.items (c.loop-at.left / long)) (sym c.len.ensures.count)
     (going_on c.args.lists.now c.args.number c.loop-at.at c.loop-at.values.items c.loop-at.left c.index-lists-at.result c.in_ok-digit.field-0 c.push.new.self.items
-    c.loop-at.invariant c.loop-at-test.true (c.if-is_empty.false) c.index-lists-at.is c.in_ok-digit.ensures c.in_ok-push.ensures.items)
+    c.loop-at.invariant c.loop-at-test.true (some_there (length c.index-lists-at.result) c.is_empty.result c.is_empty.ensures.1 c.if-is_empty.false) c.index-lists-at.is c.in_ok-digit.ensures c.in_ok-push.ensures.items)
 
 -- a number of which something is left has no choice
 pub returns-then-left-gt0 : goal.returns-then-left-gt0
@@ -25,4 +25,4 @@ returns c = picked_all (going_last c.loop-at.invariant c.loop-at-test.false) c.i
 pub returns-then-is_empty : goal.returns-then-is_empty
 returns-then-is_empty c =
     picked_nothing c.args.lists.now c.args.number c.loop-at.at c.loop-at.values.items c.loop-at.left c.index-lists-at.result c.loop-at.invariant c.loop-at-test.true
-    c.index-lists-at.is c.if-is_empty.true
+    c.index-lists-at.is (c.is_empty.ensures.0 c.if-is_empty.true)

@@ -1,0 +1,27 @@
+use Rattle.std.proofs.Common.{ap, rules}
+use Rattle.bg_elab.specs.Blocks.{trees_of_classes, with_class}
+use Rattle.bg_elab.specs.Calls.{classes_code}
+use Rattle.bg_elab.proofs.Classes.{step_so}
+use Rattle.bg_elab.proofs.Turns.{coded_so, first_goes, first_stops}
+use Rattle.bg_statements.specs.InTurn.{in_turn}
+use Rattle.bg_syntax.specs.declared.tree.models.SynMoreClItem.{SynMoreClItem}
+use Rattle.bg_elab.proofs.blocks.add_all_classes.Goals as goal
+
+pub returns-in_err-add_class-in-Way1 : goal.returns-in_err-add_class-in-Way1
+returns-in_err-add_class-in-Way1 c = λ done starts.
+    let step = with_class c.args.text.now c.args.spaces.now in
+    let stopped = first_stops classes_code step (λ (item : SynMoreClItem). item.part2) (trees_of_classes c.args.tree.now) c.in-Way1.first c.in-Way1.more.items
+    (ap trees_of_classes c.in-Way1.is) (done, c.args.class.now) c.in_err-add_class-in-Way1.field-0.0 (c.in_err-add_class-in-Way1.ensures done starts) in
+    search (rules, stopped)
+
+pub returns-in_ok-add_class-in-Way1 : goal.returns-in_ok-add_class-in-Way1
+returns-in_ok-add_class-in-Way1 c = λ done starts.
+    let step = with_class c.args.text.now c.args.spaces.now in
+    let first = coded_so classes_code (step c.in-Way1.first (done, c.args.class.now)) (c.add_class.new.listed.items, c.add_class.new.class)
+    (c.in_ok-add_class-in-Way1.ensures done starts) in
+    first_goes classes_code step (λ (item : SynMoreClItem). item.part2) (trees_of_classes c.args.tree.now) c.in-Way1.first c.in-Way1.more.items
+    (ap trees_of_classes c.in-Way1.is) (done, c.args.class.now) c.add_classes.result (c.add_classes.new.listed.items, c.add_classes.new.class)
+    (c.add_class.new.listed.items, c.add_class.new.class) c.as_slice.result.now
+    c.as_slice.ensures.value first
+    (step_so c.add_classes.result (c.add_classes.new.listed.items, c.add_classes.new.class) c.add_class.new.listed.items c.add_class.new.class
+    (in_turn (λ (item : SynMoreClItem). step item.part2) c.as_slice.result.now) c.add_classes.ensures first.found first.stands)

@@ -1,0 +1,23 @@
+use Rattle.std.proofs.Common.{◌++◌, [], List, ap, rules}
+use Rattle.bg_elab.specs.Blocks.{Listed, trees_of_refs, with_listed}
+use Rattle.bg_elab.specs.Calls.{listed_codes}
+use Rattle.bg_elab.proofs.Turns.{coded_so, first_goes, first_stops}
+use Rattle.bg_syntax.specs.declared.tree.models.SynMoreRefItem.{SynMoreRefItem}
+use Rattle.bg_elab.proofs.blocks.add_listed.Goals as goal
+
+pub returns-in_err-add_one_listed-in-Way1 : goal.returns-in_err-add_one_listed-in-Way1
+returns-in_err-add_one_listed-in-Way1 c = λ done starts.
+    let code = λ (read : List Listed). [] ++ listed_codes read in
+    let step = with_listed c.args.text.now c.args.spaces.now c.args.class in
+    let stopped = first_stops code step (λ (item : SynMoreRefItem). item.part2) (trees_of_refs c.args.tree.now) c.in-Way1.first c.in-Way1.more.items
+    (ap trees_of_refs c.in-Way1.is) done c.in_err-add_one_listed-in-Way1.field-0.0 (c.in_err-add_one_listed-in-Way1.ensures done starts) in
+    search (rules, stopped)
+
+pub returns-in_ok-add_one_listed-in-Way1 : goal.returns-in_ok-add_one_listed-in-Way1
+returns-in_ok-add_one_listed-in-Way1 c = λ done starts.
+    let code = λ (read : List Listed). [] ++ listed_codes read in
+    let step = with_listed c.args.text.now c.args.spaces.now c.args.class in
+    let first = coded_so code (step c.in-Way1.first done) c.add_one_listed.new.listed.items (c.in_ok-add_one_listed-in-Way1.ensures done starts) in
+    first_goes code step (λ (item : SynMoreRefItem). item.part2) (trees_of_refs c.args.tree.now) c.in-Way1.first c.in-Way1.more.items
+    (ap trees_of_refs c.in-Way1.is) done c.add_more_listed.result c.add_more_listed.new.listed.items c.add_one_listed.new.listed.items c.as_slice.result.now
+    c.as_slice.ensures.value first (c.add_more_listed.ensures first.found first.stands)

@@ -1,0 +1,279 @@
+//! The block of a model, with its names looked up.
+ghost use Rattle.std.specs.Prelude.{◌≡◌, ◌+◌, IfOk};
+ghost use Rattle.bg_elab.specs.Blocks as definition;
+ghost use Rattle.bg_elab.specs.Calls.{Adds, AddsClasses, block_code, classes_code, listed_codes, reference_codes};
+ghost use Rattle.bg_statements.specs.Calls.{ReadsAs};
+ghost use Rattle.bg_statements.specs.InTurn.{in_turn};
+ghost use Rattle.bg_syntax.specs.declared.tree.models.SynMoreClItem.{SynMoreClItem as MoreClasses};
+ghost use Rattle.bg_syntax.specs.declared.tree.models.SynMoreRefItem.{SynMoreRefItem as MoreReferences};
+
+use crate::references::{Reference, reference_of};
+use bg_lists::{Mem, OutOfMemory, Rows};
+use bg_statements::NameSpaces;
+use bg_syntax::tree::expressions::SynRef;
+use bg_syntax::tree::models::{
+    SynClass, SynClasses, SynMoreClItem, SynMoreRefItem, SynPreds, SynRefs,
+};
+use bg_values::{NameTable, Scope, Stop};
+use std::alloc::Global;
+
+/// A reference to a rule, and its class, by the position of the class's bracket, counted from 0.
+#[derive(Debug, Drop)]
+pub struct Listed {
+    pub class: u32,
+    pub reference: Reference,
+}
+
+/// The block: what a run begins with, the references to rules in the order of the text, the number of classes, and the
+/// references of the predicates.
+#[derive(Debug, Drop)]
+pub struct Block {
+    pub init: Reference,
+    pub rules: Rows<Listed>,
+    pub classes: u32,
+    pub preds: Rows<Reference>,
+}
+
+/// The block of these trees. Refuses the first name that cannot stand, in the order of the text. No name is visible in the
+/// arguments of `init`; in the others the parameters are. Linear in the trees, and in the values of the parameters that occur
+/// in each reference.
+pub(crate) fn block_of(
+    alloc: Global,
+    text: &Scope,
+    spaces: &NameSpaces,
+    init: &SynRef,
+    classes: &SynClasses,
+    preds: &SynPreds,
+) -> Result<Block, Stop>
+    ensures { ReadsAs block_code result (definition.block_read text.now init.now classes.now preds.now spaces.now) }
+{
+    let init = reference_of(alloc, text, &NameTable::new(alloc), spaces.bigraphs, init)?;
+    let (rules, classes) = classes_of(alloc, text, spaces, classes)?;
+    let preds = preds_of(alloc, text, spaces, preds)?;
+    Ok(Block {
+        init,
+        rules,
+        classes,
+        preds,
+    })
+}
+
+// ---- classes
+
+/// The references of all classes, and how many classes there are.
+fn classes_of(
+    alloc: Global,
+    text: &Scope,
+    spaces: &NameSpaces,
+    tree: &SynClasses,
+) -> Result<(Rows<Listed>, u32), Stop>
+    ensures { ReadsAs classes_code result (definition.classes_read text.now spaces.now tree.now) }
+{
+    let mut listed = Vec::new(alloc);
+    let mut class = 0;
+    add_all_classes(alloc, text, spaces, tree, &mut listed, &mut class)?;
+    let rows = Rows::try_from_vec(listed)?;
+    Ok((rows, class))
+}
+
+fn add_all_classes(
+    alloc: Global,
+    text: &Scope,
+    spaces: &NameSpaces,
+    tree: &SynClasses,
+    listed: &mut Vec<Listed>,
+    class: &mut u32,
+) -> Result<(), Stop>
+    ensures { AddsClasses result listed.old.items class.old listed.new.items class.new (in_turn (definition.with_class text.now spaces.now) (definition.trees_of_classes tree.now)) }
+{
+    match tree {
+        SynClasses::Way1(first, more) => {
+            add_class(alloc, text, spaces, first, listed, class)?;
+            add_classes(alloc, text, spaces, more.as_slice(), listed, class)
+        }
+        SynClasses::Way2 => Ok(()),
+    }
+}
+
+fn add_classes(
+    alloc: Global,
+    text: &Scope,
+    spaces: &NameSpaces,
+    items: &[SynMoreClItem],
+    listed: &mut Vec<Listed>,
+    class: &mut u32,
+) -> Result<(), Stop>
+    ensures { AddsClasses result listed.old.items class.old listed.new.items class.new (in_turn (λ (item : MoreClasses). definition.with_class text.now spaces.now item.part2) items.now) }
+{
+    for item in items {
+        add_class(alloc, text, spaces, &item.part2, listed, class)?;
+    }
+    Ok(())
+}
+
+/// Adds the references of one class, and counts it.
+fn add_class(
+    alloc: Global,
+    text: &Scope,
+    spaces: &NameSpaces,
+    tree: &SynClass,
+    listed: &mut Vec<Listed>,
+    class: &mut u32,
+) -> Result<(), Stop>
+    ensures { AddsClasses result listed.old.items class.old listed.new.items class.new (definition.with_class text.now spaces.now tree.now) }
+{
+    add_listed(alloc, text, spaces, *class, refs_of(tree), listed)?;
+    let next = one_more(*class)?;
+    *class = next;
+    Ok(())
+}
+
+/// The references of a class.
+fn refs_of(tree: &SynClass) -> &SynRefs
+    ensures { definition.trees_of_refs result.now ≡ definition.refs_of_class tree.now }
+{
+    match tree {
+        SynClass::Way1(_, refs, _) => refs,
+        SynClass::Way2(_, refs, _) => refs,
+    }
+}
+
+/// One more, where 32 bits can count it.
+fn one_more(count: u32) -> Mem<u32>
+    ensures { IfOk result (λ more. more ≡ count + 1) }
+{
+    match count.checked_add(1) {
+        Some(more) => Ok(more),
+        None => Err(OutOfMemory),
+    }
+}
+
+/// Adds the references of a class.
+fn add_listed(
+    alloc: Global,
+    text: &Scope,
+    spaces: &NameSpaces,
+    class: u32,
+    tree: &SynRefs,
+    listed: &mut Vec<Listed>,
+) -> Result<(), Stop>
+    ensures { Adds listed_codes result listed.old.items listed.new.items (in_turn (definition.with_listed text.now spaces.now class) (definition.trees_of_refs tree.now)) }
+{
+    match tree {
+        SynRefs::Way1(first, more) => {
+            add_one_listed(alloc, text, spaces, class, first, listed)?;
+            add_more_listed(alloc, text, spaces, class, more.as_slice(), listed)
+        }
+        SynRefs::Way2 => Ok(()),
+    }
+}
+
+fn add_more_listed(
+    alloc: Global,
+    text: &Scope,
+    spaces: &NameSpaces,
+    class: u32,
+    items: &[SynMoreRefItem],
+    listed: &mut Vec<Listed>,
+) -> Result<(), Stop>
+    ensures { Adds listed_codes result listed.old.items listed.new.items (in_turn (λ (item : MoreReferences). definition.with_listed text.now spaces.now class item.part2) items.now) }
+{
+    for item in items {
+        add_one_listed(alloc, text, spaces, class, &item.part2, listed)?;
+    }
+    Ok(())
+}
+
+fn add_one_listed(
+    alloc: Global,
+    text: &Scope,
+    spaces: &NameSpaces,
+    class: u32,
+    tree: &SynRef,
+    listed: &mut Vec<Listed>,
+) -> Result<(), Stop>
+    ensures { Adds listed_codes result listed.old.items listed.new.items (definition.with_listed text.now spaces.now class tree.now) }
+{
+    let reference = reference_of(alloc, text, spaces.parameters, spaces.rules, tree)?;
+    listed.push(Listed { class, reference })?;
+    Ok(())
+}
+
+// ---- predicates
+
+/// The references of the predicates.
+fn preds_of(
+    alloc: Global,
+    text: &Scope,
+    spaces: &NameSpaces,
+    tree: &SynPreds,
+) -> Result<Rows<Reference>, Stop>
+    ensures { ReadsAs reference_codes result (definition.preds_read text.now spaces.now tree.now) }
+{
+    let mut preds = Vec::new(alloc);
+    add_all_preds(alloc, text, spaces, tree, &mut preds)?;
+    let rows = Rows::try_from_vec(preds)?;
+    Ok(rows)
+}
+
+fn add_all_preds(
+    alloc: Global,
+    text: &Scope,
+    spaces: &NameSpaces,
+    tree: &SynPreds,
+    preds: &mut Vec<Reference>,
+) -> Result<(), Stop>
+    ensures { Adds reference_codes result preds.old.items preds.new.items (in_turn (definition.with_pred text.now spaces.now) (definition.refs_of_preds tree.now)) }
+{
+    match tree {
+        SynPreds::Way1(_, _, _, refs, _, _) => add_preds(alloc, text, spaces, refs, preds),
+        SynPreds::Way2 => Ok(()),
+    }
+}
+
+fn add_preds(
+    alloc: Global,
+    text: &Scope,
+    spaces: &NameSpaces,
+    tree: &SynRefs,
+    preds: &mut Vec<Reference>,
+) -> Result<(), Stop>
+    ensures { Adds reference_codes result preds.old.items preds.new.items (in_turn (definition.with_pred text.now spaces.now) (definition.trees_of_refs tree.now)) }
+{
+    match tree {
+        SynRefs::Way1(first, more) => {
+            add_pred(alloc, text, spaces, first, preds)?;
+            add_more_preds(alloc, text, spaces, more.as_slice(), preds)
+        }
+        SynRefs::Way2 => Ok(()),
+    }
+}
+
+fn add_more_preds(
+    alloc: Global,
+    text: &Scope,
+    spaces: &NameSpaces,
+    items: &[SynMoreRefItem],
+    preds: &mut Vec<Reference>,
+) -> Result<(), Stop>
+    ensures { Adds reference_codes result preds.old.items preds.new.items (in_turn (λ (item : MoreReferences). definition.with_pred text.now spaces.now item.part2) items.now) }
+{
+    for item in items {
+        add_pred(alloc, text, spaces, &item.part2, preds)?;
+    }
+    Ok(())
+}
+
+fn add_pred(
+    alloc: Global,
+    text: &Scope,
+    spaces: &NameSpaces,
+    tree: &SynRef,
+    preds: &mut Vec<Reference>,
+) -> Result<(), Stop>
+    ensures { Adds reference_codes result preds.old.items preds.new.items (definition.with_pred text.now spaces.now tree.now) }
+{
+    let reference = reference_of(alloc, text, spaces.parameters, spaces.bigraphs, tree)?;
+    preds.push(reference)?;
+    Ok(())
+}
