@@ -1,7 +1,6 @@
 use super::*;
 use crate::rule_values::Setting;
-use bg_base::{Ident, Label, Signature, Value, is_ident};
-use bg_lists::{Duplicate, Rows};
+use bg_base::Signature;
 use bg_machine::Met;
 use bg_rules::{Condition, Side};
 use bg_syntax::parse;
@@ -683,28 +682,7 @@ fn uses_of(alloc: Global, bytes: &[u8]) -> Option<Uses> {
     }
 }
 
-/// The label `r` with that argument, or with none.
-fn label(alloc: Global, argument: Option<i64>) -> Option<Label> {
-    let word = b"r";
-    if !is_ident(word) {
-        return None;
-    }
-    let Ok(name) = Ident::from_bytes(alloc, word) else {
-        return None;
-    };
-    let mut args = Vec::new(alloc);
-    if let Some(number) = argument {
-        if args.push(Value::Int(number)).is_err() {
-            return None;
-        }
-    }
-    match Rows::try_from_vec(args) {
-        Ok(args) => Some(Label { name, args }),
-        Err(_) => None,
-    }
-}
-
-/// What uses are evaluated for: bigraphs 0 to 3, and rule 0.
+/// Statements, and a block with a parameter of its own.
 const USED: &[u8] =
     b"ctrl A = 0; fun ctrl K(n) = 1; big s = A.A.1; big w = A.id; fun big p(n) = K(n){x}; big e = 1; \
     fun react r(n) = K(n){x} --> K(n + 1){x}; int m = 3; begin brs int k = 4; init s; rules = []; end";
@@ -718,60 +696,4 @@ fn the_parameters_of_a_block_are_defined_behind_the_others(rt: HostRuntime) {
     assert_eq!(rt; spaces.rules.len(), 1);
     assert_eq!(rt; spaces.parameters.find(b"m"), Some(0));
     assert_eq!(rt; spaces.parameters.find(b"k"), Some(1));
-}
-
-#[test]
-fn a_run_begins_with_a_ground_bigraph(rt: HostRuntime) {
-    let alloc = rt.alloc();
-    let uses = uses_of(alloc, USED).expect(&rt, "uses");
-    let mut signature = uses.signature().copy(alloc).expect(&rt, "memory");
-    let host = uses.host(alloc, 7, 0, &[], &mut signature);
-    assert!(rt; matches!(host, Ok(host) if host.next_node() == 2));
-    let refused = uses.host(alloc, 7, 1, &[], &mut signature);
-    assert!(rt;
-        matches!(
-            refused,
-            Err(Stop::Refused(Refusal {
-                cause: Cause::NotGround,
-                token: 7
-            }))
-        )
-    );
-    let absent = uses.host(alloc, 7, 4, &[], &mut signature);
-    assert!(rt;
-        matches!(
-            absent,
-            Err(Stop::Refused(Refusal {
-                cause: Cause::UnknownName,
-                token: 7
-            }))
-        )
-    );
-}
-
-#[test]
-fn a_use_meets_the_controls_of_its_arguments(rt: HostRuntime) {
-    let alloc = rt.alloc();
-    let uses = uses_of(alloc, USED).expect(&rt, "uses");
-    let mut signature = uses.signature().copy(alloc).expect(&rt, "memory");
-    assert_eq!(rt; signature.len(), 1);
-    let name = label(alloc, Some(5)).expect(&rt, "memory");
-    let predicate = uses.predicate(alloc, 7, 2, name, &mut signature);
-    assert!(rt; matches!(predicate, Ok(predicate) if predicate.label.args.len() == 1));
-    assert_eq!(rt; signature.len(), 2);
-    let name = label(alloc, Some(5)).expect(&rt, "memory");
-    let rule = uses.rule(alloc, 7, 0, name, 4, &mut signature);
-    assert!(rt; matches!(rule, Ok(rule) if rule.class() == 4));
-    assert_eq!(rt; signature.len(), 3);
-    let name = label(alloc, None).expect(&rt, "memory");
-    let refused = uses.predicate(alloc, 7, 3, name, &mut signature);
-    assert!(rt;
-        matches!(
-            refused,
-            Err(Stop::Refused(Refusal {
-                cause: Cause::NotSolid(1),
-                token: 7
-            }))
-        )
-    );
 }
