@@ -10,3 +10,10 @@ mod ReferenceRead
 mod Turns
 mod UsesMade
 pub mod SystemsKept
+mod Said
+mod SaidRows
+mod SaidFormulas
+mod SaidExpressions
+mod SaidStatements
+mod SaidModels
+pub mod Readings

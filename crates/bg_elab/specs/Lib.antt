@@ -4,3 +4,4 @@ pub mod Blocks
 pub mod Systems
 pub mod Calls
 pub mod Elaboration
+pub mod Reading

@@ -3,7 +3,7 @@ ghost use Rattle.std.specs.Prelude.{◌≡◌, ◌<◌, length, slice_get};
 ghost use Rattle.std.specs.Option.{option_copied};
 ghost use Rattle.bg_elab.specs.Elaboration as definition;
 
-use bg_text::Token;
+use bg_text::{LexFault, Token};
 use bg_values::{Cause, LimitWord, Refusal, Scope, Stop};
 use thiserror::Error;
 
@@ -30,6 +30,23 @@ pub enum ModelFault {
     OutOfMemory,
 }
 
+impl From<LexFault> for ModelFault {
+    ghost use Rattle.bg_elab.specs.Reading.{of_lexical};
+
+    ghost from_gives = { λ fault made. made ≡ of_lexical fault };
+
+    fn from(fault: LexFault) -> ModelFault {
+        match fault {
+            LexFault::Bad { code, offset } => ModelFault::Bad {
+                code,
+                detail: Detail::Nothing,
+                offset,
+            },
+            LexFault::OutOfMemory => ModelFault::OutOfMemory,
+        }
+    }
+}
+
 /// The fault by which the model of the text is refused.
 pub(crate) fn fault_of(text: &Scope, stop: Stop) -> ModelFault
     requires { length text.now.bytes < 4294967295 }
@@ -49,7 +66,7 @@ fn refused(text: &Scope, refusal: Refusal) -> ModelFault
     ModelFault::Bad {
         code: refusal.cause.code(),
         detail: detail_of(refusal.cause),
-        offset: offset_of(text, refusal.token),
+        offset: offset_of(text.bytes, text.tokens, refusal.token),
     }
 }
 
@@ -64,22 +81,14 @@ fn detail_of(cause: Cause) -> Detail
 }
 
 /// The byte where the token begins; behind the last byte, where there is no such token.
-fn offset_of(text: &Scope, token: u32) -> u32
-    requires { length text.now.bytes < 4294967295 }
-    ensures { result ≡ definition.offset_of text.now token }
+pub(crate) fn offset_of(bytes: &[u8], tokens: &[Token], token: u32) -> u32
+    requires { length bytes.now < 4294967295 }
+    ensures { result ≡ definition.start_or (length bytes.now) (slice_get tokens.now token) }
 {
-    match find(text.tokens, token) {
+    match find(tokens, token) {
         Some(found) => found.start,
-        None => end_of(text),
+        None => bytes.len() as u32,
     }
-}
-
-/// The number of bytes.
-fn end_of(text: &Scope) -> u32
-    requires { length text.now.bytes < 4294967295 }
-    ensures { result ≡ length text.now.bytes }
-{
-    text.bytes.len() as u32
 }
 
 /// The token with that number.

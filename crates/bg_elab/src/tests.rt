@@ -2,10 +2,8 @@ use super::*;
 use bg_base::Value;
 use bg_lists::{Mem, Rows};
 use bg_rules::{Rule, System};
-use bg_syntax::parse;
-use bg_text::tokens;
 use bg_values::LimitWord;
-use std::alloc::Global;
+use std::alloc::{AllocError, Global};
 use std::test::*;
 
 fn list(alloc: Global, first: i64, count: i64) -> Mem<Rows<Value>> {
@@ -81,57 +79,57 @@ enum Outcome {
         next_node: u32,
     },
     Fault(ModelFault),
-    /// The text is no model.
-    NoModel,
 }
 
-/// The system of the text, or its refusal, where the text is a model.
-fn model(alloc: Global, bytes: &[u8]) -> Option<Result<System, ModelFault>> {
+/// The system of the text, or its refusal.
+fn model(alloc: Global, bytes: &[u8]) -> Result<System, ModelFault> {
     if bytes.len() > 100_000_000 {
-        return None;
+        return Err(ModelFault::OutOfMemory);
     }
-    let tokens = tokens(alloc, bytes).ok()?;
-    if tokens.len() > 100_000_000 {
-        return None;
-    }
-    let tree = parse(alloc, &tokens).ok()?;
-    Some(elaborate(alloc, bytes, &tokens, &tree))
+    read(alloc, bytes)
 }
 
 /// What the text comes to.
 fn comes_to(alloc: Global, bytes: &[u8]) -> Outcome {
     match model(alloc, bytes) {
-        Some(Ok(system)) => Outcome::System {
+        Ok(system) => Outcome::System {
             controls: system.signature().len(),
             rules: system.rules().len(),
             classes: system.classes(),
             preds: system.preds().len(),
             next_node: system.init().next_node(),
         },
-        Some(Err(fault)) => Outcome::Fault(fault),
-        None => Outcome::NoModel,
+        Err(fault) => Outcome::Fault(fault),
     }
 }
 
 /// The text without the mark `$`, and where the mark stood.
-fn unmarked(alloc: Global, marked: &str) -> Option<(Vec<u8>, u32)> {
+fn unmarked(alloc: Global, marked: &str) -> Result<(Vec<u8>, u32), AllocError> {
     let mut bytes = Vec::new(alloc);
     let mut mark: u32 = 0;
     let mut count: u32 = 0;
     for byte in marked.as_bytes() {
         if *byte == b'$' {
             mark = count;
-        } else if bytes.push(*byte).is_err() {
-            return None;
         } else {
+            bytes.push(*byte)?;
             count = count.wrapping_add(1);
         }
     }
-    Some((bytes, mark))
+    Ok((bytes, mark))
 }
 
 /// Models that are refused, with a mark at the byte of the refusal.
-const REFUSED: [(&str, u8, Detail); 15] = [
+const REFUSED: [(&str, u8, Detail); 19] = [
+    // tokens go before the grammar, and the grammar before names
+    (
+        "big s = Room.1; ctrl ctrl; int n = $1.5;",
+        24,
+        Detail::Nothing,
+    ),
+    ("big s = Room.1; ctrl $ctrl;", 31, Detail::Nothing),
+    ("big s = Room.1$", 31, Detail::Nothing),
+    ("big s = $Room.1;", 41, Detail::Nothing),
     ("$", 53, Detail::Nothing),
     ("        $", 53, Detail::Nothing),
     ("ctrl A = 0; $", 53, Detail::Nothing),
@@ -248,11 +246,9 @@ const SYSTEMS: [(&str, u32, usize, u32, usize, u32); 5] = [
 ];
 
 #[test]
-fn refuses_at_the_first_place(rt: HostRuntime) {
+fn refuses_at_the_first_place(rt: HostRuntime) -> Result<(), Fail> {
     for (marked, code, detail) in REFUSED {
-        let Some((text, offset)) = unmarked(rt.alloc(), marked) else {
-            return;
-        };
+        let (text, offset) = unmarked(rt.alloc(), marked)?;
         let wanted = Outcome::Fault(ModelFault::Bad {
             code,
             detail,
@@ -260,6 +256,7 @@ fn refuses_at_the_first_place(rt: HostRuntime) {
         });
         assert!(rt; comes_to(rt.alloc(), text.as_slice()) == wanted, "{marked}");
     }
+    Ok(())
 }
 
 #[test]
@@ -291,9 +288,9 @@ fn digits_of(rule: Option<&Rule>) -> i64 {
 }
 
 /// The number of the rule with that place, 0 where there is no such rule, -1 where the model is no system.
-fn digits_at(found: &Option<Result<System, ModelFault>>, place: usize) -> i64 {
+fn digits_at(found: &Result<System, ModelFault>, place: usize) -> i64 {
     match found {
-        Some(Ok(system)) => digits_of(system.rules().get(place)),
+        Ok(system) => digits_of(system.rules().get(place)),
         _ => -1,
     }
 }

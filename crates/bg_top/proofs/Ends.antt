@@ -5,7 +5,9 @@ use Rattle.std.specs.Option.{IsSomeAnd}
 use Rattle.std.proofs.lemmas.Bool.Decides.{nat_tests, eqb_tells, leb_tells}
 use Rattle.std.specs.declared.option.Option.{Option}
 use Rattle.bg_top.specs.Answer.{Answer, number, too_long}
-use Rattle.bg_top.specs.Check.{parsed, refused}
+use Rattle.bg_rules.specs.Systems.{SystemParts}
+use Rattle.bg_top.specs.Model.{IsModelAnswer, described, refused}
+use Rattle.bg_top.specs.Check.{check_text}
 use Rattle.bg_top.specs.Compose.{IsComposition, composed, told}
 use Rattle.bg_top.specs.Right.{IsReply, IsTextOf, IsTaken, IsRefused, IsRight, IsAccepted, Answers}
 use Rattle.bg_top.specs.Ended.{Ended, IsStopped, ComesWhere}
@@ -14,7 +16,7 @@ use Rattle.bg_top.specs.declared.command.Command.TheVariants.{Compose, Check}
 use Rattle.bg_top.specs.declared.refusal.Refusal.{Refusal}
 use Rattle.bg_top.specs.declared.reply.Status.TheVariants.{Refused}
 use Rattle.bg_top.specs.Numbers.{failed_read, failed_write, out_of_memory}
-use Rattle.bg_top.proofs.Texts.{fault_is_no_model}
+use Rattle.bg_elab.proofs.Readings.{one_reading}
 use Rattle.bg_top.proofs.Law.{composition_of, composed_of}
 
 -- the answer is the text that the command makes of the input
@@ -49,8 +51,9 @@ Match most command input answer test = MatchBool test (answer ≡ too_long) (IsR
 
 reply_ends : (command : Command) (input : List ℕ) (answer : Answer) → IsReply command input answer → IsDone command input answer ⊎ IsTurnedDown command input answer
 reply_ends Compose input answer is = told_ends input (composed input) answer refl is
-reply_ends Check input answer (parsed m) = inl (record { status_is = refl; text_is = (m, refl) })
-reply_ends Check input answer (refused f) = inr (record { status_is = refl; refused = λ taken. fault_is_no_model f taken.1.0 })
+reply_ends Check input answer (described {system = system} read) = inl (record { status_is = refl; text_is = (system, read, refl) })
+reply_ends Check input answer (refused read) =
+    inr (record { status_is = refl; refused = λ taken. let same = one_reading input _ _ read taken.1.1 in absurd cc })
 
 judged : (most : ℕ) (command : Command) (input : List ℕ) (answer : Answer)
     → Match most command input answer (nat_lt most (length input))

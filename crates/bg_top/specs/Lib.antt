@@ -7,3 +7,4 @@ pub mod Refusal
 pub mod Right
 pub mod Words
 pub mod Numbers
+pub mod Model

@@ -3,21 +3,22 @@ use Rattle.std.specs.Prelude.{◌≡◌, ℕ, ◌≤◌, List, length, nat_lt, I
 use Rattle.std.specs.Option.{IsSomeAnd}
 use Rattle.std.specs.declared.option.Option.{Option}
 use Rattle.bg_top.specs.Answer.{Answer, wrong_words, too_long}
-use Rattle.bg_top.specs.Check.{IsCheckAnswer, IsParsed}
+use Rattle.bg_top.specs.Check.{check_text}
 use Rattle.bg_top.specs.Compose.{IsComposition, compose_answer}
 use Rattle.bg_top.specs.Ended.{Writes}
+use Rattle.bg_top.specs.Model.{IsModelAnswer, IsModelText}
 use Rattle.bg_top.specs.declared.command.Command.{Command}
 use Rattle.bg_top.specs.declared.command.Command.TheVariants.{Compose, Check}
 
 -- a right answer of the command to the input
 abbrev pub IsReply : Command → List ℕ → Answer → Type 0
 IsReply Compose input answer = answer ≡ compose_answer input
-IsReply Check input answer = IsCheckAnswer input answer
+IsReply Check input answer = IsModelAnswer check_text input answer
 
 -- the text that the command makes of the input
 abbrev pub IsTextOf : Command → List ℕ → List ℕ → Type 0
 IsTextOf Compose input text = IsComposition input text
-IsTextOf Check input text = IsParsed input text
+IsTextOf Check input text = IsModelText check_text input text
 
 -- the command takes the input: it makes some text of it
 abbrev pub IsTaken : Command → List ℕ → Type 0

@@ -4,6 +4,7 @@
 mod checking;
 mod command;
 mod composition;
+mod counts;
 mod failure;
 mod operands;
 mod refusal;

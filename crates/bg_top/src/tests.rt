@@ -1,6 +1,7 @@
 use crate::engine;
 use bg_io::{MemorySink, MemorySource};
 use std::alloc::{AllocError, Global};
+use std::process::Abort;
 use std::test::Fail;
 
 /// A signature with a normal and an atomic control, a bigraph with a site in its node, and one with a
@@ -132,10 +133,11 @@ fn other_words_are_refused_and_nothing_is_read(rt: HostRuntime) -> Result<(), Fa
     Ok(())
 }
 
-/// Texts, and what `check` answers to each.
-const CHECKED: [(&str, u8, &str); 10] = [
-    ("", 0, "parsed\n"),
-    ("ctrl Room = 0;\nbig s = Room.1;\n", 0, "parsed\n"),
+/// A text, the status of `check`, and what it writes.
+type Checked = (&'static str, u8, &'static str);
+
+/// Texts whose tokens or grammar refuse them.
+const NO_MODELS: [Checked; 9] = [
     ("ctrl A = 0", 1, "refused 31 Unexpected at 1:11\n"),
     ("big s = A ! B;", 1, "refused 31 Unexpected at 1:11\n"),
     ("ctrl A = 0;\n  end", 1, "refused 31 Unexpected at 2:3\n"),
@@ -148,18 +150,202 @@ const CHECKED: [(&str, u8, &str); 10] = [
         "refused 23 NumberTooLarge at 1:10\n",
     ),
     ("big s = K();", 1, "refused 31 Unexpected at 1:11\n"),
+    ("", 1, "refused 53 NoBlock at 1:1\n"),
 ];
 
-#[test]
-fn a_text_is_a_model_or_refused_at_its_first_fault(rt: HostRuntime) -> Result<(), Fail> {
-    let alloc = rt.alloc();
-    for (text, status, line) in CHECKED {
-        let bytes = text.as_bytes().to_vec(alloc)?;
-        let source = MemorySource::new(bytes, 8, Vec::new(alloc));
-        let end = end_of(alloc, &["bigengine", "check"], source, &[])?;
-        assert_eq!(rt; end.status, status);
+/// Statements, of which one is refused.
+const REFUSED: [Checked; 21] = [
+    ("big s = Room.1;", 1, "refused 41 UnknownName at 1:9\n"),
+    (
+        "atomic ctrl A = 0;\nbig s = A.A;\n",
+        1,
+        "refused 44 AtomicHasChild at 2:10\n",
+    ),
+    (
+        "ctrl A = 0;\nctrl A = 0;\n",
+        1,
+        "refused 42 DuplicateName at 2:6\n",
+    ),
+    (
+        "ctrl A = 1;\nbig s = A.1;\n",
+        1,
+        "refused 43 WrongPorts at 2:9\n",
+    ),
+    (
+        "fun big b(x) = 1;\nbig s = b;\n",
+        1,
+        "refused 45 WrongArguments at 2:9\n",
+    ),
+    (
+        "ctrl A = 0;\nbig s = A;\nreact r = A.1 --> A.1;\nbegin brs init s; rules = [ {r} ]; end\n",
+        1,
+        "refused 46 NotGround at 4:16\n",
+    ),
+    (
+        "ctrl A = 0;\nreact r = A.1 --> A.1 || A.1;\n",
+        1,
+        "refused 47 SidesDiffer at 2:7\n",
+    ),
+    (
+        "ctrl A = 0;\nreact r = A.id --> A.id @ [1];\n",
+        1,
+        "refused 48 BadMap at 2:7\n",
+    ),
+    (
+        "atomic ctrl A = 0;\nreact r = A | id --> A | id;\n",
+        1,
+        "refused 49 NotSolid clause 4 at 2:7\n",
+    ),
+    (
+        "atomic ctrl A = 0;\nreact r = 1 --> 1;\n",
+        1,
+        "refused 49 NotSolid clause 1 at 2:7\n",
+    ),
+    (
+        "atomic ctrl A = 0;\nreact r = {x} | A --> {x} | A;\n",
+        1,
+        "refused 49 NotSolid clause 2 at 2:7\n",
+    ),
+    (
+        "atomic ctrl A = 0;\nreact r = 0 --> 0;\n",
+        1,
+        "refused 49 NotSolid clause 5 at 2:7\n",
+    ),
+    (
+        "int n = 9223372036854775807 + 1;",
+        1,
+        "refused 50 NumberOverflow at 1:29\n",
+    ),
+    ("int n = 1 / 0;", 1, "refused 51 ZeroDivisor at 1:11\n"),
+    ("int n = [3:1:2];", 1, "refused 54 EmptyRange at 1:9\n"),
+    ("int n = \"a\";", 1, "refused 55 WrongKind at 1:9\n"),
+    ("ctrl A = 17;", 1, "refused 52 TooLarge arity at 1:10\n"),
+    (
+        "int n = [1:1:4097];",
+        1,
+        "refused 52 TooLarge values at 1:5\n",
+    ),
+    ("big s = id * 0;", 1, "refused 11 FacesDiffer at 1:12\n"),
+    ("big s = {x} + {x};", 1, "refused 13 NamesMeet at 1:13\n"),
+    ("ctrl A = 0;\n", 1, "refused 53 NoBlock at 2:1\n"),
+];
+
+/// The trial building.
+const BUILDING: &str = "ctrl Building = 0;
+ctrl Room = 0;
+atomic ctrl Agent = 1;
+big hall = Building.(Room.1 | Room.1 | Room.1 | Agent{a} | Agent{b});
+react enter = Agent{x} | Room.id --> Room.(Agent{x} | id);
+begin brs
+  init hall;
+  rules = [ {enter} ];
+end
+";
+
+/// A control with an argument, and a rule for three values.
+const COUNTER: &str = "fun atomic ctrl K(x) = 0;
+big s = K(1);
+fun react r(x) = K(x) --> K(x + 1);
+begin brs
+  int n = [0:1:2];
+  init s;
+  rules = [ {r(n)} ];
+end
+";
+
+const MODELS: [Checked; 2] = [
+    (
+        BUILDING,
+        0,
+        "ok controls 3 rules 1 classes 1 preds 0 nodes 6 edges 0\n",
+    ),
+    (
+        COUNTER,
+        0,
+        "ok controls 4 rules 3 classes 1 preds 0 nodes 1 edges 0\n",
+    ),
+];
+
+/// Calls `engine` for `check` on these bytes, where nothing fails.
+fn checked(alloc: Global, bytes: Vec<u8>) -> Result<End, AllocError> {
+    let source = MemorySource::new(bytes, 4096, Vec::new(alloc));
+    end_of(alloc, &["bigengine", "check"], source, &[])
+}
+
+/// Calls `engine` for `check` on each of these texts.
+fn check_all(rt: &impl Abort, alloc: Global, texts: &[Checked]) -> Result<(), Fail> {
+    for (text, status, line) in texts {
+        let end = checked(alloc, text.as_bytes().to_vec(alloc)?)?;
+        assert_eq!(rt; end.status, *status);
         assert_eq!(rt; end.written.as_slice(), line.as_bytes());
     }
+    Ok(())
+}
+
+#[test]
+fn what_is_no_model_is_refused_at_its_first_fault(rt: HostRuntime) -> Result<(), Fail> {
+    check_all(&rt, rt.alloc(), &NO_MODELS)
+}
+
+#[test]
+fn the_first_refusal_of_the_statements_is_told(rt: HostRuntime) -> Result<(), Fail> {
+    check_all(&rt, rt.alloc(), &REFUSED)
+}
+
+#[test]
+fn a_model_is_counted(rt: HostRuntime) -> Result<(), Fail> {
+    check_all(&rt, rt.alloc(), &MODELS)
+}
+
+/// Seventeen bigraphs, each twice the one before it.
+fn doubled(alloc: Global) -> Result<Vec<u8>, AllocError> {
+    let mut text = b"atomic ctrl A = 0;\nbig p0 = A;\n".to_vec(alloc)?;
+    for k in 1..18u8 {
+        let line = format!(in alloc;
+            "big p{k} = p{} | p{};\n",
+            k.saturating_sub(1),
+            k.saturating_sub(1)
+        )?;
+        text.extend_from_slice(line.as_bytes())?;
+    }
+    Ok(text)
+}
+
+#[test]
+fn a_model_has_at_most_65536_nodes(rt: HostRuntime) -> Result<(), Fail> {
+    let alloc = rt.alloc();
+    let end = checked(alloc, doubled(alloc)?)?;
+    assert_eq!(rt; end.status, 1);
+    assert_eq!(rt;
+        end.written.as_slice(),
+        b"refused 52 TooLarge nodes at 19:15\n".as_slice()
+    );
+    Ok(())
+}
+
+#[test]
+fn a_proper_prefix_of_a_model_is_refused(rt: HostRuntime) -> Result<(), Fail> {
+    let alloc = rt.alloc();
+    let bytes = BUILDING.as_bytes();
+    let behind = bytes.len().saturating_sub(1);
+    for size in 0..behind {
+        let end = checked(alloc, bytes[..size].to_vec(alloc)?)?;
+        assert_eq!(rt; end.status, 1);
+    }
+    let end = checked(alloc, bytes[..behind].to_vec(alloc)?)?;
+    assert_eq!(rt; end.status, 0);
+    Ok(())
+}
+
+#[test]
+fn spaces_alone_have_no_block(rt: HostRuntime) -> Result<(), Fail> {
+    let alloc = rt.alloc();
+    let end = checked(alloc, vec![in alloc; b' '; 8_388_608]?)?;
+    assert_eq!(rt; end.status, 1);
+    assert_eq!(rt;
+        end.written.as_slice(),
+        b"refused 53 NoBlock at 1:8388609\n".as_slice()
+    );
     Ok(())
 }
 

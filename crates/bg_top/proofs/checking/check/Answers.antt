@@ -1,14 +1,17 @@
-use Rattle.std.proofs.Common.{◌≡◌, codes, rules}
-use Rattle.bg_top.proofs.Texts.{refused_reply, parsed_reply}
+use Rattle.std.proofs.Common.{ap}
+use Rattle.bg_elab.proofs.Readings.{inside}
+use Rattle.bg_top.specs.Answer.{line}
+use Rattle.bg_top.specs.Check.{check_text, counts_text}
+use Rattle.bg_top.proofs.Texts.{refused_reply, described_reply}
 use Rattle.bg_top.proofs.checking.check.Goals as goal
 
-pub returns-in-Some : goal.returns-in-Some
-returns-in-Some c =
-    let found = rw c.in-Some.is at c.in_ok-code.ensures in
-    refused_reply c.args.input.now _ _ _ _ _ found.0 c.place_of-place.ensures.line c.place_of-place.ensures.column c.refuse.ensures
+pub refuse_at-requires : goal.refuse_at-requires
+refuse_at-requires c = inside c.args.input.now c.in-Err-Bad.code c.in-Err-Bad.detail c.in-Err-Bad.offset c.in-Err-Bad.ensures
 
-pub returns-in_ok-text-in-None : goal.returns-in_ok-text-in-None
-returns-in_ok-text-in-None c =
-    let model = rw c.in-None.is at c.in_ok-code.ensures in
-    let same : c.in_ok-text-in-None.text.items ≡ codes "parsed\n" = search (rules, c.in_ok-text-in-None.ensures.items_if_clones_equal) in
-    parsed_reply c.args.input.now c.in_ok-text-in-None.text.items model same
+pub returns-in-Ok : goal.returns-in-Ok
+returns-in-Ok c =
+    described_reply check_text c.args.input.now _ c.in-Ok.system _ c.in-Ok.ensures (ap (λ counts. line (counts_text counts)) c.counts_of.ensures) c.counted.ensures
+
+pub returns-in-Err-Bad : goal.returns-in-Err-Bad
+returns-in-Err-Bad c =
+    refused_reply check_text c.args.input.now c.in-Err-Bad.code c.in-Err-Bad.offset c.in-Err-Bad.detail _ c.in-Err-Bad.ensures c.refuse_at.ensures
