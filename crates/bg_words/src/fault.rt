@@ -1,0 +1,25 @@
+//! Why words ask for nothing.
+use std::alloc::AllocError;
+use thiserror::Error;
+
+/// Why words ask for nothing.
+#[derive(Clone, Copy, Debug, PartialEq, Eq, Error)]
+pub enum WordsFault {
+    /// They are no command that is built with options that are there, each once and with a number of its form and range.
+    #[error("the words are refused")]
+    Refused,
+    /// There was no memory.
+    #[error("out of memory")]
+    OutOfMemory,
+}
+
+impl From<AllocError> for WordsFault {
+    ghost use Rattle.std.specs.Prelude.{◌≡◌};
+    ghost use Rattle.bg_words.specs.declared.fault.WordsFault.TheVariants.{OutOfMemory};
+
+    ghost from_gives = { λ _ fault. fault ≡ OutOfMemory };
+
+    fn from(_error: AllocError) -> WordsFault {
+        WordsFault::OutOfMemory
+    }
+}
