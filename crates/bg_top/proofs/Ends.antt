@@ -8,11 +8,12 @@ use Rattle.bg_top.specs.Answer.{Answer, number, too_long}
 use Rattle.bg_rules.specs.Systems.{SystemParts}
 use Rattle.bg_top.specs.Model.{IsModelAnswer, described, refused}
 use Rattle.bg_top.specs.Check.{check_text}
-use Rattle.bg_top.specs.Compose.{IsComposition, composed, told}
+use Rattle.bg_top.specs.Compose.{IsComposition, composed}
+use Rattle.bg_top.specs.Refusal.{told}
 use Rattle.bg_top.specs.Right.{IsReply, IsTextOf, IsTaken, IsRefused, IsRight, IsAccepted, Answers}
 use Rattle.bg_top.specs.Ended.{Ended, IsStopped, ComesWhere}
-use Rattle.bg_top.specs.declared.command.Command.{Command}
-use Rattle.bg_top.specs.declared.command.Command.TheVariants.{Compose, Check}
+use Rattle.bg_words.specs.declared.command.Command.{Command}
+use Rattle.bg_words.specs.declared.command.Command.TheVariants.{Compose, Check, Show}
 use Rattle.bg_top.specs.declared.refusal.Refusal.{Refusal}
 use Rattle.bg_top.specs.declared.reply.Status.TheVariants.{Refused}
 use Rattle.bg_top.specs.Numbers.{failed_read, failed_write, out_of_memory}
@@ -53,6 +54,9 @@ reply_ends : (command : Command) (input : List ℕ) (answer : Answer) → IsRepl
 reply_ends Compose input answer is = told_ends input (composed input) answer refl is
 reply_ends Check input answer (described {system = system} read) = inl (record { status_is = refl; text_is = (system, read, refl) })
 reply_ends Check input answer (refused read) =
+    inr (record { status_is = refl; refused = λ taken. let same = one_reading input _ _ read taken.1.1 in absurd cc })
+reply_ends Show input answer (described {system = system} read) = inl (record { status_is = refl; text_is = (system, read, refl) })
+reply_ends Show input answer (refused read) =
     inr (record { status_is = refl; refused = λ taken. let same = one_reading input _ _ read taken.1.1 in absurd cc })
 
 judged : (most : ℕ) (command : Command) (input : List ℕ) (answer : Answer)

@@ -6,7 +6,7 @@ use Rattle.bg_io.specs.Transfers.{ConsumesExactly}
 use Rattle.bg_top.specs.Answer.{Answer, too_long}
 use Rattle.bg_top.specs.Right.{IsReply, ReadsRight, IsRight}
 use Rattle.bg_top.specs.Ended.{Ended, SomeAnswer}
-use Rattle.bg_top.specs.declared.command.Command.{Command}
+use Rattle.bg_words.specs.declared.command.Command.{Command}
 
 -- what ended with an answer of one kind has ended with one of a wider kind
 pub ended_under : (right wider : Answer → Type 0) (status : ℕ) (reads fails writes flushed : Type 0) (old new : Option (List ℕ))

@@ -1,25 +1,39 @@
--- The answers of commands that make a text of a model.
-use Rattle.std.proofs.Common.{◌≡◌, ℕ, List, Result, Ok, Err, sym, ap, subst, ◌∙◌}
-use Rattle.std.specs.Prelude.{IfOk}
+-- The answers of commands, from what they made of their input.
+use Rattle.std.proofs.Common.{◌≡◌, ℕ, List, Result, Ok, Err, IfOk, Vec, refl, sym, ap, subst, ◌∙◌}
+use Rattle.std.specs.Prelude.{IsErr, IsErrAnd}
+use Rattle.std.specs.Global.{Global}
 use Rattle.bg_elab.specs.declared.fault.Detail.{Detail}
+use Rattle.bg_elab.specs.declared.fault.ModelFault.{ModelFault}
 use Rattle.bg_elab.specs.declared.fault.ModelFault.TheVariants.{Bad}
 use Rattle.bg_elab.specs.Reading.{IsReading}
 use Rattle.bg_rules.specs.Systems.{SystemParts}
-use Rattle.bg_top.specs.declared.reply.Reply.{Reply}
-use Rattle.bg_top.specs.declared.reply.Status.TheVariants.{Done}
-use Rattle.bg_top.specs.Answer.{answer_of}
-use Rattle.bg_top.specs.Compose.{told}
-use Rattle.bg_top.specs.Model.{refused_at, IsModelAnswer, described, refused}
+use Rattle.bg_top.specs.declared.failure.Failure.{Failure}
+use Rattle.bg_top.specs.declared.failure.Failure.TheVariants.{Refused, OutOfMemory}
+use Rattle.bg_top.specs.declared.refusal.Refusal.{Refusal}
+use Rattle.bg_top.specs.declared.reply.Status.TheVariants as statuses
+use Rattle.bg_top.specs.Answer.{Answer, line}
+use Rattle.bg_top.specs.Failure.{Tells, Gives, IsTold}
+use Rattle.bg_top.specs.Model.{refused_at, IsModelAnswer, described, refused, Describes, MakesText}
+use Rattle.bg_top.specs.Refusal.{refusal_text, told}
 
-pub refused_reply : {E : Type 0} (text_of : SystemParts → List ℕ) (input : List ℕ) (code offset : ℕ) (detail : Detail) (r : Result Reply E)
-    → IsReading input (Err (Bad code detail offset)) → IfOk r (λ reply. answer_of reply ≡ told (Err (refused_at input code detail offset)))
-    → IfOk r (λ reply. IsModelAnswer text_of input (answer_of reply))
-refused_reply text_of input code offset detail (Ok reply) read is = subst (IsModelAnswer text_of input) (sym is) (refused read)
-refused_reply text_of input code offset detail (Err e) read is = tt
+-- the answer of `compose`
+pub composed_answer : (made : Result (Vec ℕ Global) Failure) (outcome : Result (List ℕ) Refusal) (answer : Answer)
+    → Gives (λ text. text.items) made outcome → IsTold made answer → answer ≡ told outcome
+composed_answer (Ok text) outcome answer made is = is ∙ ap told (sym made)
+composed_answer (Err (Refused refusal)) outcome answer made is = is ∙ ap told (sym made)
+composed_answer (Err OutOfMemory) outcome answer made is = absurd is
 
-pub described_reply : {E : Type 0} (text_of : SystemParts → List ℕ) (input text : List ℕ) (system : SystemParts) (r : Result Reply E)
-    → IsReading input (Ok system) → text ≡ text_of system → IfOk r (λ reply. answer_of reply ≡ record { status = Done; text = text })
-    → IfOk r (λ reply. IsModelAnswer text_of input (answer_of reply))
-described_reply text_of input text system (Ok reply) read text_is is =
-    subst (IsModelAnswer text_of input) (sym (is ∙ ap (λ z. record { status = Done; text = z }) text_is)) (described read)
-described_reply text_of input text system (Err e) read text_is is = tt
+-- the answer of a command that makes a text of a model
+pub model_answer : (text_of : SystemParts → List ℕ) (made : Result (Vec ℕ Global) Failure) (input : List ℕ) (answer : Answer)
+    → MakesText text_of made input → IsTold made answer → IsModelAnswer text_of input answer
+model_answer text_of (Ok text) input answer made is =
+    subst (IsModelAnswer text_of input) (sym (is ∙ ap (λ z. record { status = statuses.Done; text = z }) made.2)) (described made.1)
+model_answer text_of (Err (Refused refusal)) input answer made is =
+    subst (IsModelAnswer text_of input) (sym (is ∙ ap (λ z. record { status = statuses.Refused; text = line (refusal_text z) }) made.4)) (refused made.3)
+model_answer text_of (Err OutOfMemory) input answer made is = absurd is
+
+-- a failure that is handed on
+pub failed_text : (text_of : SystemParts → List ℕ) (input : List ℕ) (made : Result (Vec ℕ Global) Failure) (failure : Failure)
+    → IsErr made → IsErrAnd made (λ other. other ≡ failure) → Describes (Err failure) input → MakesText text_of made input
+failed_text text_of input (Ok text) failure err is so = absurd cc
+failed_text text_of input (Err other) failure err is so = subst (λ z. Describes (Err z) input) (sym is) so

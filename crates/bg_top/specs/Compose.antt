@@ -9,10 +9,9 @@ use Rattle.bg_listing.specs.Combinators.{◌>>=◌}
 use Rattle.bg_listing.specs.Limits.{IsReadableSignature, IsReadableBig}
 use Rattle.bg_listing.specs.Spelling.{signature_text, big_text}
 use Rattle.bg_listing.specs.Verdict.{signature_verdict, big_verdict, line_of}
-use Rattle.bg_top.specs.Answer.{Answer, line}
-use Rattle.bg_top.specs.Refusal.{refusal_text}
+use Rattle.bg_top.specs.Answer.{Answer}
+use Rattle.bg_top.specs.Refusal.{told}
 use Rattle.bg_top.specs.declared.operands.Operands.{Operands}
-use Rattle.bg_top.specs.declared.reply.Status.TheVariants.{Done, Refused}
 use Rattle.bg_top.specs.declared.refusal.Refusal.{Refusal}
 use Rattle.bg_top.specs.declared.refusal.Refusal.TheVariants.{Listing, FacesDiffer, SupportMeets}
 
@@ -72,10 +71,6 @@ joined g f = if not (faces_agree g f) then Err FacesDiffer else (if not (support
 unfoldable pub composed : List ℕ → Result (List ℕ) Refusal
 composed input = operands input >>= λ o. joined o.upper o.lower >>= λ whole. Ok (big_text o.signature whole)
 
--- a text, or the line that refuses the input, as an answer
-abbrev pub told : Result (List ℕ) Refusal → Answer
-told (Ok text) = record { status = Done; text = text }
-told (Err refusal) = record { status = Refused; text = line (refusal_text refusal) }
-
+-- what `compose` answers
 abbrev pub compose_answer : List ℕ → Answer
 compose_answer input = told (composed input)

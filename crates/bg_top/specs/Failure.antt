@@ -1,9 +1,12 @@
 -- Why a command gives no text, and how what it returns tells the outcome.
-use Rattle.std.specs.Prelude.{◌≡◌, Result, Ok, Err}
+use Rattle.std.specs.Prelude.{◌≡◌, ℕ, Result, Ok, Err, Vec}
+use Rattle.std.specs.Global.{Global}
 use Rattle.bg_listing.specs.declared.fault.ListingFault.{ListingFault}
 use Rattle.bg_listing.specs.declared.fault.ListingFault.TheVariants as listing
 use Rattle.bg_algebra.specs.declared.fault.AlgebraFault.{AlgebraFault}
 use Rattle.bg_algebra.specs.declared.fault.AlgebraFault.TheVariants as algebra
+use Rattle.bg_top.specs.Answer.{Answer}
+use Rattle.bg_top.specs.Refusal.{told}
 use Rattle.bg_top.specs.declared.refusal.Refusal.{Refusal}
 use Rattle.bg_top.specs.declared.refusal.Refusal.TheVariants.{Listing, FacesDiffer, SupportMeets, NamesMeet, InnerNamesMeet, WidthsDiffer, NoSuchName, HasInnerNames}
 use Rattle.bg_top.specs.declared.failure.Failure.{Failure}
@@ -32,3 +35,9 @@ Tells OutOfMemory outcome = Unit {0}
 abbrev pub Gives : {A B : Type 0} → (A → B) → Result A Failure → Result B Refusal → Type 0
 Gives view (Ok made) outcome = outcome ≡ Ok (view made)
 Gives view (Err failure) outcome = Tells failure outcome
+
+-- the answer to an input of which this was made; want of memory has none
+abbrev pub IsTold : Result (Vec ℕ Global) Failure → Answer → Type 0
+IsTold (Ok text) answer = answer ≡ told (Ok text.items)
+IsTold (Err (Refused refusal)) answer = answer ≡ told (Err refusal)
+IsTold (Err OutOfMemory) answer = ⊥

@@ -1,10 +1,12 @@
 -- The lines that say why an input is refused.
-use Rattle.std.specs.Prelude.{ℕ, List, [], ◌∷◌, ◌++◌, ◌==◌, if◌then◌else◌, codes}
+use Rattle.std.specs.Prelude.{ℕ, List, [], ◌∷◌, ◌++◌, Result, Ok, Err, ◌==◌, if◌then◌else◌, codes}
 use Rattle.std.specs.Fmt.{decimal}
 use Rattle.bg_elab.specs.declared.fault.Detail.{Detail}
 use Rattle.bg_elab.specs.declared.fault.Detail.TheVariants.{Nothing, Clause, Limit}
 use Rattle.bg_values.specs.declared.refusal.LimitWord.{LimitWord}
 use Rattle.bg_values.specs.declared.refusal.LimitWord.TheVariants as limits
+use Rattle.bg_top.specs.Answer.{Answer, line}
+use Rattle.bg_top.specs.declared.reply.Status.TheVariants as statuses
 use Rattle.bg_top.specs.declared.refusal.Refusal.{Refusal}
 use Rattle.bg_top.specs.declared.refusal.Refusal.TheVariants.{Listing, Model, FacesDiffer, SupportMeets, NamesMeet, InnerNamesMeet, WidthsDiffer, NoSuchName, HasInnerNames}
 
@@ -70,3 +72,8 @@ refusal_text InnerNamesMeet = codes "refused 14 InnerNamesMeet"
 refusal_text WidthsDiffer = codes "refused 15 WidthsDiffer"
 refusal_text NoSuchName = codes "refused 16 NoSuchName"
 refusal_text HasInnerNames = codes "refused 17 HasInnerNames"
+
+-- a text, or the line that refuses the input, as an answer
+abbrev pub told : Result (List ℕ) Refusal → Answer
+told (Ok text) = record { status = statuses.Done; text = text }
+told (Err refusal) = record { status = statuses.Refused; text = line (refusal_text refusal) }

@@ -3,22 +3,25 @@ use Rattle.std.specs.Prelude.{◌≡◌, ℕ, ◌≤◌, List, length, nat_lt, I
 use Rattle.std.specs.Option.{IsSomeAnd}
 use Rattle.std.specs.declared.option.Option.{Option}
 use Rattle.bg_top.specs.Answer.{Answer, wrong_words, too_long}
+use Rattle.bg_show.specs.SystemText.{system_text}
 use Rattle.bg_top.specs.Check.{check_text}
 use Rattle.bg_top.specs.Compose.{IsComposition, compose_answer}
 use Rattle.bg_top.specs.Ended.{Writes}
 use Rattle.bg_top.specs.Model.{IsModelAnswer, IsModelText}
-use Rattle.bg_top.specs.declared.command.Command.{Command}
-use Rattle.bg_top.specs.declared.command.Command.TheVariants.{Compose, Check}
+use Rattle.bg_words.specs.declared.command.Command.{Command}
+use Rattle.bg_words.specs.declared.command.Command.TheVariants.{Compose, Check, Show}
 
 -- a right answer of the command to the input
 abbrev pub IsReply : Command → List ℕ → Answer → Type 0
 IsReply Compose input answer = answer ≡ compose_answer input
 IsReply Check input answer = IsModelAnswer check_text input answer
+IsReply Show input answer = IsModelAnswer system_text input answer
 
 -- the text that the command makes of the input
 abbrev pub IsTextOf : Command → List ℕ → List ℕ → Type 0
 IsTextOf Compose input text = IsComposition input text
 IsTextOf Check input text = IsModelText check_text input text
+IsTextOf Show input text = IsModelText system_text input text
 
 -- the command takes the input: it makes some text of it
 abbrev pub IsTaken : Command → List ℕ → Type 0

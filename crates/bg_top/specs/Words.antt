@@ -1,12 +1,11 @@
 -- What the words of the command line ask for.
-use Rattle.std.specs.Prelude.{List, [], ◌∷◌, None, Some, if◌then◌else◌, String, string_bytes, codes}
-use Rattle.std.specs.Str.{bytes_eq}
+use Rattle.std.specs.Prelude.{List, map, option_map, String, string_bytes}
 use Rattle.std.specs.declared.alloc.Global.{Global}
 use Rattle.std.specs.declared.option.Option.{Option}
-use Rattle.bg_top.specs.declared.command.Command.{Command}
-use Rattle.bg_top.specs.declared.command.Command.TheVariants.{Compose, Check}
+use Rattle.bg_words.specs.declared.asking.Request.{Request}
+use Rattle.bg_words.specs.declared.command.Command.{Command}
+use Rattle.bg_words.specs.Words as words
 
--- the command, where the words are the program's name and one command; else they are refused
+-- the command, where the words are those of a request; else they are refused
 abbrev pub asked : List (String Global) → Option Command
-asked (program ∷ word ∷ []) = if bytes_eq (string_bytes word) (codes "compose") then Some Compose else (if bytes_eq (string_bytes word) (codes "check") then Some Check else None)
-asked _ = None
+asked texts = option_map (λ (request : Request). request.command) (words.asked (map string_bytes texts))

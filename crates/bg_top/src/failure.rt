@@ -5,6 +5,7 @@ use crate::refusal::Refusal;
 use bg_algebra::AlgebraFault;
 use bg_listing::ListingFault;
 use bg_lists::OutOfMemory;
+use std::alloc::AllocError;
 
 /// Why a command gives no text: its input is refused, or there was no memory.
 #[derive(Clone, Copy, Debug, PartialEq, Eq)]
@@ -51,6 +52,16 @@ impl From<OutOfMemory> for Failure {
     ghost from_gives = { λ _ failure. failure ≡ OutOfMemory };
 
     fn from(_: OutOfMemory) -> Failure {
+        Failure::OutOfMemory
+    }
+}
+
+impl From<AllocError> for Failure {
+    ghost use Rattle.bg_top.specs.declared.failure.Failure.TheVariants.{OutOfMemory};
+
+    ghost from_gives = { λ _ failure. failure ≡ OutOfMemory };
+
+    fn from(_: AllocError) -> Failure {
         Failure::OutOfMemory
     }
 }

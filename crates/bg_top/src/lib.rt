@@ -1,11 +1,10 @@
 //! The top call: from the words of the command line and the bytes of the input to the text of the answer.
 #![tactic(auto)]
 
-mod checking;
-mod command;
 mod composition;
 mod counts;
 mod failure;
+mod models;
 mod operands;
 mod refusal;
 mod reply;
@@ -13,7 +12,7 @@ mod reply;
 mod tests;
 mod top;
 
-pub use command::Command;
+pub use bg_words::{Command, Request};
 pub use refusal::Refusal;
 pub use reply::Status;
 pub use top::{MOST, NO_MEMORY, READ_FAILURE, WRITE_FAILURE, engine};

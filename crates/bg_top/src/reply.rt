@@ -1,4 +1,11 @@
-ghost use Rattle.std.specs.Prelude.{◌≡◌};
+ghost use Rattle.std.specs.Prelude.{◌≡◌, Err, IfOk};
+ghost use Rattle.bg_top.specs.Answer.{answer_of};
+ghost use Rattle.bg_top.specs.Failure.{IsTold};
+ghost use Rattle.bg_top.specs.Refusal.{told};
+
+use crate::failure::Failure;
+use crate::refusal::Refusal;
+use std::alloc::{AllocError, Global};
 
 /// What a whole answer says by its status. A failed read, a failed write and want of memory are no answers,
 /// and have numbers of their own.
@@ -35,4 +42,30 @@ impl Status {
 pub struct Reply {
     pub status: Status,
     pub text: Vec<u8>,
+}
+
+/// The answer to an input of which a command made this: its text, or the line that refuses the input.
+pub(crate) fn reply_with(alloc: Global, made: Result<Vec<u8>, Failure>) -> Result<Reply, AllocError>
+    ensures { IfOk result (λ reply. IsTold made (answer_of reply)) }
+{
+    match made {
+        Ok(text) => Ok(Reply {
+            status: Status::Done,
+            text,
+        }),
+        Err(Failure::Refused(refusal)) => refuse(alloc, refusal),
+        Err(Failure::OutOfMemory) => Err(AllocError),
+    }
+}
+
+/// The answer to an input that is refused.
+fn refuse(alloc: Global, refusal: Refusal) -> Result<Reply, AllocError>
+    ensures { IfOk result (λ reply. answer_of reply ≡ told (Err refusal)) }
+{
+    let mut text = refusal.to_string(alloc)?;
+    text.push('\n')?;
+    Ok(Reply {
+        status: Status::Refused,
+        text: text.into_bytes(),
+    })
 }

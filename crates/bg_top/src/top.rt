@@ -7,11 +7,11 @@ ghost use Rattle.bg_top.specs.Answer.{number, answer_of};
 ghost use Rattle.bg_top.specs.Right.{IsReply, IsRight, Answers, IsRefused, IsAccepted};
 ghost use Rattle.bg_top.specs.Ended.{Ended, ComesWhere};
 
-use crate::checking::check;
-use crate::command::{Command, command_of};
-use crate::composition::compose;
-use crate::reply::{Reply, Status};
+use crate::composition::composition;
+use crate::models::{check_text, show_text};
+use crate::reply::{Reply, Status, reply_with};
 use bg_io::{ReadAllFault, Sink, SinkFault, Source, read_all, write_all};
+use bg_words::{Command, WordsFault, request};
 use std::alloc::{AllocError, Global};
 
 /// So many bytes of an input are read; a longer one is refused.
@@ -91,8 +91,10 @@ fn run<S: Source, K: Sink>(alloc: Global, words: &[String], source: &mut S, sink
     ensures source_faults { result ≢ failed_read → S.faults source.new ≡ S.faults source.old }
     ensures sink_faults { result ≢ failed_write → K.faults sink.new ≡ K.faults sink.old }
 {
-    let Some(command) = command_of(words) else {
-        return respond(sink, Status::WrongWords, b"words\n");
+    let command = match request(alloc, words) {
+        Ok(request) => request.command,
+        Err(WordsFault::Refused) => return respond(sink, Status::WrongWords, b"words\n"),
+        Err(WordsFault::OutOfMemory) => return NO_MEMORY,
     };
     let input = match read_all(alloc, source, MOST) {
         Ok(input) => input,
@@ -122,8 +124,9 @@ fn reply_to(alloc: Global, command: Command, input: &[u8]) -> Result<Reply, Allo
     ensures { IfOk result (λ reply. IsReply command input.now (answer_of reply)) }
 {
     match command {
-        Command::Compose => compose(alloc, input),
-        Command::Check => check(alloc, input),
+        Command::Compose => reply_with(alloc, composition(alloc, input)),
+        Command::Check => reply_with(alloc, check_text(alloc, input)),
+        Command::Show => reply_with(alloc, show_text(alloc, input)),
     }
 }
 
