@@ -1,0 +1,13 @@
+//! The listing of a system: its public text.
+//!
+//! - [`write_system`]: appends the listing of a system.
+#![tactic(auto)]
+
+mod lines;
+mod rule_listing;
+mod show;
+
+pub use show::write_system;
+
+#[cfg(test)]
+mod tests;
