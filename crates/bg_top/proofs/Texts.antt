@@ -11,7 +11,8 @@ use Rattle.bg_top.specs.declared.failure.Failure.{Failure}
 use Rattle.bg_top.specs.declared.failure.Failure.TheVariants.{Refused, OutOfMemory}
 use Rattle.bg_top.specs.declared.refusal.Refusal.{Refusal}
 use Rattle.bg_top.specs.declared.reply.Status.TheVariants as statuses
-use Rattle.bg_top.specs.Answer.{Answer, line}
+use Rattle.bg_top.specs.declared.reply.Reply.{Reply}
+use Rattle.bg_top.specs.Answer.{Answer, line, answer_of}
 use Rattle.bg_top.specs.Failure.{Tells, Gives, IsTold}
 use Rattle.bg_top.specs.Model.{refused_at, IsModelAnswer, described, refused, Describes, MakesText}
 use Rattle.bg_top.specs.Refusal.{refusal_text, told}
@@ -37,3 +38,9 @@ pub failed_text : (text_of : SystemParts → List ℕ) (input : List ℕ) (made 
     → IsErr made → IsErrAnd made (λ other. other ≡ failure) → Describes (Err failure) input → MakesText text_of made input
 failed_text text_of input (Ok text) failure err is so = absurd cc
 failed_text text_of input (Err other) failure err is so = subst (λ z. Describes (Err z) input) (sym is) so
+
+-- what holds of each answer to what was made holds of the reply
+pub replied : {E : Type 0} (holds : Answer → Type 0) (made : Result (Vec ℕ Global) Failure) (reply : Result Reply E)
+    → ((answer : Answer) → IsTold made answer → holds answer) → IfOk reply (λ reply. IsTold made (answer_of reply)) → IfOk reply (λ reply. holds (answer_of reply))
+replied holds made (Ok reply) so is = so (answer_of reply) is
+replied holds made (Err e) so is = tt

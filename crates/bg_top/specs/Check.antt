@@ -20,8 +20,8 @@ counts_of system =
 -- the line that tells it, without its line feed
 abbrev pub counts_text : Counts → List ℕ
 counts_text counts =
-    codes "ok controls " ++ decimal counts.controls ++ codes " rules " ++ decimal counts.rules ++ codes " classes " ++ decimal counts.classes
-    ++ codes " preds " ++ decimal counts.preds ++ codes " nodes " ++ decimal counts.nodes ++ codes " edges " ++ decimal counts.edges
+    codes "ok controls " ++ (decimal counts.controls ++ (codes " rules " ++ (decimal counts.rules ++ (codes " classes " ++ (decimal counts.classes
+    ++ (codes " preds " ++ (decimal counts.preds ++ (codes " nodes " ++ (decimal counts.nodes ++ (codes " edges " ++ decimal counts.edges))))))))))
 
 abbrev pub check_text : SystemParts → List ℕ
 check_text system = line (counts_text (counts_of system))

@@ -40,11 +40,13 @@ fn system_of(alloc: Global, input: &[u8]) -> Result<System, Failure>
 {
     match read(alloc, input) {
         Ok(system) => Ok(system),
-        Err(ModelFault::Bad {
-            code,
-            detail,
-            offset,
-        }) => Err(Failure::Refused(refused_at(input, code, detail, offset))),
+        Err(
+            ModelFault::Bad {
+                code,
+                detail,
+                offset,
+            },
+        ) => Err(Failure::Refused(refused_at(input, code, detail, offset))),
         Err(ModelFault::OutOfMemory) => Err(Failure::OutOfMemory),
     }
 }

@@ -1,0 +1,18 @@
+use Rattle.std.proofs.Common.{Err, ap, sym, subst}
+use Rattle.bg_elab.specs.Reading.{Reads}
+use Rattle.bg_elab.proofs.Readings.{inside}
+use Rattle.bg_top.proofs.models.system_of.Goals as goal
+
+pub refused_at-requires-clause-inside : goal.refused_at-requires-clause-inside
+refused_at-requires-clause-inside c =
+    inside c.args.input.now c.in-Err-Bad.code c.in-Err-Bad.detail c.in-Err-Bad.offset
+    (subst (λ z. Reads (Err z) c.args.input.now) c.in-Err-Bad.field-0-is c.in-Err-Bad.ensures)
+
+pub returns-in-Err-Bad : goal.returns-in-Err-Bad
+returns-in-Err-Bad c = (
+  c.in-Err-Bad.code,
+  c.in-Err-Bad.detail,
+  c.in-Err-Bad.offset,
+  subst (λ z. Reads (Err z) c.args.input.now) c.in-Err-Bad.field-0-is c.in-Err-Bad.ensures,
+  c.refused_at.ensures,
+)
