@@ -117,10 +117,12 @@ fn what_cannot_be_composed_is_refused_with_its_line(rt: HostRuntime) -> Result<(
 #[test]
 fn other_words_are_refused_and_nothing_is_read(rt: HostRuntime) -> Result<(), Fail> {
     let alloc = rt.alloc();
-    let refused: [&[&str]; 5] = [
+    let refused: [&[&str]; 7] = [
         &[],
         &["bigengine"],
         &["bigengine", "checks"],
+        &["bigengine", "check", "--workers", "65"],
+        &["bigengine", "show", "--help"],
         &["bigengine", "compose", "compose"],
         &["bigengine", "compose "],
     ];
@@ -295,6 +297,28 @@ fn the_first_refusal_of_the_statements_is_told(rt: HostRuntime) -> Result<(), Fa
 #[test]
 fn a_model_is_counted(rt: HostRuntime) -> Result<(), Fail> {
     check_all(&rt, rt.alloc(), &MODELS)
+}
+
+/// A model with a rule, and its listing.
+const SMALL: &str =
+    "ctrl A = 0;\nctrl B = 0;\nbig s = A.B.1;\nreact r = A.id --> id;\nbegin brs init s; rules = [ {r} ]; end\n";
+
+const LISTED: &str = "signature 2\nA 0 normal\nB 0 normal\n\
+init\nbigraph 1\nsites 0\ninner 0\nouter 0\nedges 0\nnodes 2\n0 A r0\n1 B n0\n\
+rule 0 r class 0\n\
+redex\nbigraph 1\nsites 1\nn0\ninner 0\nouter 0\nedges 0\nnodes 1\n0 A r0\n\
+reactum\nbigraph 1\nsites 1\nr0\ninner 0\nouter 0\nedges 0\nnodes 0\n\
+map 0\nconditions 0\npreds 0\n";
+
+#[test]
+fn a_system_is_listed(rt: HostRuntime) -> Result<(), Fail> {
+    let alloc = rt.alloc();
+    let source = MemorySource::new(SMALL.as_bytes().to_vec(alloc)?, 4096, Vec::new(alloc));
+    let words = ["bigengine", "--steps=5", "show", "--explain"];
+    let end = end_of(alloc, &words, source, &[])?;
+    assert_eq!(rt; end.status, 0);
+    assert_eq!(rt; end.written.as_slice(), LISTED.as_bytes());
+    Ok(())
 }
 
 /// Seventeen bigraphs, each twice the one before it.
