@@ -13,7 +13,7 @@ closed       250 closures of names around 65,000 operands
 doubled      a bigraph that is joined with itself 16 times over
 referred     1,023 references, each in the definition before
 arguments    4,000 controls with arguments, used a million times in all
-brackets     16,384 operands, each in 250 brackets
+brackets     4,096 operands, each in 250 brackets
 
 Statements:
 definitions  8 MB of definitions
@@ -21,6 +21,7 @@ rules        8 MB of rules without formals, each with a condition
 values       2,048 parameters of 4,096 values each, in ranges
 
 The block:
+host         a run begins with 65,536 nodes, each with a name of its own
 choices      a reference with 64 values for each of two parameters: 4,096 rules
 references   4,096 references to a rule
 predicates   4,096 predicates
@@ -104,10 +105,11 @@ KINDS = {
     'doubled': lambda: model(doubled('big p0 = A;\n', '|', 16)),
     'referred': lambda: model(referred(1023)),
     'arguments': lambda: model(arguments()),
-    'brackets': lambda: model(joined('|', lambda n: 250 * '(' + 'A' + 250 * ')', 16384)),
+    'brackets': lambda: model(joined('|', lambda n: 250 * '(' + 'A' + 250 * ')', 4096)),
     'definitions': lambda: model(up_to(lambda n: f'big room{n} = N.(A | P{{x}} | /y Q{{x,y}});\n')),
     'rules': lambda: model(up_to(lambda n: f'react move{n} = A | N.(P{{x}} | id) --> N.(A | P{{x}} | id) if !Q{{x,y}} in ctx;\n')),
     'values': lambda: model(''.join(f'int n{k} = [0:1:4095];\n' for k in range(2048))),
+    'host': lambda: model(joined('|', lambda n: f'P{{x{mixed(n)}}}', 65536), init='s'),
     'choices': lambda: model(COUNTED + 'int n = [0:1:63];\nint m = [0:1:63];\n', rules='count(n, m)'),
     'references': lambda: model(MOVE, rules=', '.join(f'move({k}, 0)' for k in range(4096))),
     'predicates': lambda: model('fun big b(n) = A;\n', preds=', '.join(f'b({k})' for k in range(4096))),
