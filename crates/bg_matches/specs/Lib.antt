@@ -1,0 +1,2 @@
+pub mod MatchText
+pub mod Counts

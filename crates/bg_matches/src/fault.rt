@@ -1,0 +1,13 @@
+//! Why nothing is written.
+use thiserror::Error;
+
+/// Why the occurrences of a system's rules are not written.
+#[derive(Clone, Copy, Debug, PartialEq, Eq, Error)]
+pub enum MatchesFault {
+    /// The rule with this number is the first with more occurrences than were asked for.
+    #[error("a rule has too many occurrences")]
+    TooMany { rule: u32 },
+    /// There was no memory.
+    #[error("out of memory")]
+    OutOfMemory,
+}

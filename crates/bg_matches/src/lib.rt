@@ -1,0 +1,11 @@
+//! What is written of the occurrences of the rules of a system in its host.
+//!
+//! - [`write_matches`]: all occurrences of each rule. [`write_excess`]: that a rule has more than were asked for.
+//! - [`MatchesFault`]: why nothing is written.
+#![tactic(auto)]
+
+mod fault;
+mod matches;
+
+pub use fault::MatchesFault;
+pub use matches::{write_excess, write_matches};

@@ -1,0 +1,48 @@
+//! The writers.
+ghost use Rattle.std.specs.Prelude.{◌≡◌, ◌<◌, ◌++◌, ℕ, List, Some, slice_get, length, All, IfErr, OnOk, OnErr};
+ghost use Rattle.bg_matches.specs.declared.fault.MatchesFault.TheVariants.{TooMany};
+ghost use Rattle.bg_matches.specs.Counts.{AreAtMost, IsFirstExcess, excess_line};
+ghost use Rattle.bg_matches.specs.MatchText.{IsMatchText};
+ghost use Rattle.bg_rules.specs.Rules.{RuleParts};
+
+use crate::MatchesFault;
+use bg_lists::{Mem, OutOfMemory};
+use bg_rules::System;
+use std::alloc::Global;
+
+/// Appends, for each rule of the system, its line and all occurrences of its redex in the system's host, each once, in
+/// dictionary order: a line with its map, and where occurrences are explained the decomposition of the host there. It
+/// refuses with `TooMany` exactly where a rule has more than `most` occurrences, with the number of the first such rule.
+/// At a refusal, and where there is no memory, `out` is unchanged.
+pub fn write_matches(
+    alloc: Global,
+    system: &System,
+    most: u32,
+    explain: bool,
+    out: &mut Vec<u8>,
+) -> Result<(), MatchesFault>
+    ensures text { OnOk result ((text : List ℕ) × IsMatchText system.now explain text × (out.new.items ≡ out.old.items ++ text)) }
+    ensures few { OnOk result (All (λ (rule : RuleParts). AreAtMost most system.now.init.big rule.redex) system.now.rules) }
+    ensures many { IfErr result (λ fault. (number : ℕ) → fault ≡ TooMany number
+        → (rule : RuleParts) × IsFirstExcess most system.now number rule) }
+    ensures err { OnErr result (out.new.items ≡ out.old.items) }
+{
+    Err(MatchesFault::OutOfMemory)
+}
+
+/// Appends the line that tells that the rule with this number has more than `most` occurrences. Where there is no memory,
+/// `out` is unchanged.
+pub fn write_excess(
+    alloc: Global,
+    system: &System,
+    rule: u32,
+    most: u32,
+    out: &mut Vec<u8>,
+) -> Mem<()>
+    requires there { rule < length system.now.rules }
+    ensures line { OnOk result ((parts : RuleParts) × (slice_get system.now.rules rule ≡ Some parts)
+        × (out.new.items ≡ out.old.items ++ excess_line rule parts most)) }
+    ensures err { OnErr result (out.new.items ≡ out.old.items) }
+{
+    Err(OutOfMemory)
+}
