@@ -1,20 +1,77 @@
 //! What a decomposition makes.
-ghost use Rattle.std.specs.Prelude.{◌≡◌, IfOk};
+ghost use Rattle.std.specs.Prelude.{◌≡◌, [], IfOk};
 ghost use Rattle.bg_base.specs.Bigraph.{IsValid};
+ghost use Rattle.bg_base.specs.Composition.{FacesAgree, SupportsApart};
+ghost use Rattle.bg_base.specs.Composition as composition;
+ghost use Rattle.bg_base.specs.Products as product;
+ghost use Rattle.bg_algebra.specs.Laws.{Apart};
+ghost use Rattle.bg_rules.specs.Decomposition.{frame};
 ghost use Rattle.bg_decompose.specs.Joining.{IsJoinable, joined};
 
 use crate::Decomposition;
+use bg_algebra::{AlgebraFault, compose, identity, rename, tensor};
 use bg_base::Big;
 use bg_lists::{Mem, OutOfMemory};
 use bg_rules::Pattern;
 use std::alloc::Global;
 
 /// The bigraph that a decomposition makes: the context, with the pattern at the nodes of the map and at the edges of the
-/// images in it, with the parameter in the pattern.
+/// images in it, with the parameter in the pattern (Milner, chapters 3 and 8). It refuses only for want of memory. Costs
+/// time n log n in the size of the three, and memory in proportion to it.
 pub fn join(alloc: Global, parts: &Decomposition, pattern: &Pattern) -> Mem<Big>
     requires joinable { IsJoinable pattern.now parts.now.map parts.now.context parts.now.images parts.now.parameter }
     ensures value { IfOk result (λ whole. whole ≡ joined pattern.now parts.now.map parts.now.context parts.now.images parts.now.parameter) }
     ensures valid { IfOk result IsValid }
 {
-    Err(OutOfMemory)
+    let frame = frame_of(alloc, parts, pattern)?;
+    let inside = composed(alloc, &frame, &parts.parameter)?;
+    let whole = composed(alloc, &parts.context, &inside)?;
+    Ok(whole)
+}
+
+/// The pattern at the nodes of the map and the edges of the images, beside the identity on the parameter's names.
+fn frame_of(alloc: Global, parts: &Decomposition, pattern: &Pattern) -> Mem<Big>
+    requires joinable { IsJoinable pattern.now parts.now.map parts.now.context parts.now.images parts.now.parameter }
+    ensures value { IfOk result (λ made. made ≡ frame pattern.now parts.now.map parts.now.images parts.now.parameter.outer) }
+    ensures valid { IfOk result IsValid }
+{
+    let renamed = rename(alloc, pattern.big(), &parts.map, &parts.images)?;
+    let names = identity(alloc, 0, parts.parameter.outer.as_slice())?;
+    let made = beside(alloc, &renamed, &names)?;
+    Ok(made)
+}
+
+/// The tensor product with a bigraph without places, where nothing is in both.
+fn beside(alloc: Global, big: &Big, names: &Big) -> Mem<Big>
+    requires big_valid { IsValid big.now }
+    requires names_valid { IsValid names.now }
+    requires no_regions { names.now.regions ≡ 0 }
+    requires no_sites { names.now.sites ≡ [] }
+    requires apart { Apart big.now names.now }
+    ensures value { IfOk result (λ whole. whole ≡ product.tensor big.now names.now) }
+    ensures valid { IfOk result IsValid }
+{
+    let _sites = big.sites.len();
+    let _regions = big.regions;
+    match tensor(alloc, big, names) {
+        Ok(whole) => Ok(whole),
+        Err(AlgebraFault::OutOfMemory) => Err(OutOfMemory),
+        Err(_) => unreachable!(),
+    }
+}
+
+/// The composition, where it is defined.
+fn composed(alloc: Global, upper: &Big, lower: &Big) -> Mem<Big>
+    requires upper_valid { IsValid upper.now }
+    requires lower_valid { IsValid lower.now }
+    requires faces { FacesAgree upper.now lower.now }
+    requires apart { SupportsApart upper.now lower.now }
+    ensures value { IfOk result (λ whole. whole ≡ composition.compose upper.now lower.now) }
+    ensures valid { IfOk result IsValid }
+{
+    match compose(alloc, upper, lower) {
+        Ok(whole) => Ok(whole),
+        Err(AlgebraFault::OutOfMemory) => Err(OutOfMemory),
+        Err(_) => unreachable!(),
+    }
 }
