@@ -1,1 +1,4 @@
 pub mod Joining
+pub mod Marks
+pub mod Parts
+pub mod Cuts

@@ -5,9 +5,12 @@
 //! - [`laws`]: a decomposition joins to its host.
 #![tactic(auto)]
 
+mod context;
 mod decomposition;
 mod joining;
 pub mod laws;
+mod marks;
+mod parameter;
 mod splitting;
 
 pub use decomposition::Decomposition;

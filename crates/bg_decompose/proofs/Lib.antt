@@ -1,0 +1,4 @@
+mod Covered
+mod Pieces
+mod Whole
+mod Splits
