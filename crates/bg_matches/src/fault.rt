@@ -1,4 +1,5 @@
 //! Why nothing is written.
+use bg_lists::OutOfMemory;
 use thiserror::Error;
 
 /// Why the occurrences of a system's rules are not written.
@@ -10,4 +11,15 @@ pub enum MatchesFault {
     /// There was no memory.
     #[error("out of memory")]
     OutOfMemory,
+}
+
+impl From<OutOfMemory> for MatchesFault {
+    ghost use Rattle.std.specs.Prelude.{◌≡◌};
+    ghost use Rattle.bg_matches.specs.declared.fault.MatchesFault.TheVariants.{OutOfMemory};
+
+    ghost from_gives = { λ _ fault. fault ≡ OutOfMemory };
+
+    fn from(_fault: OutOfMemory) -> MatchesFault {
+        MatchesFault::OutOfMemory
+    }
 }

@@ -5,7 +5,10 @@
 #![tactic(auto)]
 
 mod fault;
+mod lines;
 mod matches;
+mod occurrence;
+mod rule_matches;
 
 pub use fault::MatchesFault;
 pub use matches::{write_excess, write_matches};

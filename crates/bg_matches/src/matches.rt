@@ -1,12 +1,15 @@
 //! The writers.
-ghost use Rattle.std.specs.Prelude.{◌≡◌, ◌<◌, ◌++◌, ℕ, List, Some, slice_get, length, All, IfErr, OnOk, OnErr};
+ghost use Rattle.std.specs.Prelude.{◌≡◌, ◌<◌, ◌++◌, ℕ, List, Some, slice_get, length, take, All, IfErr, OnOk, OnErr};
 ghost use Rattle.bg_matches.specs.declared.fault.MatchesFault.TheVariants.{TooMany};
+ghost use Rattle.bg_matches.specs.Appending.{Appends};
 ghost use Rattle.bg_matches.specs.Counts.{AreAtMost, IsFirstExcess, excess_line};
 ghost use Rattle.bg_matches.specs.MatchText.{IsMatchText};
 ghost use Rattle.bg_rules.specs.Rules.{RuleParts};
 
 use crate::MatchesFault;
-use bg_lists::{Mem, OutOfMemory};
+use crate::lines::write_excess_line;
+use crate::rule_matches::put_rule;
+use bg_lists::Mem;
 use bg_rules::System;
 use std::alloc::Global;
 
@@ -21,13 +24,49 @@ pub fn write_matches(
     explain: bool,
     out: &mut Vec<u8>,
 ) -> Result<(), MatchesFault>
-    ensures text { OnOk result ((text : List ℕ) × IsMatchText system.now explain text × (out.new.items ≡ out.old.items ++ text)) }
+    ensures text { OnOk result (Appends (IsMatchText system.now explain) out.old.items out.new.items) }
     ensures few { OnOk result (All (λ (rule : RuleParts). AreAtMost most system.now.init.big rule.redex) system.now.rules) }
     ensures many { IfErr result (λ fault. (number : ℕ) → fault ≡ TooMany number
         → (rule : RuleParts) × IsFirstExcess most system.now number rule) }
     ensures err { OnErr result (out.new.items ≡ out.old.items) }
 {
-    Err(MatchesFault::OutOfMemory)
+    let length = out.len();
+    let written = put_rules(alloc, system, most, explain, out);
+    if written.is_err() {
+        out.truncate(length);
+    }
+    written
+}
+
+/// The rules in order, with numbers from 0. After an error what was in `out` is still there.
+fn put_rules(
+    alloc: Global,
+    system: &System,
+    most: u32,
+    explain: bool,
+    out: &mut Vec<u8>,
+) -> Result<(), MatchesFault>
+    ensures text { OnOk result (Appends (IsMatchText system.now explain) out.old.items out.new.items) }
+    ensures few { OnOk result (All (λ (rule : RuleParts). AreAtMost most system.now.init.big rule.redex) system.now.rules) }
+    ensures many { IfErr result (λ fault. (number : ℕ) → fault ≡ TooMany number
+        → (rule : RuleParts) × IsFirstExcess most system.now number rule) }
+    ensures kept { OnErr result (take (length out.old.items) out.new.items ≡ out.old.items) }
+{
+    let signature = system.signature();
+    let host = system.init().big();
+    for (number, rule) in system.rules().iter().enumerate() {
+        put_rule(
+            alloc,
+            signature,
+            host,
+            number as u32,
+            rule,
+            most,
+            explain,
+            out,
+        )?;
+    }
+    Ok(())
 }
 
 /// Appends the line that tells that the rule with this number has more than `most` occurrences. Where there is no memory,
@@ -44,5 +83,6 @@ pub fn write_excess(
         × (out.new.items ≡ out.old.items ++ excess_line rule parts most)) }
     ensures err { OnErr result (out.new.items ≡ out.old.items) }
 {
-    Err(OutOfMemory)
+    let parts = &system.rules()[rule as usize];
+    write_excess_line(alloc, rule, parts, most, out)
 }

@@ -1,0 +1,4 @@
+mod Writing
+mod Occurrences
+mod OneRule
+mod Rules
