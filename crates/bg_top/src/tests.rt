@@ -117,12 +117,13 @@ fn what_cannot_be_composed_is_refused_with_its_line(rt: HostRuntime) -> Result<(
 #[test]
 fn other_words_are_refused_and_nothing_is_read(rt: HostRuntime) -> Result<(), Fail> {
     let alloc = rt.alloc();
-    let refused: [&[&str]; 7] = [
+    let refused: [&[&str]; 8] = [
         &[],
         &["bigengine"],
         &["bigengine", "checks"],
         &["bigengine", "check", "--workers", "65"],
         &["bigengine", "show", "--help"],
+        &["bigengine", "match", "--most", "x"],
         &["bigengine", "compose", "compose"],
         &["bigengine", "compose "],
     ];
@@ -318,6 +319,81 @@ fn a_system_is_listed(rt: HostRuntime) -> Result<(), Fail> {
     let end = end_of(alloc, &words, source, &[])?;
     assert_eq!(rt; end.status, 0);
     assert_eq!(rt; end.written.as_slice(), LISTED.as_bytes());
+    Ok(())
+}
+
+/// Options of `match`, a model, the status, and what it writes.
+type Matched = (
+    &'static [&'static str],
+    &'static str,
+    u8,
+    &'static str,
+);
+
+/// Agents that enter the rooms of a building.
+const BUILDING: &str = "ctrl Building = 0;\nctrl Room = 0;\natomic ctrl Agent = 1;\n\
+big hall = Building.(Room.1 | Room.1 | Room.1 | Agent{a} | Agent{b});\n\
+react enter = Agent{x} | Room.id --> Room.(Agent{x} | id);\n\
+begin brs init hall; rules = [ {enter} ]; end\n";
+
+const ENTERED: &str = "rule 0 enter class 0 count 6\n4 1\n4 2\n4 3\n5 1\n5 2\n5 3\n";
+
+const ACROSS: &str = "rule 0 r class 0 count 1\n0\nimages\n\
+context\nbigraph 1\nsites 1\nr0\ninner 2\nx #0\n@1.0 #0\nouter 0\nedges 1\n0\nnodes 0\n\
+parameter\nbigraph 1\nsites 0\ninner 0\nouter 1\n@1.0\nedges 0\nnodes 1\n1 B r0 =@1.0\n";
+
+const MATCHED: [Matched; 8] = [
+    (&[], BUILDING, 0, ENTERED),
+    (&["--most", "6"], BUILDING, 0, ENTERED),
+    (&["--most", "5"], BUILDING, 6, "too many 0 enter 5\n"),
+    (
+        &[],
+        "ctrl A = 0; ctrl B = 0; ctrl D = 0; big s = A.D.B.1; react r = A.id || B.id --> A.id || B.id; \
+begin brs init s; rules = [ {r} ]; end",
+        0,
+        "rule 0 r class 0 count 0\n",
+    ),
+    (
+        &[],
+        "atomic ctrl A = 1; atomic ctrl B = 1; big s = /z (A{z} | B{z}); react r = A{x} | B{y} --> {x,y} | 1; \
+begin brs init s; rules = [ {r} ]; end",
+        0,
+        "rule 0 r class 0 count 1\n0 1\n",
+    ),
+    (
+        &[],
+        "fun atomic ctrl K(x) = 0; big s = K(1); fun react r(x) = K(x) --> K(x + 1); \
+begin brs int n = [0:1:2]; init s; rules = [ {r(n)} ]; end",
+        0,
+        "rule 0 r(0) class 0 count 0\nrule 1 r(1) class 0 count 1\n0\nrule 2 r(2) class 0 count 0\n",
+    ),
+    (
+        &["--explain"],
+        "ctrl A = 1; atomic ctrl B = 1; big s = /e A{e}.B{e}; react r = A{x}.id --> A{x}.id; \
+begin brs init s; rules = [ {r} ]; end",
+        0,
+        ACROSS,
+    ),
+    (&["--explain"], "ctrl $", 1, "refused 21 BadByte at 1:6\n"),
+];
+
+/// Calls `engine` for `match` with these options on the text, where nothing fails.
+fn matched(alloc: Global, options: &[&str], text: &str) -> Result<End, AllocError> {
+    let mut words = Vec::new(alloc);
+    words.extend_from_slice(&["bigengine", "match"])?;
+    words.extend_from_slice(options)?;
+    let source = MemorySource::new(text.as_bytes().to_vec(alloc)?, 4096, Vec::new(alloc));
+    end_of(alloc, words.as_slice(), source, &[])
+}
+
+#[test]
+fn occurrences_are_listed(rt: HostRuntime) -> Result<(), Fail> {
+    let alloc = rt.alloc();
+    for (options, text, status, line) in MATCHED {
+        let end = matched(alloc, options, text)?;
+        assert_eq!(rt; end.status, status);
+        assert_eq!(rt; end.written.as_slice(), line.as_bytes());
+    }
     Ok(())
 }
 

@@ -11,6 +11,8 @@ pub enum Command {
     Check,
     /// `show`: the system that a model is.
     Show,
+    /// `match`: where the rules of a model occur.
+    Match,
 }
 
 /// The command with that name, where there is one.
@@ -21,6 +23,7 @@ pub(crate) fn command_of(name: &str) -> Option<Command>
         "compose" => Some(Command::Compose),
         "check" => Some(Command::Check),
         "show" => Some(Command::Show),
+        "match" => Some(Command::Match),
         _ => None,
     }
 }

@@ -7,6 +7,8 @@ const TAKEN: &str = "\
 bigengine compose: Compose 100000 1 1000 0 10 false
 bigengine check: Check 100000 1 1000 0 10 false
 bigengine show: Show 100000 1 1000 0 10 false
+bigengine match: Match 100000 1 1000 0 10 false
+bigengine match --explain --most 6: Match 6 1 1000 0 10 true
 another compose: Compose 100000 1 1000 0 10 false
 bigengine compose --most 5: Compose 5 1 1000 0 10 false
 bigengine compose --most=5: Compose 5 1 1000 0 10 false
@@ -35,10 +37,12 @@ bigengine --size 6 --seed 5 check --steps 4 --workers 3 --most 2 --explain: Chec
 ";
 
 /// Words that are refused, with a space between two.
-const REFUSED: [&str; 63] = [
+const REFUSED: [&str; 65] = [
     "bigengine",
     "bigengine ",
     "bigengine run",
+    "bigengine match --most x",
+    "bigengine match --workers 65",
     "bigengine Compose",
     "bigengine compos",
     "bigengine composed",

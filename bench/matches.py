@@ -1,0 +1,98 @@
+#!/usr/bin/env python3
+"""Writes a model for `match`: matches.py KIND [NUMBER].
+
+trial N      N rooms and N agents in a building: a redex that occurs N times N times, with a name and a link that all
+             rooms share; 3 N + 1 nodes
+rooms N      N rooms of five nodes each: a redex of five nodes, with a link that is closed
+chain K      2^K nodes in one another: a redex of one node with a site
+star K       2^K - 1 nodes in one: a redex of two nodes with a site
+pairs N      N pairs of nodes, each with a closed link of its own: the redex is such a pair
+deep K       2^K nodes in one another, and two beside: a redex of two regions
+"""
+import sys
+
+
+def block(init, rules):
+    return f'begin brs\n  init {init};\n  rules = [ {rules} ];\nend\n'
+
+
+def doubled(first, operator, count):
+    return f'big p0 = {first};\n' + ''.join(f'big p{k + 1} = p{k} {operator} p{k};\n' for k in range(count))
+
+
+def times(count, word):
+    return ' | '.join(count * [word])
+
+
+def trial(size):
+    return f'''ctrl Building = 0;
+ctrl Closed = 0;
+ctrl Room = 0;
+atomic ctrl Agent = 1;
+atomic ctrl Computer = 1;
+atomic ctrl Seat = 2;
+big room = Room.Computer{{n}};
+big agent = /a Agent{{a}};
+big s = /n Building.({times(size, 'room')} | {times(size, 'agent')});
+react sit = Agent{{x}} | Room.Computer{{n}} --> Room.Seat{{x,n}};
+react shut = Building.id --> Closed.id;
+''' + block('s', '{sit}, {shut}')
+
+
+def rooms(size):
+    return f'''ctrl Building = 0;
+ctrl Room = 0;
+ctrl Desk = 0;
+atomic ctrl Lamp = 0;
+atomic ctrl Agent = 1;
+atomic ctrl Computer = 1;
+big room = Room.(Desk.Lamp | /a (Agent{{a}} | Computer{{a}}));
+big s = Building.({times(size, 'room')});
+react leave = Room.(Desk.(Lamp | id) | /a (Agent{{a}} | Computer{{a}}) | id) --> Room.(Desk.(Lamp | id) | id);
+''' + block('s', '{leave}')
+
+
+def chain(power):
+    return f'''ctrl A = 0;
+{doubled('A.id', '*', power)}big s = p{power} * 1;
+react r = A.id --> A.id;
+''' + block('s', '{r}')
+
+
+def star(power):
+    return f'''ctrl N = 0;
+atomic ctrl A = 0;
+{doubled('A', '|', power)}big s = N.({' | '.join(f'p{k}' for k in range(power))});
+react r = N.(A | id) --> N.(A | id);
+''' + block('s', '{r}')
+
+
+def pairs(size):
+    return f'''atomic ctrl A = 1;
+atomic ctrl B = 1;
+big pair = /x (A{{x}} | B{{x}});
+big s = {times(size, 'pair')};
+react r = /x (A{{x}} | B{{x}}) --> 1;
+''' + block('s', '{r}')
+
+
+def deep(power):
+    return f'''ctrl A = 0;
+ctrl B = 0;
+ctrl D = 0;
+{doubled('A.id', '*', power)}big s = p{power} * (B.1 | D.1);
+react r = B.id || D.id --> B.id || D.id;
+''' + block('s', '{r}')
+
+
+KINDS = {'trial': (trial, 300), 'rooms': (rooms, 2000), 'chain': (chain, 15), 'star': (star, 15), 'pairs': (pairs, 1000), 'deep': (deep, 15)}
+
+
+def main():
+    make, number = KINDS[sys.argv[1]]
+    if len(sys.argv) > 2:
+        number = int(sys.argv[2])
+    sys.stdout.write(make(number))
+
+
+main()
