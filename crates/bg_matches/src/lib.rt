@@ -12,3 +12,6 @@ mod rule_matches;
 
 pub use fault::MatchesFault;
 pub use matches::{write_excess, write_matches};
+
+#[cfg(test)]
+mod tests;
