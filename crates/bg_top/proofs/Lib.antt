@@ -1,4 +1,5 @@
 mod Ends
+mod Excess
 mod Joined
 mod Law
 mod Reading

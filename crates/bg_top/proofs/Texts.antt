@@ -1,20 +1,20 @@
 -- The answers of commands, from what they made of their input.
-use Rattle.std.proofs.Common.{◌≡◌, ℕ, List, Result, Ok, Err, IfOk, Vec, refl, sym, ap, subst, ◌∙◌}
+use Rattle.std.proofs.Common.{◌≡◌, ℕ, Bool, List, Result, Ok, Err, IfOk, Vec, sym, ap, subst, ◌∙◌}
 use Rattle.std.specs.Prelude.{IsErr, IsErrAnd}
 use Rattle.std.specs.Global.{Global}
-use Rattle.bg_elab.specs.declared.fault.Detail.{Detail}
-use Rattle.bg_elab.specs.declared.fault.ModelFault.{ModelFault}
-use Rattle.bg_elab.specs.declared.fault.ModelFault.TheVariants.{Bad}
 use Rattle.bg_elab.specs.Reading.{IsReading}
 use Rattle.bg_rules.specs.Systems.{SystemParts}
 use Rattle.bg_top.specs.declared.failure.Failure.{Failure}
-use Rattle.bg_top.specs.declared.failure.Failure.TheVariants.{Refused, OutOfMemory}
+use Rattle.bg_top.specs.declared.failure.Failure.TheVariants.{Refused, TooMany, OutOfMemory}
 use Rattle.bg_top.specs.declared.refusal.Refusal.{Refusal}
 use Rattle.bg_top.specs.declared.reply.Status.TheVariants as statuses
 use Rattle.bg_top.specs.declared.reply.Reply.{Reply}
 use Rattle.bg_top.specs.Answer.{Answer, line, answer_of}
-use Rattle.bg_top.specs.Failure.{Tells, Gives, IsTold}
-use Rattle.bg_top.specs.Model.{refused_at, IsModelAnswer, described, refused, Describes, MakesText}
+use Rattle.bg_top.specs.Failure.{Gives, IsTold}
+use Rattle.bg_top.specs.Match.{IsMatchAnswer, listed, too_many}
+use Rattle.bg_top.specs.Match as matching
+use Rattle.bg_top.specs.Outcome.{ListsMatches, IsExcess}
+use Rattle.bg_top.specs.Model.{IsModelAnswer, described, refused, Describes, MakesText}
 use Rattle.bg_top.specs.Refusal.{refusal_text, told}
 
 -- the answer of `compose`
@@ -22,6 +22,7 @@ pub composed_answer : (made : Result (Vec ℕ Global) Failure) (outcome : Result
     → Gives (λ text. text.items) made outcome → IsTold made answer → answer ≡ told outcome
 composed_answer (Ok text) outcome answer made is = is ∙ ap told (sym made)
 composed_answer (Err (Refused refusal)) outcome answer made is = is ∙ ap told (sym made)
+composed_answer (Err (TooMany line)) outcome answer made is = absurd made
 composed_answer (Err OutOfMemory) outcome answer made is = absurd is
 
 -- the answer of a command that makes a text of a model
@@ -31,7 +32,34 @@ model_answer text_of (Ok text) input answer made is =
     subst (IsModelAnswer text_of input) (sym (is ∙ ap (λ z. record { status = statuses.Done; text = z }) made.2)) (described made.1)
 model_answer text_of (Err (Refused refusal)) input answer made is =
     subst (IsModelAnswer text_of input) (sym (is ∙ ap (λ z. record { status = statuses.Refused; text = line (refusal_text z) }) made.4)) (refused made.3)
+model_answer text_of (Err (TooMany line)) input answer made is = absurd made
 model_answer text_of (Err OutOfMemory) input answer made is = absurd is
+
+-- the answer of `match`
+pub match_answer : (most : ℕ) (explain : Bool) (made : Result (Vec ℕ Global) Failure) (input : List ℕ) (answer : Answer)
+    → ListsMatches most explain made input → IsTold made answer → IsMatchAnswer most explain input answer
+match_answer most explain (Ok text) input answer made is =
+    subst (IsMatchAnswer most explain input) (sym is) (listed made.described made.few made.lists)
+match_answer most explain (Err (Refused refusal)) input answer made is =
+    subst (IsMatchAnswer most explain input) (sym (is ∙ ap (λ z. record { status = statuses.Refused; text = line (refusal_text z) }) made.4)) (matching.refused made.3)
+match_answer most explain (Err (TooMany text)) input answer made is =
+    subst (IsMatchAnswer most explain input) (sym (is ∙ ap (λ z. record { status = statuses.TooMany; text = z }) made.2.3)) (too_many made.1 made.2.2)
+match_answer most explain (Err OutOfMemory) input answer made is = absurd is
+
+-- a failure of reading that is handed on by `match`
+pub failed_match : (most : ℕ) (explain : Bool) (input : List ℕ) (made : Result (Vec ℕ Global) Failure) (failure : Failure)
+    → IsErr made → IsErrAnd made (λ other. other ≡ failure) → Describes (Err failure) input → ListsMatches most explain made input
+failed_match most explain input (Ok text) failure err is so = absurd cc
+failed_match most explain input (Err (Refused refusal)) failure err is so = subst (λ z. Describes (Err z) input) (sym is) so
+failed_match most explain input (Err (TooMany line)) failure err is so = absurd (subst (λ z. Describes (Err z) input) (sym is) so)
+failed_match most explain input (Err OutOfMemory) failure err is so = tt
+
+-- the failure of a system with too many
+pub excess_told : (most : ℕ) (explain : Bool) (input : List ℕ) (system : SystemParts) (failure : Failure) → IsReading input (Ok system)
+    → IsExcess most system failure → ListsMatches most explain (Err failure) input
+excess_told most explain input system (Refused refusal) read is = absurd is
+excess_told most explain input system (TooMany line) read is = (system, read, is)
+excess_told most explain input system OutOfMemory read is = tt
 
 -- a failure that is handed on
 pub failed_text : (text_of : SystemParts → List ℕ) (input : List ℕ) (made : Result (Vec ℕ Global) Failure) (failure : Failure)

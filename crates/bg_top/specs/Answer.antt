@@ -2,7 +2,7 @@
 use Rattle.std.specs.Prelude.{ℕ, List, [], ◌∷◌, ◌++◌, codes}
 use Rattle.bg_top.specs.declared.reply.Reply.{Reply}
 use Rattle.bg_top.specs.declared.reply.Status.{Status}
-use Rattle.bg_top.specs.declared.reply.Status.TheVariants.{Done, Refused, WrongWords, TooLong}
+use Rattle.bg_top.specs.declared.reply.Status.TheVariants.{Done, Refused, WrongWords, TooMany, TooLong}
 
 pub record Answer : Type 0 where
   pub status : Status
@@ -13,6 +13,7 @@ abbrev pub number : Status → ℕ
 number Done = 0
 number Refused = 1
 number WrongWords = 2
+number TooMany = 6
 number TooLong = 8
 
 -- a text and a line feed

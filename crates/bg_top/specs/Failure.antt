@@ -10,7 +10,8 @@ use Rattle.bg_top.specs.Refusal.{told}
 use Rattle.bg_top.specs.declared.refusal.Refusal.{Refusal}
 use Rattle.bg_top.specs.declared.refusal.Refusal.TheVariants.{Listing, FacesDiffer, SupportMeets, NamesMeet, InnerNamesMeet, WidthsDiffer, NoSuchName, HasInnerNames}
 use Rattle.bg_top.specs.declared.failure.Failure.{Failure}
-use Rattle.bg_top.specs.declared.failure.Failure.TheVariants.{Refused, OutOfMemory}
+use Rattle.bg_top.specs.declared.failure.Failure.TheVariants.{Refused, TooMany, OutOfMemory}
+use Rattle.bg_top.specs.declared.reply.Status.TheVariants as statuses
 
 abbrev pub of_listing : ListingFault → Failure
 of_listing (listing.Bad code line) = Refused (Listing code line)
@@ -29,6 +30,7 @@ of_algebra algebra.OutOfMemory = OutOfMemory
 -- the failure is the refusal, or want of memory
 abbrev pub Tells : {A : Type 0} → Failure → Result A Refusal → Type 0
 Tells (Refused refusal) outcome = outcome ≡ Err refusal
+Tells (TooMany line) outcome = ⊥
 Tells OutOfMemory outcome = Unit {0}
 
 -- the value as view shows it, or the refusal, or want of memory
@@ -40,4 +42,5 @@ Gives view (Err failure) outcome = Tells failure outcome
 abbrev pub IsTold : Result (Vec ℕ Global) Failure → Answer → Type 0
 IsTold (Ok text) answer = answer ≡ told (Ok text.items)
 IsTold (Err (Refused refusal)) answer = answer ≡ told (Err refusal)
+IsTold (Err (TooMany line)) answer = answer ≡ record { status = statuses.TooMany; text = line.items }
 IsTold (Err OutOfMemory) answer = ⊥

@@ -7,4 +7,6 @@ pub mod Refusal
 pub mod Right
 pub mod Words
 pub mod Numbers
+pub mod Match
 pub mod Model
+pub mod Outcome

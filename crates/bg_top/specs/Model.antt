@@ -33,6 +33,7 @@ IsRefusedBy input refusal =
 abbrev pub Describes : Result SystemParts Failure → List ℕ → Type 0
 Describes (Ok system) input = IsReading input (Ok system)
 Describes (Err (failures.Refused refusal)) input = IsRefusedBy input refusal
+Describes (Err (failures.TooMany line)) input = ⊥
 Describes (Err failures.OutOfMemory) input = Unit {0}
 
 -- the text that such a command makes of the input

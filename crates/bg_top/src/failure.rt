@@ -7,10 +7,12 @@ use bg_listing::ListingFault;
 use bg_lists::OutOfMemory;
 use std::alloc::AllocError;
 
-/// Why a command gives no text: its input is refused, or there was no memory.
-#[derive(Clone, Copy, Debug, PartialEq, Eq)]
+/// Why a command gives no text: its input is refused, or a rule has too many occurrences, which the line tells, or there
+/// was no memory.
+#[derive(Debug, Drop)]
 pub(crate) enum Failure {
     Refused(Refusal),
+    TooMany(Vec<u8>),
     OutOfMemory,
 }
 

@@ -17,6 +17,8 @@ pub enum Status {
     Refused,
     /// 2: the words are refused.
     WrongWords,
+    /// 6: there are more occurrences than are asked for, and the text says of which rule.
+    TooMany,
     /// 8: the input has more bytes than are read.
     TooLong,
 }
@@ -32,6 +34,7 @@ impl Status {
             Status::Done => 0,
             Status::Refused => 1,
             Status::WrongWords => 2,
+            Status::TooMany => 6,
             Status::TooLong => 8,
         }
     }
@@ -44,7 +47,7 @@ pub struct Reply {
     pub text: Vec<u8>,
 }
 
-/// The answer to an input of which a command made this: its text, or the line that refuses the input.
+/// The answer to an input of which a command made this: its text, or the line that tells why there is none.
 pub(crate) fn reply_with(alloc: Global, made: Result<Vec<u8>, Failure>) -> Result<Reply, AllocError>
     ensures { IfOk result (λ reply. IsTold made (answer_of reply)) }
 {
@@ -54,6 +57,10 @@ pub(crate) fn reply_with(alloc: Global, made: Result<Vec<u8>, Failure>) -> Resul
             text,
         }),
         Err(Failure::Refused(refusal)) => refuse(alloc, refusal),
+        Err(Failure::TooMany(line)) => Ok(Reply {
+            status: Status::TooMany,
+            text: line,
+        }),
         Err(Failure::OutOfMemory) => Err(AllocError),
     }
 }

@@ -323,12 +323,7 @@ fn a_system_is_listed(rt: HostRuntime) -> Result<(), Fail> {
 }
 
 /// Options of `match`, a model, the status, and what it writes.
-type Matched = (
-    &'static [&'static str],
-    &'static str,
-    u8,
-    &'static str,
-);
+type Matched = (&'static [&'static str], &'static str, u8, &'static str);
 
 /// Agents that enter the rooms of a building.
 const BUILDING: &str = "ctrl Building = 0;\nctrl Room = 0;\natomic ctrl Agent = 1;\n\

@@ -4,14 +4,14 @@ ghost use Rattle.bg_io.specs.Faults.{Rose};
 ghost use Rattle.bg_top.specs.Numbers.{failed_read, failed_write, out_of_memory, most_bytes};
 ghost use Rattle.bg_top.specs.Words.{asked};
 ghost use Rattle.bg_top.specs.Answer.{number, answer_of};
-ghost use Rattle.bg_top.specs.Right.{IsReply, IsRight, Answers, IsRefused, IsAccepted};
+ghost use Rattle.bg_top.specs.Right.{IsReply, IsRight, Answers, IsRefused, IsTooMuch, IsAccepted};
 ghost use Rattle.bg_top.specs.Ended.{Ended, ComesWhere};
 
 use crate::composition::composition;
-use crate::models::{check_text, show_text};
+use crate::models::{check_text, match_text, show_text};
 use crate::reply::{Reply, Status, reply_with};
 use bg_io::{ReadAllFault, Sink, SinkFault, Source, read_all, write_all};
-use bg_words::{Command, WordsFault, request};
+use bg_words::{Command, Request, WordsFault, request};
 use std::alloc::{AllocError, Global};
 
 /// So many bytes of an input are read; a longer one is refused.
@@ -40,6 +40,7 @@ pub const NO_MEMORY: u8 = 5;
 /// | 3 | nothing | exactly where the source's count of faults rose |
 /// | 4 | a prefix of the text | exactly where the sink's count of faults rose |
 /// | 5 | a prefix of the text | want of memory |
+/// | 6 | a line `too many ..` | exactly where a rule has more occurrences than are asked for |
 /// | 8 | `too long` | exactly where the source gave `MOST + 1` bytes |
 ///
 /// 3, 4 and 5 come before the others: "exactly where" is said of the calls that end with none of them.
@@ -67,13 +68,15 @@ pub fn engine<S: Source, K: Sink>(
 
     // refused inputs
     ensures too_long { IfSome (S.left source.old) (λ input.
-        ComesWhere result Status.TooLong (IsSomeAnd (asked words.now) (λ command. most_bytes < length input))) }
+        ComesWhere result Status.TooLong (IsSomeAnd (asked words.now) (λ request. most_bytes < length input))) }
     ensures refused { IfSome (S.left source.old) (λ input.
-        ComesWhere result Status.Refused (IsSomeAnd (asked words.now) (λ command. (length input ≤ most_bytes) × IsRefused command input))) }
+        ComesWhere result Status.Refused (IsSomeAnd (asked words.now) (λ request. (length input ≤ most_bytes) × IsRefused request input))) }
+    ensures too_many { IfSome (S.left source.old) (λ input.
+        ComesWhere result Status.TooMany (IsSomeAnd (asked words.now) (λ request. (length input ≤ most_bytes) × IsTooMuch request input))) }
 
     // an input that is accepted is answered, and the text that the command makes of it is written
     ensures written { result ≡ number Status.Done →
-        IsSomeAnd (asked words.now) (λ command. Answers command (S.left source.old) (K.held sink.old) (K.held sink.new)) }
+        IsSomeAnd (asked words.now) (λ request. Answers request (S.left source.old) (K.held sink.old) (K.held sink.new)) }
     ensures complete { IsAccepted most_bytes (asked words.now) (S.left source.old)
         → ¬ Rose (S.faults source.old) (S.faults source.new) → ¬ Rose (K.faults sink.old) (K.faults sink.new)
         → (result ≡ number Status.Done) ⊎ (result ≡ out_of_memory) }
@@ -91,8 +94,8 @@ fn run<S: Source, K: Sink>(alloc: Global, words: &[String], source: &mut S, sink
     ensures source_faults { result ≢ failed_read → S.faults source.new ≡ S.faults source.old }
     ensures sink_faults { result ≢ failed_write → K.faults sink.new ≡ K.faults sink.old }
 {
-    let command = match request(alloc, words) {
-        Ok(request) => request.command,
+    let asked = match request(alloc, words) {
+        Ok(asked) => asked,
         Err(WordsFault::Refused) => return respond(sink, Status::WrongWords, b"words\n"),
         Err(WordsFault::OutOfMemory) => return NO_MEMORY,
     };
@@ -102,31 +105,35 @@ fn run<S: Source, K: Sink>(alloc: Global, words: &[String], source: &mut S, sink
         Err(ReadAllFault::TooLong) => return respond(sink, Status::TooLong, b"too long\n"),
         Err(ReadAllFault::OutOfMemory) => return NO_MEMORY,
     };
-    answer(alloc, command, input.as_slice(), sink)
+    answer(alloc, asked, input.as_slice(), sink)
 }
 
-/// Makes the answer of a command to its input, and writes it.
-fn answer<K: Sink>(alloc: Global, command: Command, input: &[u8], sink: &mut K) -> u8
+/// Makes the answer to a request and its input, and writes it.
+fn answer<K: Sink>(alloc: Global, request: Request, input: &[u8], sink: &mut K) -> u8
     requires { length input.now ≤ most_bytes }
-    ensures ended { Ended (IsReply command input.now) result
+    ensures ended { Ended (IsReply request input.now) result
         ⊥ (Rose (K.faults sink.old) (K.faults sink.new)) (K.is_flushed sink.new) (K.held sink.old) (K.held sink.new) }
     ensures sink_faults { result ≢ failed_write → K.faults sink.new ≡ K.faults sink.old }
 {
-    match reply_to(alloc, command, input) {
+    match reply_to(alloc, request, input) {
         Ok(reply) => respond(sink, reply.status, reply.text.as_slice()),
         Err(AllocError) => NO_MEMORY,
     }
 }
 
-/// The answer of a command to its input.
-fn reply_to(alloc: Global, command: Command, input: &[u8]) -> Result<Reply, AllocError>
+/// The answer to a request and its input.
+fn reply_to(alloc: Global, request: Request, input: &[u8]) -> Result<Reply, AllocError>
     requires { length input.now ≤ most_bytes }
-    ensures { IfOk result (λ reply. IsReply command input.now (answer_of reply)) }
+    ensures { IfOk result (λ reply. IsReply request input.now (answer_of reply)) }
 {
-    match command {
+    match request.command {
         Command::Compose => reply_with(alloc, composition(alloc, input)),
         Command::Check => reply_with(alloc, check_text(alloc, input)),
         Command::Show => reply_with(alloc, show_text(alloc, input)),
+        Command::Match => {
+            let made = match_text(alloc, input, request.most, request.explain);
+            reply_with(alloc, made)
+        }
     }
 }
 

@@ -1,4 +1,4 @@
-use Rattle.std.proofs.Common.{Err, ap, sym, subst}
+use Rattle.std.proofs.Common.{Err, subst}
 use Rattle.bg_elab.specs.Reading.{Reads}
 use Rattle.bg_elab.proofs.Readings.{inside}
 use Rattle.bg_top.proofs.models.system_of.Goals as goal

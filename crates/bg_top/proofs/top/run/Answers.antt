@@ -1,5 +1,4 @@
-use Rattle.std.proofs.Common.{◌≡◌, ◌+◌, Some, ap, option_map, rules}
-use Rattle.bg_words.specs.declared.asking.Request.{Request}
+use Rattle.std.proofs.Common.{◌≡◌, ◌+◌, Some, rules}
 use Rattle.bg_io.specs.Transfers.{ConsumesExactly}
 use Rattle.bg_top.specs.Answer.{too_long}
 use Rattle.bg_top.specs.Words.{asked}
@@ -12,8 +11,8 @@ returns-in-Err-TooLong-clause-ended g c =
     let left = g.S.Source.left in
     let before = left c.args.source.now in
     let after = left c.read_all.new.source in
-    let command = c.in-Ok.request.command in
-    let is : asked c.args.words.now ≡ Some command = ap (option_map (λ (request : Request). request.command)) c.in-Ok.ensures.given in
+    let request = c.in-Ok.asked in
+    let is : asked c.args.words.now ≡ Some request = c.in-Ok.ensures.given in
     let given : ConsumesExactly before after (most_bytes + 1) = search rules in
-    ended_with _ too_long _ _ _ _ _ _ (right_too_long most_bytes (asked c.args.words.now) command before after is given)
+    ended_with _ too_long _ _ _ _ _ _ (right_too_long most_bytes (asked c.args.words.now) request before after is given)
     c.respond-in-Err-TooLong.ensures.ended
