@@ -11,6 +11,7 @@ use Rattle.bg_rules.proofs.Grounded.{host_ground}
 use Rattle.bg_rules.proofs.Occurrences.{occurs_locally, decomposed}
 use Rattle.bg_rules.proofs.Signed.{context_valid_under, parameter_valid_under}
 use Rattle.bg_match.specs.Images.{AreListed}
+use Rattle.bg_decompose.specs.Joining.{IsJoinable}
 use Rattle.bg_decompose.specs.Cuts.{IsCut}
 use Rattle.bg_decompose.proofs.Whole.{cut_glued}
 
@@ -41,3 +42,20 @@ module _ (host pattern big : Big) (nodes : List ℕ) (occurs : Occurs host patte
 
     pub split_parameter_fits : (signature : List Control) → IsValidUnder signature host → IsValidUnder signature down
     split_parameter_fits signature fits = parameter_valid_under signature is ground fits glued
+
+-- what decomposes can be joined
+pub joinable : (host pattern : Big) (nodes numbers : List ℕ) (context : Big) (edges : List ℕ) (parameter : Big) → numbers ≡ nodes
+    → Decomposes host pattern nodes context edges parameter → IsJoinable pattern numbers context edges parameter
+joinable host pattern nodes numbers context edges parameter same d =
+    subst (λ ns. IsJoinable pattern ns context edges parameter) (sym same)
+    (record {
+      context_valid = d.context_valid;
+      parameter_valid = d.is_parameter.ground.valid;
+      nodes_new = d.nodes_new;
+      edges_new = d.edges_new;
+      apart = d.apart;
+      filled = d.filled;
+      filled_apart = d.filled_apart;
+      placed = d.placed;
+      placed_apart = d.placed_apart;
+    })

@@ -16,3 +16,6 @@ mod splitting;
 pub use decomposition::Decomposition;
 pub use joining::join;
 pub use splitting::split;
+
+#[cfg(test)]
+mod tests;

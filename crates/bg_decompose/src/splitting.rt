@@ -15,7 +15,12 @@ use bg_lists::{Mem, Rows, copies};
 use bg_rules::Pattern;
 use std::alloc::Global;
 
-/// The one decomposition of the host where the pattern occurs at the nodes of the map.
+/// The one decomposition of the host where the pattern occurs at the nodes of the map: node `k` of the pattern, in the
+/// order of its rows, at the host node with number `map[k]` (Milner, chapter 8). The context and the parameter fit each
+/// signature that the host fits. It refuses only for want of memory.
+///
+/// For a host of `n` nodes, edges and ports and a pattern of `k` nodes, `p` ports and `m` edges, outer names and regions it
+/// costs time `n log n`, however deep the host is, and `m * (k + p)`; and memory in proportion to the host and the pattern.
 pub fn split(alloc: Global, host: &Big, pattern: &Pattern, map: &[u32]) -> Mem<Decomposition>
     requires occurs { Occurs host.now pattern.now map.now }
     ensures map { IfOk result (λ parts. parts.map ≡ map.now) }
