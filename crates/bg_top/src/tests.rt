@@ -325,12 +325,6 @@ fn a_system_is_listed(rt: HostRuntime) -> Result<(), Fail> {
 /// Options of `match`, a model, the status, and what it writes.
 type Matched = (&'static [&'static str], &'static str, u8, &'static str);
 
-/// Agents that enter the rooms of a building.
-const ENTERING: &str = "ctrl Building = 0;\nctrl Room = 0;\natomic ctrl Agent = 1;\n\
-big hall = Building.(Room.1 | Room.1 | Room.1 | Agent{a} | Agent{b});\n\
-react enter = Agent{x} | Room.id --> Room.(Agent{x} | id);\n\
-begin brs init hall; rules = [ {enter} ]; end\n";
-
 const ENTERED: &str = "rule 0 enter class 0 count 6\n4 1\n4 2\n4 3\n5 1\n5 2\n5 3\n";
 
 const ACROSS: &str = "rule 0 r class 0 count 1\n0\nimages\n\
@@ -338,9 +332,9 @@ context\nbigraph 1\nsites 1\nr0\ninner 2\nx #0\n@1.0 #0\nouter 0\nedges 1\n0\nno
 parameter\nbigraph 1\nsites 0\ninner 0\nouter 1\n@1.0\nedges 0\nnodes 1\n1 B r0 =@1.0\n";
 
 const MATCHED: [Matched; 8] = [
-    (&[], ENTERING, 0, ENTERED),
-    (&["--most", "6"], ENTERING, 0, ENTERED),
-    (&["--most", "5"], ENTERING, 6, "too many 0 enter 5\n"),
+    (&[], BUILDING, 0, ENTERED),
+    (&["--most", "6"], BUILDING, 0, ENTERED),
+    (&["--most", "5"], BUILDING, 6, "too many 0 enter 5\n"),
     (
         &[],
         "ctrl A = 0; ctrl B = 0; ctrl D = 0; big s = A.D.B.1; react r = A.id || B.id --> A.id || B.id; \
@@ -421,7 +415,7 @@ fn a_model_has_at_most_65536_nodes(rt: HostRuntime) -> Result<(), Fail> {
 #[test]
 fn a_proper_prefix_of_a_model_is_refused(rt: HostRuntime) -> Result<(), Fail> {
     let alloc = rt.alloc();
-    let bytes = ENTERING.as_bytes();
+    let bytes = BUILDING.as_bytes();
     let behind = bytes.len().saturating_sub(1);
     for size in 0..behind {
         let end = checked(alloc, bytes[..size].to_vec(alloc)?)?;
