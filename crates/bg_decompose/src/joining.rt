@@ -23,19 +23,33 @@ pub fn join(alloc: Global, parts: &Decomposition, pattern: &Pattern) -> Mem<Big>
     ensures value { IfOk result (λ whole. whole ≡ joined pattern.now parts.now.map parts.now.context parts.now.images parts.now.parameter) }
     ensures valid { IfOk result IsValid }
 {
-    let frame = frame_of(alloc, parts, pattern)?;
+    let whole = recompose(alloc, parts, pattern.big())?;
+    Ok(whole)
+}
+
+/// The same with any valid bigraph in the pattern's place, such as the reactum of a rule: it stands at the nodes of the
+/// map and at the edges of the images. It refuses only for want of memory. Costs time n log n in the size of the three,
+/// and memory in proportion to it.
+pub fn recompose(alloc: Global, parts: &Decomposition, middle: &Big) -> Mem<Big>
+    requires middle_valid { IsValid middle.now }
+    requires joinable { IsJoinable middle.now parts.now.map parts.now.context parts.now.images parts.now.parameter }
+    ensures value { IfOk result (λ whole. whole ≡ joined middle.now parts.now.map parts.now.context parts.now.images parts.now.parameter) }
+    ensures valid { IfOk result IsValid }
+{
+    let frame = frame_of(alloc, parts, middle)?;
     let inside = composed(alloc, &frame, &parts.parameter)?;
     let whole = composed(alloc, &parts.context, &inside)?;
     Ok(whole)
 }
 
-/// The pattern at the nodes of the map and the edges of the images, beside the identity on the parameter's names.
-fn frame_of(alloc: Global, parts: &Decomposition, pattern: &Pattern) -> Mem<Big>
-    requires joinable { IsJoinable pattern.now parts.now.map parts.now.context parts.now.images parts.now.parameter }
-    ensures value { IfOk result (λ made. made ≡ frame pattern.now parts.now.map parts.now.images parts.now.parameter.outer) }
+/// The bigraph at the nodes of the map and the edges of the images, beside the identity on the parameter's names.
+fn frame_of(alloc: Global, parts: &Decomposition, middle: &Big) -> Mem<Big>
+    requires middle_valid { IsValid middle.now }
+    requires joinable { IsJoinable middle.now parts.now.map parts.now.context parts.now.images parts.now.parameter }
+    ensures value { IfOk result (λ made. made ≡ frame middle.now parts.now.map parts.now.images parts.now.parameter.outer) }
     ensures valid { IfOk result IsValid }
 {
-    let renamed = rename(alloc, pattern.big(), &parts.map, &parts.images)?;
+    let renamed = rename(alloc, middle, &parts.map, &parts.images)?;
     let names = identity(alloc, 0, parts.parameter.outer.as_slice())?;
     let made = beside(alloc, &renamed, &names)?;
     Ok(made)

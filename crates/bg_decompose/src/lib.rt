@@ -1,7 +1,8 @@
 //! How a host is a context, with a pattern in it, with a parameter in the pattern.
 //!
 //! - [`Decomposition`]: a map of the pattern, the images of its edges, the context and the parameter.
-//! - [`split`]: the decomposition of a host at an occurrence. [`join`]: what a decomposition makes.
+//! - [`split`]: the decomposition of a host at an occurrence. [`join`]: what a decomposition makes. [`recompose`]: what its
+//!   parts make round another bigraph.
 //! - [`laws`]: a decomposition joins to its host.
 #![tactic(auto)]
 
@@ -14,7 +15,7 @@ mod parameter;
 mod splitting;
 
 pub use decomposition::Decomposition;
-pub use joining::join;
+pub use joining::{join, recompose};
 pub use splitting::split;
 
 #[cfg(test)]
