@@ -1,5 +1,5 @@
 //! How many nodes an instance will have, counted before it is made.
-ghost use Rattle.std.specs.Prelude.{◌≡◌, ◌<◌, ◌×◌, [], IfOk, MatchOption};
+ghost use Rattle.std.specs.Prelude.{◌≡◌, ◌<◌, [], IfOk, MatchOption};
 ghost use Rattle.bg_rules.specs.Instantiation.{late_nodes};
 ghost use Rattle.bg_react.specs.Counting.{copied_nodes};
 
