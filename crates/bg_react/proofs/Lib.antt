@@ -1,1 +1,3 @@
 pub mod CopiedNodes
+pub mod Ranks
+pub mod CopyByCopy
