@@ -1,2 +1,5 @@
-mod Regions
-mod Grouped
+pub mod Regions
+pub mod Grouped
+pub mod CopiedNodes
+pub mod Ranks
+pub mod CopyByCopy

@@ -1,0 +1,6 @@
+use Rattle.std.proofs.Common.{◌≡◌, ◌++◌, take, map}
+use Rattle.bg_react.specs.Copying.{late_copy}
+use Rattle.bg_react.proofs.instance.push_late_copy.Given as goal
+
+abbrev pub invariant-loop-row : goal.invariant-loop-row
+invariant-loop-row l = l.rows.items ≡ l.initial.rows.items ++ map (late_copy l.part l.free l.region) (take l.row-index l.part)
