@@ -3,3 +3,4 @@ pub mod Grouped
 pub mod CopiedNodes
 pub mod Ranks
 pub mod CopyByCopy
+pub mod Reacted

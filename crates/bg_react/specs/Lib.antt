@@ -2,3 +2,4 @@ pub mod Limits
 pub mod Counting
 pub mod Parts
 pub mod Copying
+pub mod Growth

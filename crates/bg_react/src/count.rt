@@ -27,7 +27,8 @@ pub(crate) fn count_copies(
 ) -> Mem<Option<Count>>
     ensures { IfOk result (λ found. MatchOption found
         (most < copied_nodes parts.now entries.now)
-        (λ count. (count.nodes ≡ copied_nodes parts.now entries.now) × (count.late ≡ late_nodes parts.now [] entries.now))) }
+        (λ count. (count.nodes ≡ copied_nodes parts.now entries.now) × (count.nodes ≤ most)
+        × (count.late ≡ late_nodes parts.now [] entries.now))) }
 {
     let mut count = Count { nodes: 0, late: 0 };
     let mut seen = BTreeSet::new(alloc);

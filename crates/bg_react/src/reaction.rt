@@ -1,11 +1,34 @@
 //! Reactions: the redex of a rule replaced by its reactum.
-ghost use Rattle.std.specs.Prelude.{◌≡◌, OnOk, OnErr, IsErrOf};
-ghost use Rattle.bg_rules.specs.Decomposition.{Occurs};
+ghost use Rattle.std.specs.Prelude.{◌≡◌, ◌≤◌, ◌<◌, ◌+◌, ◌^◌, length, OnOk, OnErr, IfOk, IsErr, IsErrOf, MatchOption};
+ghost use Rattle.bg_base.specs.Bigraph.{IsValid};
+ghost use Rattle.bg_base.specs.Elementary.{counted};
+ghost use Rattle.bg_base.specs.Products as product;
+ghost use Rattle.bg_decompose.specs.Joining.{joined};
+ghost use Rattle.bg_rules.specs.Decomposition.{Decomposes, Occurs};
+ghost use Rattle.bg_rules.specs.Hosts.{IsHost};
+ghost use Rattle.bg_rules.specs.Instantiation.{next_after};
+ghost use Rattle.bg_rules.specs.Reaction as defined;
 ghost use Rattle.bg_rules.specs.Reaction.{Reacts};
+ghost use Rattle.bg_rules.specs.Rules.{IsRule};
+ghost use Rattle.bg_react.specs.Growth as growth;
+ghost use Rattle.bg_react.specs.Growth.{AreSmall, GoesBetween, HasRoom, LiesBetween};
 ghost use Rattle.bg_react.specs.Limits.{IsWithinLimits, PassesALimit};
 
+use crate::count::count_copies;
+use crate::instance::{Instance, instance_of};
+use crate::parts::Parts;
+use bg_algebra::lean;
+use bg_base::Big;
+use bg_decompose::{Decomposition, recompose, split};
+use bg_lists::{Mem, Rows};
 use bg_rules::{Host, ReactFault, Rule};
 use std::alloc::Global;
+
+/// As many nodes, and as many edges, a host may have.
+const MOST_ROWS: u32 = 65_536;
+
+/// The largest counter that a host may have.
+const LARGEST_COUNTER: u32 = 2_147_483_648;
 
 /// The reaction of the host by the rule, whose redex occurs at the nodes of the map (Milner, chapter 8). The host is its context with
 /// the redex and a parameter in it; it becomes the context with the reactum, its nodes and edges numbered from the host's counters
@@ -22,5 +45,195 @@ pub fn react(alloc: Global, host: &mut Host, rule: &Rule, map: &[u32]) -> Result
     ensures full { IsErrOf result ReactFault.Full → PassesALimit host.old rule.now.redex rule.now.reactum rule.now.map map.now }
     ensures kept { OnErr result (host.new ≡ host.old) }
 {
-    Err(ReactFault::OutOfMemory)
+    let after = reacted(alloc, host, rule, map)?;
+    *host = after;
+    Ok(())
+}
+
+/// What the host becomes.
+fn reacted(alloc: Global, host: &Host, rule: &Rule, map: &[u32]) -> Result<Host, ReactFault>
+    requires occurs { Occurs host.now.big rule.now.redex map.now }
+    ensures reacts { IfOk result (Reacts host.now rule.now.redex rule.now.reactum rule.now.map map.now) }
+    ensures within { IfOk result IsWithinLimits }
+    ensures full { IsErrOf result ReactFault.Full → PassesALimit host.now rule.now.redex rule.now.reactum rule.now.map map.now }
+{
+    let parts = split(alloc, host.big(), rule.redex(), map)?;
+    let after = put_together(alloc, host, rule, parts)?;
+    Ok(after)
+}
+
+/// What the host of these parts becomes.
+fn put_together(
+    alloc: Global,
+    host: &Host,
+    rule: &Rule,
+    parts: Decomposition,
+) -> Result<Host, ReactFault>
+    requires is_host { IsHost host.now }
+    requires is_rule { IsRule rule.now }
+    requires between { LiesBetween host.now.big rule.now.redex parts.context parts.parameter }
+    ensures value { IfOk result (λ after. after ≡ growth.host_after host.now rule.now parts.context parts.parameter) }
+    ensures within { IfOk result IsWithinLimits }
+    ensures full { IsErrOf result ReactFault.Full → IsWithinLimits (growth.host_after host.now rule.now parts.context parts.parameter) → ⊥ }
+{
+    let Decomposition {
+        context,
+        parameter,
+        ..
+    } = parts;
+    let by_region = Parts::of(alloc, &parameter)?;
+    let Some(counters) = counters_after(alloc, host, rule, &context, &by_region)? else {
+        return Err(ReactFault::Full);
+    };
+    let big = big_after(alloc, host, rule, context, &by_region)?;
+    let after = host_of(big, counters)?;
+    Ok(after)
+}
+
+/// The counters of a host, once a reaction took place.
+#[derive(Clone, Copy)]
+struct Counters {
+    next_node: u32,
+    next_edge: u32,
+}
+
+/// The host with these counters, unless it has too many edges.
+fn host_of(big: Big, counters: Counters) -> Result<Host, ReactFault>
+    requires fits { length big.edges ≤ 65536 → IsHost (record { big = big; next_node = counters.next_node; next_edge = counters.next_edge }) }
+    ensures value { IfOk result (λ host. host ≡ record { big = big; next_node = counters.next_node; next_edge = counters.next_edge }) }
+    ensures few { IfOk result (λ host. length big.edges ≤ 65536) }
+    ensures full { IsErr result → 65536 < length big.edges }
+{
+    if big.edges.len() > MOST_ROWS {
+        return Err(ReactFault::Full);
+    }
+    Ok(Host::with_counters(big, counters.next_node, counters.next_edge))
+}
+
+/// The counters of what the host becomes; none where its nodes or a counter pass their limit.
+fn counters_after(
+    alloc: Global,
+    host: &Host,
+    rule: &Rule,
+    context: &Big,
+    parameter: &Parts<'_>,
+) -> Mem<Option<Counters>>
+    ensures { IfOk result (λ found. MatchOption found
+        (HasRoom host.now rule.now context.now parameter.now → ⊥)
+        (λ counters. HasRoom host.now rule.now context.now parameter.now
+        × (counters.next_node ≡ next_after parameter.now rule.now.map (growth.after_reactum host.now rule.now))
+        × (counters.next_edge ≡ host.now.next_edge + length rule.now.reactum.edges))) }
+{
+    let Some(most) = room_for_copies(context, rule.reactum()) else {
+        return Ok(None);
+    };
+    let Some(copies) = count_copies(alloc, parameter, rule.map(), most)? else {
+        return Ok(None);
+    };
+    Ok(counters_with(host, rule.reactum(), copies.late))
+}
+
+/// How many nodes the copies may have beside those of the context and of the reactum; none where these are too many.
+fn room_for_copies(context: &Big, reactum: &Big) -> Option<u32>
+    ensures { MatchOption result
+        (65536 < length context.now.nodes + length reactum.now.nodes)
+        (λ most. length context.now.nodes + (length reactum.now.nodes + most) ≡ 65536) }
+{
+    let room = rest_of(MOST_ROWS, context.nodes.len())?;
+    rest_of(room, reactum.nodes.len())
+}
+
+/// What is left of the most, none where more was taken.
+fn rest_of(most: u32, taken: u32) -> Option<u32>
+    ensures { MatchOption result (most < taken) (λ rest. taken + rest ≡ most) }
+{
+    if taken <= most {
+        Some(most - taken)
+    } else {
+        None
+    }
+}
+
+/// The host's counters after the reactum's rows and so many nodes of late copies; none where one passes its limit.
+fn counters_with(host: &Host, reactum: &Big, late: u32) -> Option<Counters>
+    ensures { MatchOption result
+        (AreSmall (host.now.next_node + length reactum.now.nodes + late) (host.now.next_edge + length reactum.now.edges) → ⊥)
+        (λ counters. AreSmall (host.now.next_node + length reactum.now.nodes + late) (host.now.next_edge + length reactum.now.edges)
+        × (counters.next_node ≡ host.now.next_node + length reactum.now.nodes + late)
+        × (counters.next_edge ≡ host.now.next_edge + length reactum.now.edges)) }
+{
+    let after_reactum = counter_after(host.next_node(), reactum.nodes.len())?;
+    let next_node = counter_after(after_reactum, late)?;
+    let next_edge = counter_after(host.next_edge(), reactum.edges.len())?;
+    Some(Counters {
+        next_node,
+        next_edge,
+    })
+}
+
+/// The counter after so many new numbers, none where it passes its limit.
+fn counter_after(counter: u32, count: u32) -> Option<u32>
+    ensures { MatchOption result (2147483648 < counter + count) (λ after. (after ≡ counter + count) × (after ≤ 2147483648)) }
+{
+    let room = rest_of(LARGEST_COUNTER, counter)?;
+    if count <= room {
+        Some(counter + count)
+    } else {
+        None
+    }
+}
+
+/// The bigraph of what the host becomes: the reactum between the context and an instance of the parameter.
+fn big_after(
+    alloc: Global,
+    host: &Host,
+    rule: &Rule,
+    context: Big,
+    parameter: &Parts<'_>,
+) -> Mem<Big>
+    requires is_host { IsHost host.now }
+    requires is_rule { IsRule rule.now }
+    requires between { LiesBetween host.now.big rule.now.redex context parameter.now }
+    requires room { HasRoom host.now rule.now context parameter.now }
+    ensures { IfOk result (λ big. big ≡ defined.recomposed host.now rule.now.reactum rule.now.map context parameter.now) }
+{
+    let after_reactum = host.next_node() + rule.reactum().nodes.len();
+    let Instance { big: instance, .. } = instance_of(alloc, parameter, rule.map(), after_reactum)?;
+    let big = with_reactum(alloc, host, rule.reactum(), context, instance)?;
+    Ok(big)
+}
+
+/// The reactum, its rows with the next numbers, between the context and the instance; idle edges are dropped.
+fn with_reactum(alloc: Global, host: &Host, reactum: &Big, context: Big, instance: Big) -> Mem<Big>
+    requires valid { IsValid reactum.now }
+    requires between { GoesBetween host.now reactum.now context instance }
+    requires nodes { host.now.next_node + length reactum.now.nodes < 2 ^ 32 }
+    requires edges { host.now.next_edge + length reactum.now.edges < 2 ^ 32 }
+    ensures { IfOk result (λ big. big ≡ product.lean (joined reactum.now (counted host.now.next_node (length reactum.now.nodes)) context
+        (counted host.now.next_edge (length reactum.now.edges)) instance)) }
+{
+    let map = numbers_from(alloc, host.next_node(), reactum.nodes.len())?;
+    let images = numbers_from(alloc, host.next_edge(), reactum.edges.len())?;
+    let parts = Decomposition {
+        map,
+        images,
+        context,
+        parameter: instance,
+    };
+    let whole = recompose(alloc, &parts, reactum)?;
+    let big = lean(alloc, &whole)?;
+    Ok(big)
+}
+
+/// So many numbers in a row, from the first on.
+#[tactic(auto, using(bg_algebra::proofs::Nested::counted_more))]
+fn numbers_from(alloc: Global, first: u32, count: u32) -> Mem<Rows<u32>>
+    requires { first + count < 2 ^ 32 }
+    ensures { IfOk result (λ numbers. numbers ≡ counted first count) }
+{
+    let mut numbers = Vec::new(alloc);
+    for step in 0..count {
+        numbers.push(first + step)?;
+    }
+    Rows::try_from_vec(numbers)
 }

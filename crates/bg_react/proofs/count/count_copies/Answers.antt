@@ -27,5 +27,6 @@ loop-region-preserved c = (
 
 pub returns : goal.returns
 returns c =
-    all_counted c.args.parts.now c.args.entries.now c.loop-region.region-index c.loop-region.count.nodes c.loop-region.count.late c.loop-region.seen.keys
-    c.loop-region-test.false c.loop-region.invariant.0
+    let counted = all_counted c.args.parts.now c.args.entries.now c.loop-region.region-index c.loop-region.count.nodes c.loop-region.count.late
+    c.loop-region.seen.keys c.loop-region-test.false c.loop-region.invariant.0 in
+    (counted.0, c.loop-region.invariant.1, counted.1)
