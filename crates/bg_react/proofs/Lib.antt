@@ -4,3 +4,4 @@ pub mod CopiedNodes
 pub mod Ranks
 pub mod CopyByCopy
 pub mod Reacted
+pub mod SmallCases
