@@ -33,8 +33,3 @@ pub use idle_edges::lean;
 pub use nesting::nest;
 pub use products::{merge, parallel, tensor};
 pub use renumbering::rename;
-
-#[cfg(test)]
-mod product_tests;
-#[cfg(test)]
-mod tests;

@@ -26,6 +26,3 @@ pub use look_up::{find_inner, find_node, has_edge, has_outer};
 pub use names::{Link, Name, Place};
 pub use signature::{Control, Kind, MOST_CONTROLS, MOST_PORTS, Signature, SignatureFault};
 pub use text::{Ident, Text, is_ident, is_text, is_text_byte, is_word_byte};
-
-#[cfg(test)]
-mod tests;

@@ -20,6 +20,3 @@ mod tables;
 
 pub use builder::Builder;
 pub use composition::compose;
-
-#[cfg(test)]
-mod tests;

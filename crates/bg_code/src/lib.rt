@@ -18,6 +18,3 @@ pub use lowering::code_of;
 pub use operation::Operation;
 pub use visible::Visible;
 pub use words::word_at;
-
-#[cfg(test)]
-mod tests;

@@ -17,6 +17,3 @@ mod splitting;
 pub use decomposition::Decomposition;
 pub use joining::{join, recompose};
 pub use splitting::split;
-
-#[cfg(test)]
-mod tests;

@@ -20,6 +20,3 @@ pub use choices::choice;
 pub use elaboration::elaborate;
 pub use fault::{Detail, ModelFault};
 pub use reading::read;
-
-#[cfg(test)]
-mod tests;

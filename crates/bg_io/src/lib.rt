@@ -8,8 +8,6 @@ mod memory_source;
 mod sink;
 mod source;
 mod standard;
-#[cfg(test)]
-mod tests;
 mod whole;
 
 pub use fault::{Failed, ReadAllFault, SinkFault};

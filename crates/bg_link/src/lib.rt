@@ -23,6 +23,3 @@ pub use graph::{Links, Point, PortRow, is_closed, links_of};
 pub use products::{both_inner, name_set, share_links, shared_names, tensor_links};
 pub use through::{inner_through, link_through, links_through};
 pub use wiring::Wiring;
-
-#[cfg(test)]
-mod tests;

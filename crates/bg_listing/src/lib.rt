@@ -29,6 +29,3 @@ pub use cursor::Cursor;
 pub use fault::{BAD_LINE, DUPLICATE_LABEL, ListingFault, TOO_MANY};
 pub use read::{bigraphs_have_one_text, read_big, read_signature, signatures_have_one_text};
 pub use write::{write_big, write_label, write_number, write_signature};
-
-#[cfg(test)]
-mod tests;

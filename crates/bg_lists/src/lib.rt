@@ -15,6 +15,3 @@ pub use duplicate::Duplicate;
 pub use memory::{Mem, OutOfMemory};
 pub use merging::{Numbered, merged};
 pub use rows::{Rows, copies};
-
-#[cfg(test)]
-mod tests;

@@ -28,6 +28,3 @@ pub use machine::Machine;
 pub use met::Met;
 pub use operators::{nested, product_of};
 pub use running::run;
-
-#[cfg(test)]
-mod tests;

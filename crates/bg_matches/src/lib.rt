@@ -12,6 +12,3 @@ mod rule_matches;
 
 pub use fault::MatchesFault;
 pub use matches::{write_excess, write_matches};
-
-#[cfg(test)]
-mod tests;

@@ -22,6 +22,3 @@ pub use forest::Forest;
 pub use graph::{ParentRow, Places, places_of};
 pub use laws::{climbs_reach_regions, depths_count_from_regions, places_not_there_are_empty};
 pub use products::tensor_places;
-
-#[cfg(test)]
-mod tests;

@@ -13,6 +13,3 @@ mod reaction;
 pub use bg_rules::ReactFault;
 pub use instance::{Instance, instantiate};
 pub use reaction::react;
-
-#[cfg(test)]
-mod tests;

@@ -27,6 +27,3 @@ pub use predicate::Predicate;
 pub use rule::{Rule, map_fits, sides_agree};
 pub use solid::first_unsolid;
 pub use system::System;
-
-#[cfg(test)]
-mod tests;

@@ -8,6 +8,3 @@ mod rule_listing;
 mod show;
 
 pub use show::write_system;
-
-#[cfg(test)]
-mod tests;

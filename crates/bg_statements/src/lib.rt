@@ -24,6 +24,3 @@ mod uses;
 pub use definitions::Definitions;
 pub use rule_values::{RuleValue, Whole};
 pub use uses::{NameSpaces, Uses};
-
-#[cfg(test)]
-mod tests;

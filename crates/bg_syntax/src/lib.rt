@@ -20,6 +20,3 @@ pub use laws::{models_are_derivation_trees, steps_determine_models, tokens_have_
 pub use parsing::parse;
 pub use symbol::Symbol;
 pub use tree::Tree;
-
-#[cfg(test)]
-mod tests;

@@ -18,6 +18,3 @@ pub use fault::{BAD_BYTE, DECIMAL_NUMBER, LexFault, NUMBER_TOO_LARGE, OPEN_STRIN
 pub use lex::tokens;
 pub use place::{Position, place_of};
 pub use token::{Token, TokenKind};
-
-#[cfg(test)]
-mod tests;

@@ -8,8 +8,6 @@ mod models;
 mod operands;
 mod refusal;
 mod reply;
-#[cfg(test)]
-mod tests;
 mod top;
 
 pub use bg_words::{Command, Request};

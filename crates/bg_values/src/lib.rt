@@ -25,6 +25,3 @@ pub use reading::{formula_of, number_at, number_token, text_at};
 pub use refusal::{Cause, LimitWord, Refusal, Stop};
 pub use scope::Scope;
 pub use stack::Stack;
-
-#[cfg(test)]
-mod tests;

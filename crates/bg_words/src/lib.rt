@@ -14,6 +14,3 @@ pub use asking::Request;
 pub use command::Command;
 pub use fault::WordsFault;
 pub use words::request;
-
-#[cfg(test)]
-mod tests;

@@ -1,6 +1,0 @@
-use Rattle.std.specs.List.Sorted.{IsStrictlySortedBy}
-use Rattle.bg_algebra.proofs.product_tests.an_idle_edge_is_dropped.Goals as goal
-
-pub idle-requires-clause-ascending : goal.idle-requires-clause-ascending
-unfolding IsStrictlySortedBy
-idle-requires-clause-ascending c c' = (tt, tt)

@@ -1,0 +1,19 @@
+use bg_lists::{copies, merged};
+use std::test::Fail;
+
+#[test]
+fn two_lists_are_merged(rt: HostRuntime) -> Result<(), Fail> {
+    let first = copies(rt.alloc(), &[1, 4, 5])?;
+    let second = copies(rt.alloc(), &[0, 2, 6, 7])?;
+    let made = merged(rt.alloc(), first, second)?;
+    assert_eq!(rt; made.as_slice(), [0, 1, 2, 4, 5, 6, 7].as_slice());
+    Ok(())
+}
+
+#[test]
+fn one_list_stays(rt: HostRuntime) -> Result<(), Fail> {
+    let first = copies(rt.alloc(), &[3, 8])?;
+    let made = merged(rt.alloc(), first, Vec::new(rt.alloc()))?;
+    assert_eq!(rt; made.as_slice(), [3, 8].as_slice());
+    Ok(())
+}

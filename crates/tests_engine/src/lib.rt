@@ -1,0 +1,5 @@
+//! Tests of the top call, `engine`: bytes and words in, bytes and a status out.
+#![tactic(auto)]
+
+#[cfg(test)]
+mod runs;

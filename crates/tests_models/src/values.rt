@@ -1,0 +1,267 @@
+use bg_base::Value;
+use bg_syntax::parse;
+use bg_syntax::tree::statements::{SynIntSet, SynParam, SynStmt};
+use bg_text::tokens;
+use bg_values::*;
+use std::alloc::Global;
+use std::test::*;
+
+/// What a parameter comes to.
+#[derive(Clone, Copy, Debug, PartialEq, Eq)]
+enum Outcome {
+    /// So many values, the first and the last of which are these numbers; 0 for a text.
+    Values(usize, i64, i64),
+    /// The cause, and the token.
+    Refused(Cause, u32),
+    NoMemory,
+    NoParameter,
+}
+
+/// The number that a value is, 0 for a text.
+fn number_or_zero(value: Option<&Value>) -> i64 {
+    match value {
+        Some(Value::Int(number)) => *number,
+        _ => 0,
+    }
+}
+
+fn outcome_of(alloc: Global, scope: &Scope, parameter: &SynParam) -> Outcome {
+    match parameter_values(alloc, scope, parameter) {
+        Ok(values) => Outcome::Values(
+            values.len(),
+            number_or_zero(values.first()),
+            number_or_zero(values.last()),
+        ),
+        Err(Stop::Refused(refusal)) => Outcome::Refused(refusal.cause, refusal.token),
+        Err(Stop::OutOfMemory) => Outcome::NoMemory,
+    }
+}
+
+/// What the formulas of a list come to, where the names have these values.
+fn values_in(alloc: Global, scope: &Scope, set: &SynIntSet, env: &[Value]) -> Outcome {
+    match set {
+        SynIntSet::Way1(_, first, more, _) => match operands_of(
+            alloc,
+            scope,
+            first,
+            more.as_slice(),
+        ) {
+            Ok(operands) => match values_of(alloc, operands.as_slice(), env) {
+                Ok(values) => Outcome::Values(
+                    values.len(),
+                    number_or_zero(values.first()),
+                    number_or_zero(values.last()),
+                ),
+                Err(stop) => stopped(stop),
+            },
+            Err(stop) => stopped(stop),
+        },
+        _ => Outcome::NoParameter,
+    }
+}
+
+fn stopped(stop: Stop) -> Outcome {
+    match stop {
+        Stop::Refused(refusal) => Outcome::Refused(refusal.cause, refusal.token),
+        Stop::OutOfMemory => Outcome::NoMemory,
+    }
+}
+
+/// The tokens at which the names of the parameters stand in the text, which has no other statements.
+fn name_tokens(alloc: Global, text: &str) -> Option<(u32, u32)> {
+    if text.len() > 10_000 {
+        return None;
+    }
+    let tokens = tokens(alloc, text.as_bytes()).ok()?;
+    if tokens.len() > 10_000 {
+        return None;
+    }
+    let tree = parse(alloc, &tokens).ok()?;
+    let first = name_in(&tree.part1.first()?.part1)?;
+    let last = name_in(&tree.part1.last()?.part1)?;
+    Some((first, last))
+}
+
+fn name_in(statement: &SynStmt) -> Option<u32> {
+    match statement {
+        SynStmt::Way6(parameter) => Some(parameter_name(parameter)),
+        _ => None,
+    }
+}
+
+/// What the first statement of the text comes to, a parameter; or a list in which the names have these values.
+fn read_parameter(alloc: Global, text: &str, names: &NameTable<()>, env: &[Value]) -> Outcome {
+    if text.len() > 10_000 {
+        return Outcome::NoParameter;
+    }
+    let Ok(tokens) = tokens(alloc, text.as_bytes()) else {
+        return Outcome::NoParameter;
+    };
+    if tokens.len() > 10_000 {
+        return Outcome::NoParameter;
+    }
+    let Ok(tree) = parse(alloc, &tokens) else {
+        return Outcome::NoParameter;
+    };
+    let scope = Scope {
+        bytes: text.as_bytes(),
+        tokens: tokens.as_slice(),
+        names,
+    };
+    match tree.part1.first() {
+        Some(item) => match &item.part1 {
+            SynStmt::Way6(SynParam::Way1(_, _, _, set, _)) if !env.is_empty() => {
+                values_in(alloc, &scope, set, env)
+            }
+            SynStmt::Way6(parameter) => outcome_of(alloc, &scope, parameter),
+            _ => Outcome::NoParameter,
+        },
+        None => Outcome::NoParameter,
+    }
+}
+
+/// Parameters with values: how many, the first and the last.
+const VALUES: [(&str, usize, i64, i64); 12] = [
+    ("int n = 1 + 2 * 3 - 4;", 1, 3, 3),
+    ("int n = -7 / 2;", 1, -3, -3),
+    ("int n = 7 / -2;", 1, -3, -3),
+    ("int n = -(3 - 5) * -2;", 1, -4, -4),
+    (
+        "int n = 9223372036854775807;",
+        1,
+        9223372036854775807,
+        9223372036854775807,
+    ),
+    (
+        "int n = -9223372036854775807 - 1;",
+        1,
+        -9223372036854775808,
+        -9223372036854775808,
+    ),
+    ("int n = {3, 1, 2, 1};", 4, 3, 1),
+    ("int n = [0:3:10];", 4, 0, 9),
+    ("int n = [1:1:4096];", 4096, 1, 4096),
+    (
+        "int n = [9223372036854775806:2:9223372036854775807];",
+        1,
+        9223372036854775806,
+        9223372036854775806,
+    ),
+    (
+        "int n = [-9223372036854775807:9223372036854775807:9223372036854775807];",
+        3,
+        -9223372036854775807,
+        9223372036854775807,
+    ),
+    ("string s = {\"a\", \"\", \"a\"};", 3, 0, 0),
+];
+
+/// Parameters that are refused: the cause and the token.
+const REFUSED: [(&str, Cause, u32); 15] = [
+    ("int n = 9223372036854775807 + 1;", Cause::NumberOverflow, 4),
+    (
+        "int n = -(-9223372036854775807 - 1);",
+        Cause::NumberOverflow,
+        3,
+    ),
+    (
+        "int n = (-9223372036854775807 - 1) / -1;",
+        Cause::NumberOverflow,
+        9,
+    ),
+    ("int n = 1 / 0;", Cause::ZeroDivisor, 4),
+    ("int n = \"a\" + 1 / 0;", Cause::ZeroDivisor, 6),
+    ("int n = \"a\" / 0;", Cause::WrongKind, 3),
+    ("int n = 1 - (\"a\");", Cause::WrongKind, 5),
+    ("int n = \"a\";", Cause::WrongKind, 3),
+    ("int n = {1, \"a\", 1 / 0};", Cause::WrongKind, 6),
+    ("int n = {1 / 0, m};", Cause::UnknownName, 8),
+    ("int n = [3:1:2];", Cause::EmptyRange, 3),
+    ("int n = [1:0:2];", Cause::EmptyRange, 3),
+    ("int n = [1:\"a\":1 / 0];", Cause::ZeroDivisor, 9),
+    ("int n = [1:1:4097];", Cause::TooLarge(LimitWord::Values), 1),
+    (
+        "int n = [-9223372036854775807:1:9223372036854775807];",
+        Cause::TooLarge(LimitWord::Values),
+        1,
+    ),
+];
+
+#[test]
+fn finds_the_values_of_parameters(rt: HostRuntime) {
+    let names = NameTable::new(rt.alloc());
+    for (text, count, first, last) in VALUES {
+        assert!(rt;
+            read_parameter(rt.alloc(), text, &names, &[]) == Outcome::Values(count, first, last),
+            "{text}"
+        );
+    }
+}
+
+#[test]
+fn refuses_a_parameter_with_its_first_cause(rt: HostRuntime) {
+    let names = NameTable::new(rt.alloc());
+    for (text, cause, token) in REFUSED {
+        assert!(rt;
+            read_parameter(rt.alloc(), text, &names, &[]) == Outcome::Refused(cause, token),
+            "{text}"
+        );
+    }
+}
+
+#[test]
+fn finds_values_where_names_are_visible(rt: HostRuntime) {
+    let mut names = NameTable::new(rt.alloc());
+    assert!(rt; names.add(rt.alloc(), b"x", ()) == Ok(true));
+    assert!(rt; names.add(rt.alloc(), b"y'", ()) == Ok(true));
+    assert!(rt; names.add(rt.alloc(), b"x", ()) == Ok(false));
+    assert!(rt; names.find(b"y'") == Some(1));
+    let env = [Value::Int(3), Value::Int(5)];
+    let text = "int n = {x * (y' - 1), -x};";
+    assert!(rt;
+        read_parameter(rt.alloc(), text, &names, &env) == Outcome::Values(2, 12, -3),
+        "{text}"
+    );
+    let text = "int n = {x / (x - x), z};";
+    assert!(rt;
+        read_parameter(rt.alloc(), text, &names, &env) == Outcome::Refused(Cause::UnknownName, 12),
+        "{text}"
+    );
+}
+
+#[test]
+fn finds_the_names_of_parameters(rt: HostRuntime) {
+    let text = "int n = {1, 2}; string s = \"a\";";
+    assert_eq!(rt; name_tokens(rt.alloc(), text), Some((1, 10)));
+    assert_eq!(rt; name_tokens(rt.alloc(), "int n = 1; ctrl K = 0;"), None);
+}
+
+#[test]
+fn no_name_is_visible_in_a_parameter(rt: HostRuntime) {
+    let mut names = NameTable::new(rt.alloc());
+    assert!(rt; names.add(rt.alloc(), b"x", ()) == Ok(true));
+    let text = "int n = x;";
+    assert!(rt;
+        read_parameter(rt.alloc(), text, &names, &[]) == Outcome::Refused(Cause::UnknownName, 3),
+        "{text}"
+    );
+}
+
+#[test]
+fn no_digits_spell_no_number(rt: HostRuntime) {
+    let names = NameTable::new(rt.alloc());
+    let scope = Scope {
+        bytes: b"",
+        tokens: &[],
+        names: &names,
+    };
+    assert!(rt; number_at(&scope, 0) == Err(Stop::refuse(Cause::Unexpected, 0)));
+}
+
+#[test]
+fn causes_have_numbers(rt: HostRuntime) {
+    assert!(rt; Cause::FacesDiffer.code() == 11);
+    assert!(rt; Cause::UnknownName.code() == 41);
+    assert!(rt; Cause::TooLarge(LimitWord::Values).code() == 52);
+    assert!(rt; Cause::WrongKind.code() == 55);
+}

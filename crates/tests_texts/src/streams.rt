@@ -1,0 +1,113 @@
+use bg_io::{
+    Failed, MemorySink, MemorySource, ReadAllFault, Sink, SinkFault, Source, StdSink, StdSource,
+    read_all, write_all,
+};
+use std::io;
+use std::io::{Read, Write};
+use std::test::Fail;
+
+/// A reader that always fails.
+#[derive(Drop)]
+struct Broken;
+
+impl Read for Broken {
+    fn read(&mut self, _buf: &mut [u8]) -> io::Result<usize> {
+        Err(io::ErrorKind::BrokenPipe.into())
+    }
+}
+
+/// A writer that takes nothing, and cannot be flushed.
+#[derive(Drop)]
+struct Full;
+
+impl Write for Full {
+    fn write(&mut self, _buf: &[u8]) -> io::Result<usize> {
+        Ok(0)
+    }
+
+    fn flush(&mut self) -> io::Result<()> {
+        Err(io::ErrorKind::StorageFull.into())
+    }
+}
+
+#[test]
+fn a_source_is_read_whole_in_pieces(rt: HostRuntime) -> Result<(), Fail> {
+    let alloc = rt.alloc();
+    let mut source = MemorySource::new(b"a room in a building".to_vec(alloc)?, 3, Vec::new(alloc));
+    let bytes = read_all(alloc, &mut source, 20)?;
+    assert_eq!(rt; bytes.as_slice(), b"a room in a building".as_slice());
+    Ok(())
+}
+
+#[test]
+fn a_source_past_the_limit_is_too_long(rt: HostRuntime) -> Result<(), Fail> {
+    let alloc = rt.alloc();
+    let mut source = MemorySource::new(b"a room in a building".to_vec(alloc)?, 3, Vec::new(alloc));
+    let result = read_all(alloc, &mut source, 19);
+    assert!(rt; matches!(&result, Err(ReadAllFault::TooLong)));
+    Ok(())
+}
+
+#[test]
+fn a_read_that_fails_leaves_the_rest(rt: HostRuntime) -> Result<(), Fail> {
+    let alloc = rt.alloc();
+    let mut source = MemorySource::new(b"room".to_vec(alloc)?, 1, [3].to_vec(alloc)?);
+    let first = read_all(alloc, &mut source, 100);
+    assert!(rt; matches!(&first, Err(ReadAllFault::ReadFault)));
+    let rest = read_all(alloc, &mut source, 100)?;
+    assert_eq!(rt; rest.as_slice(), b"om".as_slice());
+    Ok(())
+}
+
+#[test]
+fn a_sink_is_given_all(rt: HostRuntime) -> Result<(), Fail> {
+    let alloc = rt.alloc();
+    let mut sink = MemorySink::new(alloc, 2, Vec::new(alloc));
+    write_all(&mut sink, b"agents")?;
+    assert_eq!(rt; sink.held(), b"agents".as_slice());
+    Ok(())
+}
+
+#[test]
+fn a_write_that_fails_leaves_a_prefix(rt: HostRuntime) -> Result<(), Fail> {
+    let alloc = rt.alloc();
+    let mut sink = MemorySink::new(alloc, 1, [4].to_vec(alloc)?);
+    let result = write_all(&mut sink, b"agents");
+    assert!(rt; matches!(&result, Err(SinkFault::Failed)));
+    assert_eq!(rt; sink.held(), b"age".as_slice());
+    Ok(())
+}
+
+#[test]
+fn a_flush_that_fails_leaves_all(rt: HostRuntime) -> Result<(), Fail> {
+    let alloc = rt.alloc();
+    let mut sink = MemorySink::new(alloc, 100, [2].to_vec(alloc)?);
+    let result = write_all(&mut sink, b"agents");
+    assert!(rt; matches!(&result, Err(SinkFault::Failed)));
+    assert_eq!(rt; sink.held(), b"agents".as_slice());
+    Ok(())
+}
+
+#[test]
+fn standard_ends_pass_bytes_on(rt: HostRuntime) -> Result<(), Fail> {
+    let alloc = rt.alloc();
+    let mut source = StdSource::new(b"a link".as_slice());
+    let bytes = read_all(alloc, &mut source, 100)?;
+    let mut held: Vec<u8> = Vec::new(alloc);
+    let mut sink = StdSink::new(&mut held);
+    write_all(&mut sink, bytes.as_slice())?;
+    assert_eq!(rt; held.as_slice(), b"a link".as_slice());
+    Ok(())
+}
+
+#[test]
+fn standard_ends_answer_failures(rt: HostRuntime) -> Result<(), Fail> {
+    let mut source = StdSource::new(Broken);
+    let mut buf = [0u8; 4];
+    assert!(rt; source.read(&mut buf) == Err(Failed));
+    let mut sink = StdSink::new(Full);
+    assert!(rt; sink.write(b"a link") == Err(SinkFault::Failed));
+    assert!(rt; sink.write(b"") == Ok(0));
+    assert!(rt; sink.flush() == Err(SinkFault::Failed));
+    Ok(())
+}

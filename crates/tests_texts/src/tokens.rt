@@ -1,0 +1,76 @@
+use bg_text::TokenKind::*;
+use bg_text::*;
+use std::test::*;
+
+/// Texts of three tokens each, with the kind and the span of each token.
+const CUT: [(&str, [(TokenKind, u32, u32); 3]); 7] = [
+    ("1 .1", [(One, 0, 1), (Dot, 2, 3), (One, 3, 4)]),
+    ("--->x", [(Minus, 0, 1), (Arrow, 1, 4), (Lower, 4, 5)]),
+    ("|||@", [(BarBar, 0, 2), (Bar, 2, 3), (At, 3, 4)]),
+    ("id' in2 in", [(Lower, 0, 3), (Lower, 4, 7), (KwIn, 8, 10)]),
+    ("00 01 0", [(Num, 0, 2), (Num, 3, 5), (Zero, 6, 7)]),
+    (
+        "# \"$\u{0}é\nRoom(\"a #\"",
+        [(Upper, 8, 12), (OpenRound, 12, 13), (Text, 13, 18)],
+    ),
+    (
+        "9223372036854775807.x#",
+        [(Num, 0, 19), (Dot, 19, 20), (Lower, 20, 21)],
+    ),
+];
+
+/// Texts that are refused, with the code and the offset.
+const REFUSED: [(&str, u8, u32); 13] = [
+    ("ctrl $", 21, 5),
+    ("string s = \"abc", 22, 11),
+    ("ctrl A = 9223372036854775808;", 23, 9),
+    ("int n = 1.5;", 24, 8),
+    ("99999999999999999999.5", 24, 0),
+    ("\"a\u{0}b", 22, 0),
+    ("\"a\u{0}b\"", 21, 2),
+    ("\"abc\r\n\"", 22, 0),
+    ("\u{feff}ctrl", 21, 0),
+    ("\u{0}", 21, 0),
+    ("\u{b}", 21, 0),
+    ("a\u{c}", 21, 1),
+    ("# a\n\"", 22, 4),
+];
+
+fn token((kind, start, end): (TokenKind, u32, u32)) -> Token {
+    Token { kind, start, end }
+}
+
+#[test]
+fn cuts_texts(rt: HostRuntime) -> Result<(), Fail> {
+    for (text, [first, second, third]) in CUT {
+        let found = tokens(rt.alloc(), text.as_bytes())
+            .ok()
+            .ok_or("the text has tokens")?;
+        let expected = [token(first), token(second), token(third)];
+        assert_eq!(rt; found.as_slice(), expected.as_slice(), "{text}");
+    }
+    let none = tokens(rt.alloc(), b"")
+        .ok()
+        .ok_or("the empty text has tokens")?;
+    assert_eq!(rt; none.len(), 0);
+    Ok(())
+}
+
+#[test]
+fn refuses_with_the_code_and_the_offset(rt: HostRuntime) {
+    for (text, code, offset) in REFUSED {
+        let refused = match tokens(rt.alloc(), text.as_bytes()) {
+            Err(LexFault::Bad { code, offset }) => (code, offset),
+            Err(LexFault::OutOfMemory) => (0, 0),
+            Ok(_) => (0, 1),
+        };
+        assert_eq!(rt; refused, (code, offset), "{text}");
+    }
+}
+
+#[test]
+fn tells_lines_and_columns(rt: HostRuntime) {
+    for (offset, line, column) in [(0, 1, 1), (1, 1, 2), (2, 2, 1), (3, 2, 2), (4, 2, 3)] {
+        assert_eq!(rt; place_of(b"a\nbc", offset), Position { line, column });
+    }
+}
