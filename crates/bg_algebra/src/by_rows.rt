@@ -14,8 +14,9 @@ use bg_lists::{Duplicate, Mem, Rows};
 use bg_place::{place_through, sites_through};
 use std::alloc::Global;
 
-/// The composition of two valid bigraphs whose supports are apart, made row by row. It is what [`compose`](crate::compose)
-/// gives where the faces agree too. Costs time n log n in the size of both, and memory in proportion to it.
+/// The composition of two valid bigraphs whose supports are apart, made row by row. It is what
+/// [`compose`](crate::compose) gives where the faces agree too. Costs time n log n in the size of both, and memory in
+/// proportion to it.
 pub fn compose_by_rows(alloc: Global, g: &Big, f: &Big) -> Mem<Big>
     requires g_valid { IsValid g.now }
     requires f_valid { IsValid f.now }

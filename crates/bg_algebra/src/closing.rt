@@ -17,8 +17,8 @@ use std::alloc::Global;
 
 /// The bigraph with the outer name made the edge `edge` (Milner, chapter 3: closure). What was tied to the name is tied
 /// to the edge, which is there also where nothing was.
-/// It refuses, in this order: `NoSuchName`, number 16, where the name is no outer name; `SupportMeets`, number 12, where
-/// the edge is there. Costs time and memory in proportion to the bigraph.
+/// It refuses, in this order: `NoSuchName`, number 16, where the name is no outer name; `SupportMeets`, number 12,
+/// where the edge is there. Costs time and memory in proportion to the bigraph.
 pub fn close(alloc: Global, f: &Big, name: &Name, edge: u32) -> Result<Big, AlgebraFault>
     requires valid { IsValid f.now }
     ensures closed { IfOk result (λ whole. whole ≡ product.close f.now name.now edge) }

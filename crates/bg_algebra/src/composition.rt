@@ -18,8 +18,8 @@ use std::alloc::Global;
 /// name `y` of `g`. Nodes and edges keep their numbers; an edge stays even where nothing is tied to it.
 /// It refuses, in this order: `FacesDiffer`, number 11, where `f` has not as many regions as `g` has sites or the outer
 /// names of `f` are not the inner names of `g`; `SupportMeets`, number 12, where a node or an edge is in both.
-/// Costs time n log n in the size of both and of the result, and memory in proportion to them. Each port of `f` gets a copy
-/// of the name that its link becomes, so long names of `g` at many ports of `f` make a large result.
+/// Costs time n log n in the size of both and of the result, and memory in proportion to them. Each port of `f` gets a
+/// copy of the name that its link becomes, so long names of `g` at many ports of `f` make a large result.
 pub fn compose(alloc: Global, g: &Big, f: &Big) -> Result<Big, AlgebraFault>
     requires g_valid { IsValid g.now }
     requires f_valid { IsValid f.now }

@@ -13,8 +13,8 @@ ghost use Rattle.bg_base.specs.Products.{InnerApart, OuterApart};
 
 use bg_base::{Big, InnerRow, Name, NodeRow, find_inner, find_node, has_edge, has_outer};
 
-/// Whether the outer face of `f` is the inner face of `g`: there are as many regions as sites, and the outer names are the
-/// inner names. Costs time in proportion to the names.
+/// Whether the outer face of `f` is the inner face of `g`: there are as many regions as sites, and the outer names are
+/// the inner names. Costs time in proportion to the names.
 pub fn faces_agree(g: &Big, f: &Big) -> bool
     ensures { IsTrue result ↔ FacesAgree g.now f.now }
 {
@@ -42,8 +42,8 @@ fn is_named(row: &InnerRow, name: &Name) -> bool
     row.name == *name
 }
 
-/// Whether no node and no edge is in both. Costs time in proportion to `f`, and for each of its rows the logarithm of the
-/// number of rows of `g`.
+/// Whether no node and no edge is in both. Costs time in proportion to `f`, and for each of its rows the logarithm of
+/// the number of rows of `g`.
 pub fn supports_apart(g: &Big, f: &Big) -> bool
     requires nodes_ascend { IsStrictlySortedBy node_cmp g.now.nodes }
     requires edges_ascend { IsStrictlySortedBy nat_cmp g.now.edges }

@@ -125,7 +125,8 @@ fn sites_in_one_region(alloc: Global, width: u32) -> Mem<Rows<Place>>
     Ok(Rows::from_vec(sites))
 }
 
-/// Outer names to which nothing is tied, and no place. The names ascend, each once. Costs time and memory in proportion to the names.
+/// Outer names to which nothing is tied, and no place. The names ascend, each once. Costs time and memory in proportion
+/// to the names.
 pub fn idle(alloc: Global, names: &[Name]) -> Mem<Big>
     requires few { length names.now < 2 ^ 32 - 1 }
     requires ascending { IsStrictlySortedBy name_cmp names.now }
@@ -158,8 +159,8 @@ pub fn ion(alloc: Global, control: u32, node: u32, names: &[Name]) -> Mem<Big>
     Ok(whole)
 }
 
-/// A node alone in a region with nothing in it (Milner, chapter 3: atom). Its ports are tied to the names in their order,
-/// which may repeat. Costs time n log n, and memory n, in the number of names.
+/// A node alone in a region with nothing in it (Milner, chapter 3: atom). Its ports are tied to the names in their
+/// order, which may repeat. Costs time n log n, and memory n, in the number of names.
 pub fn atom(alloc: Global, control: u32, node: u32, names: &[Name]) -> Mem<Big>
     requires few { length names.now < 2 ^ 32 - 1 }
     ensures value { IfOk result (λ big. big ≡ elementary.atom control node names.now) }

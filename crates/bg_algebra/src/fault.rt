@@ -35,8 +35,8 @@ impl AlgebraFault {
     ghost use Rattle.std.specs.Prelude.{◌≡◌};
     ghost use Rattle.bg_algebra.specs.Faults.{number_of};
 
-    /// The number of the refusal: 11 for `FacesDiffer`, and so on in the order of the variants to 17 for `HasInnerNames`.
-    /// Want of memory is no refusal and has none.
+    /// The number of the refusal: 11 for `FacesDiffer`, and so on in the order of the variants to 17 for
+    /// `HasInnerNames`. Want of memory is no refusal and has none.
     pub fn number(&self) -> Option<u8>
         ensures { result ≡ number_of self.now }
     {

@@ -1,6 +1,6 @@
-//! The laws of the algebra (Milner, chapters 2 and 3), which a reader may rely on and other crates cite. A call does nothing.
-//! They hold of rows with their numbers, as equalities. What numbers break: the products are not commutative, since the
-//! sites and regions of the second operand come after those of the first.
+//! The laws of the algebra (Milner, chapters 2 and 3), which a reader may rely on and other crates cite. A call does
+//! nothing. They hold of rows with their numbers, as equalities. What numbers break: the products are not commutative,
+//! since the sites and regions of the second operand come after those of the first.
 ghost use Rattle.std.specs.Prelude.{◌≡◌, ◌+◌, ℕ, [], List, length, IsTrue, IsSome, IsNone, All};
 ghost use Rattle.std.specs.List.{IsDistinct};
 ghost use Rattle.std.specs.List.Sorted.{IsStrictlySortedBy};

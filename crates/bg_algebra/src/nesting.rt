@@ -14,9 +14,9 @@ use bg_lists::Mem;
 use std::alloc::Global;
 
 /// The nesting of `g` in `f` (Milner, chapter 3): `g` lies in the sites of `f`, which has no inner names, and an outer
-/// name that both have is one name. It is the composition of `f`, beside the identity on the outer names of `g`, with `g`.
-/// It refuses, in this order: `HasInnerNames`, number 17, where `f` has an inner name; `WidthsDiffer`, number 15, where
-/// `g` has not as many regions as `f` has sites; `SupportMeets`, number 12, where a node or an edge is in both.
+/// name that both have is one name. It is the composition of `f`, beside the identity on the outer names of `g`, with
+/// `g`. It refuses, in this order: `HasInnerNames`, number 17, where `f` has an inner name; `WidthsDiffer`, number 15,
+/// where `g` has not as many regions as `f` has sites; `SupportMeets`, number 12, where a node or an edge is in both.
 /// Costs as [`crate::compose`] does.
 pub fn nest(alloc: Global, f: &Big, g: &Big) -> Result<Big, AlgebraFault>
     requires f_valid { IsValid f.now }

@@ -16,11 +16,11 @@ use bg_lists::Mem;
 use bg_place::tensor_places;
 use std::alloc::Global;
 
-/// The tensor product of two valid bigraphs (Milner, chapter 2): `f` and `g` side by side. The regions of `g` come after
-/// those of `f`, and so do its sites; no name is in both.
-/// It refuses, in this order: `NamesMeet`, number 13, where an inner name is in both or an outer name is in both;
-/// `SupportMeets`, number 12, where a node or an edge is in both. The regions of both, and the sites of both, are to be
-/// fewer than 32 bits can number. Costs time n log n in the size of both, and memory in proportion to it.
+/// The tensor product of two valid bigraphs (Milner, chapter 2): `f` and `g` side by side. The regions of `g` come
+/// after those of `f`, and so do its sites; no name is in both. It refuses, in this order: `NamesMeet`, number 13,
+/// where an inner name is in both or an outer name is in both; `SupportMeets`, number 12, where a node or an edge is in
+/// both. The regions of both, and the sites of both, are to be fewer than 32 bits can number. Costs time n log n in the
+/// size of both, and memory in proportion to it.
 pub fn tensor(alloc: Global, f: &Big, g: &Big) -> Result<Big, AlgebraFault>
     requires f_valid { IsValid f.now }
     requires g_valid { IsValid g.now }

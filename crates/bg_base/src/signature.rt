@@ -26,9 +26,9 @@ pub struct Control {
     pub kind: Kind,
 }
 
-/// A basic signature (Milner, chapter 1): a list of controls. A control's number is its position, counted from 0. No label
-/// stands twice. The limits are this project's: no arity is above 16, and there are at most 4,096 controls. A contract
-/// sees the list of the controls.
+/// A basic signature (Milner, chapter 1): a list of controls. A control's number is its position, counted from 0. No
+/// label stands twice. The limits are this project's: no arity is above 16, and there are at most 4,096 controls. A
+/// contract sees the list of the controls.
 #[derive(Debug, Drop)]
 pub struct Signature {
     controls: Vec<Control>,

@@ -22,10 +22,10 @@ impl Builder {
     ghost use Rattle.bg_base.specs.Products as product;
     ghost use Rattle.bg_builder.specs.Numbers as numbers;
 
-    /// The bigraph with the outer name made the edge `edge` (Milner, chapter 3: closure). What was tied to the name is tied
-    /// to the edge, which is there also where nothing was. The edges of this bigraph lie behind that one.
-    /// It refuses by `NoSuchName`, number 16, where the name is no outer name. Costs time in proportion to the bigraph; rows
-    /// that the name is not tied to stay as they are.
+    /// The bigraph with the outer name made the edge `edge` (Milner, chapter 3: closure). What was tied to the name is
+    /// tied to the edge, which is there also where nothing was. The edges of this bigraph lie behind that one. It
+    /// refuses by `NoSuchName`, number 16, where the name is no outer name. Costs time in proportion to the bigraph;
+    /// rows that the name is not tied to stay as they are.
     pub fn close(self, alloc: Global, name: &Name, edge: u32) -> Result<Builder, AlgebraFault>
         requires new { numbers.lies_behind edge self ≡ true }
         ensures closed { IfOk result (λ whole. whole ≡ product.close self name.now edge) }

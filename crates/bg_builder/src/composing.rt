@@ -25,12 +25,12 @@ impl Builder {
     ghost use Rattle.bg_base.specs.Products as product;
     ghost use Rattle.bg_builder.specs.Numbers as numbers;
 
-    /// The composition with `right` below this bigraph (Milner, chapter 2): what lies in region `j` of `right` comes to lie
-    /// where site `j` of this one lies, and what is tied to outer name `y` of `right` is tied to the link of inner name `y`
-    /// of this one. The numbers of `right` follow those of this bigraph.
-    /// It refuses by `FacesDiffer`, number 11, where `right` has not as many regions as this bigraph has sites or the outer
-    /// names of `right` are not the inner names of this one. Costs time in proportion to `right`, and for each of its links
-    /// the logarithm of the number of its outer names; each port of `right` gets a copy of the name that its link becomes.
+    /// The composition with `right` below this bigraph (Milner, chapter 2): what lies in region `j` of `right` comes to
+    /// lie where site `j` of this one lies, and what is tied to outer name `y` of `right` is tied to the link of inner
+    /// name `y` of this one. The numbers of `right` follow those of this bigraph. It refuses by `FacesDiffer`, number
+    /// 11, where `right` has not as many regions as this bigraph has sites or the outer names of `right` are not the
+    /// inner names of this one. Costs time in proportion to `right`, and for each of its links the logarithm of the
+    /// number of its outer names; each port of `right` gets a copy of the name that its link becomes.
     pub fn compose(self, alloc: Global, right: Builder) -> Result<Builder, AlgebraFault>
         requires follows { numbers.follows self right ≡ true }
         ensures composed { IfOk result (λ whole. whole ≡ composition.compose self right) }
@@ -46,11 +46,11 @@ impl Builder {
         Ok(compose_whole(alloc, f, g)?)
     }
 
-    /// The nesting of `right` in this bigraph (Milner, chapter 3): `right` lies in the sites of this one, which has no inner
-    /// names, and an outer name that both have is one name. The numbers of `right` follow those of this bigraph.
-    /// It refuses, in this order: `HasInnerNames`, number 17, where this bigraph has an inner name; `WidthsDiffer`, number
-    /// 15, where `right` has not as many regions as this one has sites. Costs time in proportion to `right`, and for each of
-    /// its outer names the logarithm of the number of names of this bigraph.
+    /// The nesting of `right` in this bigraph (Milner, chapter 3): `right` lies in the sites of this one, which has no
+    /// inner names, and an outer name that both have is one name. The numbers of `right` follow those of this bigraph.
+    /// It refuses, in this order: `HasInnerNames`, number 17, where this bigraph has an inner name; `WidthsDiffer`,
+    /// number 15, where `right` has not as many regions as this one has sites. Costs time in proportion to `right`, and
+    /// for each of its outer names the logarithm of the number of names of this bigraph.
     pub fn nest(self, right: Builder) -> Result<Builder, AlgebraFault>
         requires follows { numbers.follows self right ≡ true }
         ensures product { IfOk result (λ whole. whole ≡ product.nest self right) }

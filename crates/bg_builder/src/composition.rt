@@ -16,12 +16,12 @@ use bg_base::{Big, InnerRow, NodeRow, Place};
 use bg_lists::{Mem, Rows, merged};
 use std::alloc::Global;
 
-/// The composition of two valid bigraphs, `g` above and `f` below (Milner, chapter 2): what [`bg_algebra::compose`] gives,
-/// of the rows of both. They are moved, and those of `f` are changed in place.
-/// It refuses, in this order: `FacesDiffer`, number 11, where `f` has not as many regions as `g` has sites or the outer
-/// names of `f` are not the inner names of `g`; `SupportMeets`, number 12, where a node or an edge is in both.
-/// Costs time in proportion to both, and for each row and each link of `f` the logarithm of the rows of `g`; each port of
-/// `f` gets a copy of the name that its link becomes.
+/// The composition of two valid bigraphs, `g` above and `f` below (Milner, chapter 2): what [`bg_algebra::compose`]
+/// gives, of the rows of both. They are moved, and those of `f` are changed in place. It refuses, in this order:
+/// `FacesDiffer`, number 11, where `f` has not as many regions as `g` has sites or the outer names of `f` are not the
+/// inner names of `g`; `SupportMeets`, number 12, where a node or an edge is in both. Costs time in proportion to both,
+/// and for each row and each link of `f` the logarithm of the rows of `g`; each port of `f` gets a copy of the name
+/// that its link becomes.
 pub fn compose(alloc: Global, g: Big, f: Big) -> Result<Big, AlgebraFault>
     requires g_valid { IsValid g }
     requires f_valid { IsValid f }

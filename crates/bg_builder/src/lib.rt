@@ -1,4 +1,5 @@
-//! A valid bigraph that others are put to in place, so that a chain of many small operands costs no more than their rows.
+//! A valid bigraph that others are put to in place, so that a chain of many small operands costs no more than their
+//! rows.
 //!
 //! - [`Builder`]: the bigraph in the making. `of` begins with one, `finish` gives it as lists of rows.
 //! - `compose`, `tensor`, `parallel`, `merge`, `nest`, `close`: what `bg_algebra` gives, where the numbers of the right

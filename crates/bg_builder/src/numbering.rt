@@ -9,8 +9,8 @@ impl Builder {
     ghost use Rattle.std.specs.Prelude.{◌≡◌};
     ghost use Rattle.bg_builder.specs.Numbers as numbers;
 
-    /// Whether the numbers of the nodes and edges of `right` lie behind those of this bigraph, so that no node and no edge
-    /// is in both. Takes constant time.
+    /// Whether the numbers of the nodes and edges of `right` lie behind those of this bigraph, so that no node and no
+    /// edge is in both. Takes constant time.
     pub fn follows(&self, right: &Builder) -> bool
         ensures { result ≡ numbers.follows self.now right.now }
     {

@@ -17,11 +17,11 @@ impl Builder {
     ghost use Rattle.bg_base.specs.Products as product;
     ghost use Rattle.bg_builder.specs.Numbers as numbers;
 
-    /// The tensor product (Milner, chapter 2): `right` beside this bigraph, its regions and sites after those of this one;
-    /// no name is in both. The numbers of `right` follow those of this bigraph.
-    /// It refuses by `NamesMeet`, number 13, where an inner name is in both or an outer name is in both. The regions of
-    /// both are to be fewer than 32 bits can number. Costs time in proportion to `right`, and for each of its names the
-    /// logarithm of the number of names of this bigraph.
+    /// The tensor product (Milner, chapter 2): `right` beside this bigraph, its regions and sites after those of this
+    /// one; no name is in both. The numbers of `right` follow those of this bigraph. It refuses by `NamesMeet`, number
+    /// 13, where an inner name is in both or an outer name is in both. The regions of both are to be fewer than 32 bits
+    /// can number. Costs time in proportion to `right`, and for each of its names the logarithm of the number of names
+    /// of this bigraph.
     pub fn tensor(self, right: Builder) -> Result<Builder, AlgebraFault>
         requires follows { numbers.follows self right ≡ true }
         requires regions { self.regions + right.regions < 2 ^ 32 }
@@ -38,10 +38,10 @@ impl Builder {
         Ok(tensor_whole(f, g)?)
     }
 
-    /// The parallel product (Milner, chapter 3): `right` beside this bigraph as in the tensor product, where an outer name
-    /// that both have is one name. The numbers of `right` follow those of this bigraph.
-    /// It refuses by `InnerNamesMeet`, number 14, where an inner name is in both. It asks as much of their regions, and
-    /// costs as much, as [`Builder::tensor`] does.
+    /// The parallel product (Milner, chapter 3): `right` beside this bigraph as in the tensor product, where an outer
+    /// name that both have is one name. The numbers of `right` follow those of this bigraph. It refuses by
+    /// `InnerNamesMeet`, number 14, where an inner name is in both. It asks as much of their regions, and costs as
+    /// much, as [`Builder::tensor`] does.
     pub fn parallel(self, right: Builder) -> Result<Builder, AlgebraFault>
         requires follows { numbers.follows self right ≡ true }
         requires regions { self.regions + right.regions < 2 ^ 32 }
@@ -58,10 +58,10 @@ impl Builder {
         Ok(parallel_whole(f, g)?)
     }
 
-    /// The merge product (Milner, chapter 3): the parallel product with one region in place of all, also where there was
-    /// none. The numbers of `right` follow those of this bigraph. It refuses as [`Builder::parallel`] does. Costs time in
-    /// proportion to `right`, and for each of its names the logarithm of the number of names of this bigraph; where this
-    /// bigraph has not one region, in proportion to its nodes and sites too.
+    /// The merge product (Milner, chapter 3): the parallel product with one region in place of all, also where there
+    /// was none. The numbers of `right` follow those of this bigraph. It refuses as [`Builder::parallel`] does. Costs
+    /// time in proportion to `right`, and for each of its names the logarithm of the number of names of this bigraph;
+    /// where this bigraph has not one region, in proportion to its nodes and sites too.
     pub fn merge(self, right: Builder) -> Result<Builder, AlgebraFault>
         requires follows { numbers.follows self right ≡ true }
         ensures product { IfOk result (λ whole. whole ≡ product.merge self right) }

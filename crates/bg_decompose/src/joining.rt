@@ -15,9 +15,9 @@ use bg_lists::{Mem, OutOfMemory};
 use bg_rules::Pattern;
 use std::alloc::Global;
 
-/// The bigraph that a decomposition makes: the context, with the pattern at the nodes of the map and at the edges of the
-/// images in it, with the parameter in the pattern (Milner, chapters 3 and 8). It refuses only for want of memory. Costs
-/// time n log n in the size of the three, and memory in proportion to it.
+/// The bigraph that a decomposition makes: the context, with the pattern at the nodes of the map and at the edges of
+/// the images in it, with the parameter in the pattern (Milner, chapters 3 and 8). It refuses only for want of memory.
+/// Costs time n log n in the size of the three, and memory in proportion to it.
 pub fn join(alloc: Global, parts: &Decomposition, pattern: &Pattern) -> Mem<Big>
     requires joinable { IsJoinable pattern.now parts.now.map parts.now.context parts.now.images parts.now.parameter }
     ensures value { IfOk result (λ whole. whole ≡ joined pattern.now parts.now.map parts.now.context parts.now.images parts.now.parameter) }

@@ -19,8 +19,9 @@ use std::alloc::Global;
 /// order of its rows, at the host node with number `map[k]` (Milner, chapter 8). The context and the parameter fit each
 /// signature that the host fits. It refuses only for want of memory.
 ///
-/// For a host of `n` nodes, edges and ports and a pattern of `k` nodes, `p` ports and `m` edges, outer names and regions it
-/// costs time `n log n`, however deep the host is, and `m * (k + p)`; and memory in proportion to the host and the pattern.
+/// For a host of `n` nodes, edges and ports and a pattern of `k` nodes, `p` ports and `m` edges, outer names and
+/// regions it costs time `n log n`, however deep the host is, and `m * (k + p)`; and memory in proportion to the host
+/// and the pattern.
 pub fn split(alloc: Global, host: &Big, pattern: &Pattern, map: &[u32]) -> Mem<Decomposition>
     requires occurs { Occurs host.now pattern.now map.now }
     ensures map { IfOk result (λ parts. parts.map ≡ map.now) }

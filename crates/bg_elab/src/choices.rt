@@ -7,9 +7,9 @@ use bg_lists::{Duplicate, Mem, Rows};
 use std::alloc::Global;
 
 /// The choice with that number, counted from 0, of one value from each list, where the value of the first list varies
-/// slowest; none behind the last choice, and none at all where a list is empty. Of no lists there is one choice, which is
-/// empty. Makes no other choice, so it costs time and memory in proportion to the number of lists and to the texts among the values that it takes.
-/// Of 4,294,967,295 lists or more there is no memory for a choice.
+/// slowest; none behind the last choice, and none at all where a list is empty. Of no lists there is one choice, which
+/// is empty. Makes no other choice, so it costs time and memory in proportion to the number of lists and to the texts
+/// among the values that it takes. Of 4,294,967,295 lists or more there is no memory for a choice.
 pub fn choice(alloc: Global, lists: &[Rows<Value>], number: u32) -> Mem<Option<Rows<Value>>>
     ensures { IfOk result (λ found. found ≡ slice_get (choices lists.now) number) }
 {

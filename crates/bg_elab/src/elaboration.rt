@@ -18,13 +18,13 @@ use bg_text::Token;
 use bg_values::{Cause, NameTable, Scope, Stop};
 use std::alloc::Global;
 
-/// The system that the model of these bytes is, whose tokens are these and whose tree is that, or its first refusal: of its
-/// statements in the order of the text, then of the block: its parameters, then its names in the order of the text, then
-/// `init`, the rules and the predicates.
+/// The system that the model of these bytes is, whose tokens are these and whose tree is that, or its first refusal: of
+/// its statements in the order of the text, then of the block: its parameters, then its names in the order of the text,
+/// then `init`, the rules and the predicates.
 ///
-/// Costs what the statements cost, and what the evaluation of each use costs; a reference copies the values of the parameters
-/// that occur in it, which are no more than the rules or predicates that it stands for. No text of a model has 4,294,967,295
-/// bytes or tokens.
+/// Costs what the statements cost, and what the evaluation of each use costs; a reference copies the values of the
+/// parameters that occur in it, which are no more than the rules or predicates that it stands for. No text of a model
+/// has 4,294,967,295 bytes or tokens.
 pub fn elaborate(
     alloc: Global,
     bytes: &[u8],

@@ -11,14 +11,15 @@ ghost use Rattle.bg_syntax.specs.declared.tree.models.SynModel.{SynModel};
 ghost use Rattle.bg_text.specs.declared.token.Token.{Token};
 ghost use Rattle.bg_values.specs.Scopes.{ScopeParts};
 
-/// What a model comes to that is not refused is a system: its host, each side of a rule, each condition and each predicate are
-/// valid under its signature, the class of each rule is below the number of classes, and there are at most 4,096 rules and at
-/// most 4,096 predicates.
+/// What a model comes to that is not refused is a system: its host, each side of a rule, each condition and each
+/// predicate are valid under its signature, the class of each rule is below the number of classes, and there are at
+/// most 4,096 rules and at most 4,096 predicates.
 pub fn models_come_to_systems()
     ensures { (text : ScopeParts) (tree : SynModel) (parts : SystemParts) → elaborated text tree ≡ Ok parts → IsSystem parts }
 {}
 
-/// Tokens determine what a model comes to: two trees of the same tokens come to the same system, or to the same refusal.
+/// Tokens determine what a model comes to: two trees of the same tokens come to the same system, or to the same
+/// refusal.
 pub fn tokens_come_to_one()
     ensures { (text : ScopeParts) (tokens : List Token) (one other : SynModel) → IsTreeOf tokens one → IsTreeOf tokens other
         → elaborated text one ≡ elaborated text other }

@@ -11,7 +11,8 @@ use bg_values::{NameTable, Scope};
 use std::alloc::Global;
 use std::marker::Model;
 
-/// The parameters that occur in some arguments, in the order of their first occurrence: their names, and the values of each.
+/// The parameters that occur in some arguments, in the order of their first occurrence: their names, and the values of
+/// each.
 #[derive(Drop)]
 pub(crate) struct Occurring {
     pub(crate) names: NameTable<()>,

@@ -10,11 +10,11 @@ use bg_syntax::{SyntaxFault, TOO_DEEP, UNEXPECTED, parse};
 use bg_text::{Token, tokens};
 use std::alloc::Global;
 
-/// The system that a text describes, or its first refusal: by its tokens, or else by the grammar, or else by what its statements
-/// and its block come to.
+/// The system that a text describes, or its first refusal: by its tokens, or else by the grammar, or else by what its
+/// statements and its block come to.
 ///
-/// Costs what `tokens`, `parse` and `elaborate` cost, which are linear but for what evaluation takes. No text has 4,294,967,295
-/// bytes.
+/// Costs what `tokens`, `parse` and `elaborate` cost, which are linear but for what evaluation takes. No text has
+/// 4,294,967,295 bytes.
 pub fn read(alloc: Global, bytes: &[u8]) -> Result<System, ModelFault>
     requires { length bytes.now < 4294967295 }
     ensures { definition.Reads result bytes.now }

@@ -41,9 +41,9 @@ impl Reference {
     }
 }
 
-/// A reference to one of these names, where these parameters are visible. It refuses with the first cause, at the name: 41
-/// where it is not there, 45 where the number of arguments differs; then the names in the arguments. Linear in its tokens and
-/// in the values of the parameters that occur.
+/// A reference to one of these names, where these parameters are visible. It refuses with the first cause, at the name:
+/// 41 where it is not there, 45 where the number of arguments differs; then the names in the arguments. Linear in its
+/// tokens and in the values of the parameters that occur.
 pub(crate) fn reference_of(
     alloc: Global,
     text: &Scope,

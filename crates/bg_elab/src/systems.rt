@@ -30,8 +30,8 @@ pub(crate) struct Parts {
     pub(crate) preds: Rows<Predicate>,
 }
 
-/// The parts of the system that the block is, or its first refusal: `init`, the rules and the predicates are evaluated in this
-/// order. Costs what the evaluation of each use costs.
+/// The parts of the system that the block is, or its first refusal: `init`, the rules and the predicates are evaluated
+/// in this order. Costs what the evaluation of each use costs.
 pub(crate) fn parts_of(alloc: Global, uses: &Uses, block: Block) -> Result<Parts, Stop>
     ensures { (d : Defined) (b : BlockValue) → uses.now ≡ kept d → block ≡ block_code b → GivesParts result (definition.block_valued d b) }
 {

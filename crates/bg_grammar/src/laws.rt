@@ -35,8 +35,8 @@ pub fn steps_determine_trees()
     ensures { (g : Grammar) (s depth : ℕ) (one other : Trees) → IsTree g s one → IsTree g s other → steps_of g depth one ≡ steps_of g depth other → one ≡ other }
 {}
 
-/// Derivations are trees: the steps of each derivation are those of exactly one tree of the symbol, and the steps of each
-/// tree whose tokens are numbered in a row are a derivation.
+/// Derivations are trees: the steps of each derivation are those of exactly one tree of the symbol, and the steps of
+/// each tree whose tokens are numbered in a row are a derivation.
 pub fn derivations_are_trees()
     ensures one_tree { (g : Grammar) (s : ℕ) (kinds : List ℕ) (steps : List Step) → IsDerivation g s kinds steps → (tree : Trees) × IsOnlyTree g s steps tree }
     ensures in_turn { (g : Grammar) (s : ℕ) (kinds : List ℕ) (steps : List Step) → IsDerivation g s kinds steps → AreInTurn 0 steps }

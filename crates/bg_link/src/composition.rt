@@ -18,10 +18,10 @@ use bg_lists::{Duplicate, Mem, Rows, merged};
 use std::alloc::Global;
 
 /// The link part of the composition of `g` and `f` (Milner, chapter 2): what is tied to outer name `y` of `f` is tied
-/// to the link of inner name `y` of `g`. The outer names of `f` are the inner names of `g`, and no node and no edge is in
-/// both. The places of the two play no part. Costs time in proportion to nodes and edges, for each port and inner name of
-/// `f` the logarithm of the number of inner names of `g`, with a comparison of names at each step of a search, and memory in proportion to both and to the result: each port of `f`
-/// gets a copy of the name that its link becomes.
+/// to the link of inner name `y` of `g`. The outer names of `f` are the inner names of `g`, and no node and no edge is
+/// in both. The places of the two play no part. Costs time in proportion to nodes and edges, for each port and inner
+/// name of `f` the logarithm of the number of inner names of `g`, with a comparison of names at each step of a search,
+/// and memory in proportion to both and to the result: each port of `f` gets a copy of the name that its link becomes.
 pub fn compose_links(alloc: Global, g: &Big, f: &Big) -> Mem<Links>
     requires g_valid { IsValid g.now }
     requires f_valid { IsValid f.now }
@@ -60,8 +60,8 @@ fn ports_through(alloc: Global, g: &Big, f: &Big) -> Mem<Rows<PortRow>>
     Rows::try_from_vec(merged(alloc, upper, lower)?)
 }
 
-/// The nodes of the lower bigraph with their links in the composition. Costs memory in proportion to the result, and for
-/// each port the logarithm of the number of inner names of `g`.
+/// The nodes of the lower bigraph with their links in the composition. Costs memory in proportion to the result, and
+/// for each port the logarithm of the number of inner names of `g`.
 fn lower_ports(alloc: Global, g: &Big, lower: &[NodeRow]) -> Mem<Vec<PortRow>>
     requires ascending { IsStrictlySortedBy inner_cmp g.now.inner }
     ensures { IfOk result (λ rows. rows.items ≡ map (defined.ports_through g.now) lower.now) }

@@ -21,8 +21,8 @@ use bg_lists::{Duplicate, Mem, Rows, merged};
 use std::alloc::Global;
 
 /// The link part of the tensor product of `f` and `g` (Milner, chapter 2): both side by side, where no name is in both.
-/// Costs time in proportion to nodes, ports and edges, and n log n in the number of names, with a comparison of names at
-/// each step of a sort of names; memory in proportion to both.
+/// Costs time in proportion to nodes, ports and edges, and n log n in the number of names, with a comparison of names
+/// at each step of a sort of names; memory in proportion to both.
 pub fn tensor_links(alloc: Global, f: &Big, g: &Big) -> Mem<Links>
     requires f_valid { IsValid f.now }
     requires g_valid { IsValid g.now }
@@ -36,9 +36,9 @@ pub fn tensor_links(alloc: Global, f: &Big, g: &Big) -> Mem<Links>
 }
 
 /// The link part of the parallel product of `f` and `g` (Milner, chapter 3): both side by side, and an outer name that
-/// both have is one link; no inner name, no node and no edge is in both. Costs time in proportion to nodes, ports and edges, and
-/// n log n in the number of names, with a comparison of names at each step of a sort of names; memory in proportion to
-/// both.
+/// both have is one link; no inner name, no node and no edge is in both. Costs time in proportion to nodes, ports and
+/// edges, and n log n in the number of names, with a comparison of names at each step of a sort of names; memory in
+/// proportion to both.
 pub fn share_links(alloc: Global, f: &Big, g: &Big) -> Mem<Links>
     requires f_valid { IsValid f.now }
     requires g_valid { IsValid g.now }

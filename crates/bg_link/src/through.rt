@@ -10,7 +10,8 @@ use smallvec::SmallVec;
 use std::alloc::Global;
 
 /// What a link of the lower bigraph becomes in its composition with `g`: an outer name becomes the link of that inner
-/// name of `g`, a name that is no inner name of `g` stays, and an edge stays. The inner names of `g` ascend. Takes no memory; logarithmic in the number of inner names of `g`.
+/// name of `g`, a name that is no inner name of `g` stays, and an edge stays. The inner names of `g` ascend. Takes no
+/// memory; logarithmic in the number of inner names of `g`.
 pub fn link_through<'a>(g: &'a Big, link: &'a Link) -> &'a Link
     requires ascending { IsStrictlySortedBy inner_cmp g.now.inner }
     ensures { result.now ≡ composition.link_through g.now link.now }

@@ -14,7 +14,8 @@ use bg_lists::Mem;
 use std::alloc::Global;
 use std::marker::Model;
 
-/// The links of a valid bigraph, with the points of each link and the idle edges kept at hand. A contract sees the links.
+/// The links of a valid bigraph, with the points of each link and the idle edges kept at hand. A contract sees the
+/// links.
 #[derive(Drop)]
 pub struct Wiring {
     groups: Groups,
@@ -81,7 +82,8 @@ impl Wiring {
         self.groups.points_of(link)
     }
 
-    /// The number of points that are tied to the link; 0 where the link is not there. Takes no memory; costs as `points`.
+    /// The number of points that are tied to the link; 0 where the link is not there. Takes no memory; costs as
+    /// `points`.
     pub fn degree(&self, link: &Link) -> u32
         ensures { result ≡ defined.degree_of self.now link.now }
     {

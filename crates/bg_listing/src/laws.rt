@@ -10,8 +10,8 @@ ghost use Rattle.bg_listing.specs.Verdict.{IsAt, Refusal, signature_verdict, big
 ghost use Rattle.bg_listing.specs.RowLines.{IsToldAtControl, IsToldAtRow};
 ghost use Rattle.bg_listing.specs.Stops.{StopsAtLine, HasText, NoneFromLine, AreListed, listed_text, IsListed, is_settled};
 
-/// The verdict on a text is a value exactly where the listing of that value, a signature or a bigraph within the limits,
-/// stands at the cursor with this rest behind it.
+/// The verdict on a text is a value exactly where the listing of that value, a signature or a bigraph within the
+/// limits, stands at the cursor with this rest behind it.
 pub fn accepted_texts_are_the_listings()
     ensures signatures { (bytes : List ℕ) (at : Cursor) (controls : List Control) (rest : List ℕ)
         → (signature_verdict bytes at ≡ Ok (controls, rest)) ↔ (IsReadableSignature controls × (drop at.offset bytes ≡ signature_text controls ++ rest)) }
@@ -27,12 +27,13 @@ pub fn refused_texts_are_no_listings()
         → (big : Big) (rest : List ℕ) → IsReadableBig signature big → ¬ (drop at.offset bytes ≡ big_text signature big ++ rest) }
 {}
 
-/// A text is refused with code 1 or 2 exactly at the line at which it stops being a listing: the lines before it, from the
-/// cursor on, begin the listing of some value within the limits, and no such listing begins with these lines and that of
-/// the refusal, whatever follows them. Where the input ends in the line of the refusal, that line is all that is left.
+/// A text is refused with code 1 or 2 exactly at the line at which it stops being a listing: the lines before it, from
+/// the cursor on, begin the listing of some value within the limits, and no such listing begins with these lines and
+/// that of the refusal, whatever follows them. Where the input ends in the line of the refusal, that line is all that
+/// is left.
 ///
-/// The value may break rules, as by a label that stands twice, and a bigraph may have the controls of any list: the first
-/// pass asks for none of this, so the lines before need not begin the listing of a valid value.
+/// The value may break rules, as by a label that stands twice, and a bigraph may have the controls of any list: the
+/// first pass asks for none of this, so the lines before need not begin the listing of a valid value.
 pub fn a_text_stops_being_a_listing_at_its_refused_line()
     ensures signatures { (bytes : List ℕ) (at : Cursor) → IsAt bytes at → (line : ℕ)
         → ((code : ℕ) × (code ≤ 2) × (signature_verdict bytes at ≡ Err (code, line))) ↔ StopsAtLine signature_text AreListed bytes at line }
@@ -48,9 +49,9 @@ pub fn a_text_that_breaks_a_rule_has_the_form_of_a_listing()
         → HasText listed_text IsListed (drop at.offset bytes) }
 {}
 
-/// A text is refused with a code above 2 exactly where the listing of some value within the limits stands at the cursor,
-/// and a row of it breaks a rule. The code is that of the first such row, and the line is this very row: behind the lines
-/// of the listing that stand before the row, the text of the row is the whole line.
+/// A text is refused with a code above 2 exactly where the listing of some value within the limits stands at the
+/// cursor, and a row of it breaks a rule. The code is that of the first such row, and the line is this very row: behind
+/// the lines of the listing that stand before the row, the text of the row is the whole line.
 ///
 /// A row may name a control that the signature does not have. So the bigraph is listed under some list of controls, and
 /// judged with the numbers that its controls have in the signature, by their labels.
@@ -61,14 +62,14 @@ pub fn a_broken_rule_is_told_at_the_line_of_its_row()
         → ((2 < code) × (big_verdict signature bytes at ≡ Err (code, line))) ↔ IsToldAtRow signature bytes at code line }
 {}
 
-/// Where a text is refused with code 3, 5 or 9, no listing of a valid value begins with the lines from the cursor up to and
-/// with that of the refusal, whatever follows them. Of a signature, the lines before begin the listing of one.
+/// Where a text is refused with code 3, 5 or 9, no listing of a valid value begins with the lines from the cursor up to
+/// and with that of the refusal, whatever follows them. Of a signature, the lines before begin the listing of one.
 ///
-/// Of the codes 4, 6 and 7 this is not true. A row may name a place or a link that a later line has, a later line may tell
-/// the control of the node that a row names, or lead from there to a region: the same lines up to the row, with other
-/// lines behind them, can then be a listing. Nor need the lines before a row of a bigraph begin the listing of a valid
-/// one: a site may name a node that is to come, where each control that may have children has a port, and there is no
-/// edge and no outer name to tie it to.
+/// Of the codes 4, 6 and 7 this is not true. A row may name a place or a link that a later line has, a later line may
+/// tell the control of the node that a row names, or lead from there to a region: the same lines up to the row, with
+/// other lines behind them, can then be a listing. Nor need the lines before a row of a bigraph begin the listing of a
+/// valid one: a site may name a node that is to come, where each control that may have children has a port, and there
+/// is no edge and no outer name to tie it to.
 pub fn no_listing_goes_on_from_a_settled_refusal()
     ensures signatures { (bytes : List ℕ) (at : Cursor) → IsAt bytes at → (code line : ℕ) → IsTrue (is_settled code) → signature_verdict bytes at ≡ Err (code, line)
         → StopsAtLine signature_text IsReadableSignature bytes at line }

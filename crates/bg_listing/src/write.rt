@@ -14,7 +14,7 @@ use bg_lists::{Mem, Rows};
 use std::alloc::Global;
 
 /// Appends the spelling of a number: its decimal digits, without leading zeros. Every `u32` is a number here.
-/// After an error `out` is unchanged.
+/// After an error `out` is unchanged. Costs time in proportion to the digits.
 pub fn write_number(alloc: Global, number: u32, out: &mut Vec<u8>) -> Mem<()>
     ensures ok { OnOk result (out.new.items ≡ out.old.items ++ decimal number) }
     ensures err { OnErr result (out.new.items ≡ out.old.items) }

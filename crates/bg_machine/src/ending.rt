@@ -12,8 +12,8 @@ use bg_base::{Big, NodeRow};
 use bg_lists::Mem;
 use std::alloc::Global;
 
-/// The bigraph of a whole expression, by what its term comes to: its idle edges are dropped, and the others numbered 0, 1,
-/// 2 and so on in their order, which is that of their closures in the expanded text. Costs time n log n in its size.
+/// The bigraph of a whole expression, by what its term comes to: its idle edges are dropped, and the others numbered 0,
+/// 1, 2 and so on in their order, which is that of their closures in the expanded text. Costs time n log n in its size.
 pub fn whole(alloc: Global, big: &Big) -> Mem<Big>
     requires valid { IsValid big.now }
     ensures value { IfOk result (λ made. made ≡ definition.whole big.now) }

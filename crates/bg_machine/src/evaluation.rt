@@ -17,11 +17,13 @@ use bg_values::{NameTable, Stop};
 use std::alloc::Global;
 
 /// The bigraph that an expression comes to, by its code, and what was then met: where these controls are visible, the
-/// definitions before it stand as their codes, the formals have these values, and `met` was met so far. Its nodes and the
-/// edges of its closures are numbered from 0. Or its first refusal, as `value` of `bg_terms` has it. No arity is above 16.
+/// definitions before it stand as their codes, the formals have these values, and `met` was met so far. Its nodes and
+/// the edges of its closures are numbered from 0. Or its first refusal, as `value` of `bg_terms` has it. No arity is
+/// above 16.
 ///
-/// Costs time and memory in proportion to the expanded expression, up to a logarithm, and for each of its levels of nesting
-/// and of closures time in proportion to what is inside.
+/// Costs time and memory in proportion to the expanded expression, up to a logarithm; for each nesting and closure, and
+/// each `|` whose left side has not one region, time in proportion to what is inside; and for each bracket and reference
+/// time in proportion to the closures that are open.
 pub fn evaluate(
     alloc: Global,
     controls: &NameTable<ControlEntry>,

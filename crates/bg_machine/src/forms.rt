@@ -55,7 +55,8 @@ pub fn idle_names(alloc: Global, words: &[Ident]) -> Mem<Big>
     Ok(big)
 }
 
-/// `id(n,{x})`; 52 where it has more than 65,536 regions, before it is made. Costs time n log n in its names and regions.
+/// `id(n,{x})`; 52 where it has more than 65,536 regions, before it is made. Costs time n log n in its names and
+/// regions.
 #[tactic(auto, using(bg_terms::proofs::Valid::set_up))]
 pub fn wide_identity(alloc: Global, at: u32, width: u64, words: &[Ident]) -> Result<Big, Stop>
     ensures value { Gives result (definition.wide at width (elementary.identity width (set_of name_cmp (definition.plain_names words.now)))) }
@@ -81,7 +82,8 @@ pub fn wide_merger(alloc: Global, at: u32, width: u64) -> Result<Big, Stop>
     Ok(big)
 }
 
-/// A node of the control, with a site in it or, where the control is atomic, with nothing. Costs time n log n in its names.
+/// A node of the control, with a site in it or, where the control is atomic, with nothing. Costs time n log n in its
+/// names.
 pub fn single(alloc: Global, kind: Kind, control: u32, node: u32, words: &Rows<Ident>) -> Mem<Big>
     ensures value { IfOk result (λ big. big ≡ definition.single kind control node (definition.plain_names words.now)) }
     ensures valid { IfOk result IsValid }
@@ -109,7 +111,8 @@ fn lone_atom(alloc: Global, control: u32, node: u32, names: &Rows<Name>) -> Mem<
     Ok(big)
 }
 
-/// `/x F`, by an edge that lies before those of F: F itself where it has no such outer name. Costs time in proportion to F.
+/// `/x F`, by an edge that lies before those of F: F itself where it has no such outer name. Costs time in proportion
+/// to F.
 pub fn closed(alloc: Global, big: Builder, word: &Ident, edge: u32) -> Mem<Builder>
     requires new { lies_behind edge big ≡ true }
     ensures { IfOk result (λ whole. whole ≡ definition.closed edge (names.Plain word.now) big) }

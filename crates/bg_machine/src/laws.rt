@@ -14,8 +14,9 @@ ghost use Rattle.bg_terms.specs.declared.shape.Shape.{Shape};
 ghost use Rattle.bg_terms.specs.Expansion.{expand, meanings_of};
 ghost use Rattle.bg_terms.specs.Expressions.{Expression};
 
-/// The code of an expression leaves on the stack what the expression's term comes to, where the definitions before it stand
-/// as their codes, and the rest of the state as far as the term's evaluation has come; or it is refused as the term is.
+/// The code of an expression leaves on the stack what the expression's term comes to, where the definitions before it
+/// stand as their codes, and the rest of the state as far as the term's evaluation has come; or it is refused as the
+/// term is.
 pub fn code_comes_to_the_value_of_its_expression()
     ensures { (shapes : List Shape) (definitions : List Expression) (env : List Value) (expression : Expression) (state : State)
         → run shapes (running_of shapes (map code_of definitions)) env (code_of expression) state

@@ -1,9 +1,11 @@
-//! The machine that evaluates expressions of the model language: it runs their code on a stack of bigraphs, and what is left is
-//! the value of what the expression expands to, or its first refusal.
+//! The machine that evaluates expressions of the model language: it runs their code on a stack of bigraphs, and what is
+//! left is the value of what the expression expands to, or its first refusal.
 //!
-//! - [`evaluate`]: the value of an expression by its code, from what was [`Met`] before; [`run`]: the operations in order;
+//! - [`evaluate`]: the value of an expression by its code, from what was [`Met`] before; [`run`]: the operations in
+//!   order;
 //!   [`Machine`]: the state.
-//! - [`product_of`], [`nested`], [`closed`], [`single`], [`idle_names`], [`wide_identity`], [`wide_merger`], [`limited`],
+//! - [`product_of`], [`nested`], [`closed`], [`single`], [`idle_names`], [`wide_identity`], [`wide_merger`],
+//!   [`limited`],
 //!   [`enter`]: what the operations are made of.
 //! - [`whole`]: the bigraph of a whole expression, without idle edges. [`numbers_below`]: numbers in a row.
 //! - [`laws`]: that the code of an expression comes to the value of its expansion.

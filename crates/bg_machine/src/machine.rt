@@ -14,9 +14,9 @@ use bg_values::{Cause, LimitWord, Stack, Stop};
 use std::alloc::Global;
 use std::marker::Model;
 
-/// The state of the machine: the bigraphs that wait for their operator, the numbers of the edges of the closures that are
-/// open, how many `K` are open, and how far the evaluation has come: the signature of the controls met, and how many nodes,
-/// closures and terms.
+/// The state of the machine: the bigraphs that wait for their operator, the numbers of the edges of the closures that
+/// are open, how many `K` are open, and how far the evaluation has come: the signature of the controls met, and how
+/// many nodes, closures and terms.
 #[derive(Drop)]
 pub struct Machine {
     stack: Stack<Held>,

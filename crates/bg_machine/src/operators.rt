@@ -11,9 +11,9 @@ use bg_terms::Product;
 use bg_values::{Cause, Stop};
 use std::alloc::Global;
 
-/// The product of two bigraphs, the numbers of the second behind those of the first, or its refusal at the operator: 11 for
-/// `*`, 13 for `+`, 14 for `||` and `|`. Costs time in proportion to the second one, up to a logarithm; and to the first one
-/// where `|` finds it with another number of regions than one.
+/// The product of two bigraphs, the numbers of the second behind those of the first, or its refusal at the operator: 11
+/// for `*`, 13 for `+`, 14 for `||` and `|`. Costs time in proportion to the second one, up to a logarithm; and to the
+/// first one where `|` finds it with another number of regions than one.
 pub fn product_of(
     alloc: Global,
     product: Product,
@@ -94,8 +94,8 @@ fn merged(at: u32, f: Builder, g: Builder) -> Result<Builder, Stop>
     }
 }
 
-/// `F.G`, the numbers of G behind those of F, or its refusal at the dot: 44 where F is written as an atom, then 17 and 15.
-/// Costs time in proportion to G, up to a logarithm.
+/// `F.G`, the numbers of G behind those of F, or its refusal at the dot: 44 where F is written as an atom, then 17 and
+/// 15. Costs time in proportion to G, up to a logarithm.
 pub fn nested(at: u32, is_atom: bool, f: Builder, g: Builder) -> Result<Builder, Stop>
     requires follows { follows f g ≡ true }
     ensures { Gives result (definition.nested at is_atom f g) }

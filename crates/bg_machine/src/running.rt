@@ -13,8 +13,8 @@ use bg_terms::{ControlEntry, Shape};
 use bg_values::{Cause, NameTable, Stop};
 use std::alloc::Global;
 
-/// Takes the operations in order, where these controls are visible, the definitions stand as their codes, and the formals
-/// have these values. No arity is above 16. A call of a definition runs its code on the same machine.
+/// Takes the operations in order, where these controls are visible, the definitions stand as their codes, and the
+/// formals have these values. No arity is above 16. A call of a definition runs its code on the same machine.
 #[cycle(machine)]
 pub fn run(
     alloc: Global,

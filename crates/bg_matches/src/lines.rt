@@ -10,7 +10,8 @@ use bg_lists::Mem;
 use bg_rules::Rule;
 use std::alloc::Global;
 
-/// Appends the line of the rule with that number, whose redex has so many occurrences. After an error `out` is unchanged.
+/// Appends the line of the rule with that number, whose redex has so many occurrences. After an error `out` is
+/// unchanged.
 pub(crate) fn write_rule_line(
     alloc: Global,
     number: u32,

@@ -15,10 +15,11 @@ use std::alloc::Global;
 
 /// Appends, for each rule of the system, its line and all occurrences of its redex in the system's host, each once, in
 /// dictionary order: a line with its map, and where occurrences are explained the decomposition of the host there. It
-/// refuses with `TooMany` exactly where a rule has more than `most` occurrences, with the number of the first such rule.
-/// At a refusal, and where there is no memory, `out` is unchanged. Costs the time of `list` for each rule and, where
-/// occurrences are explained, of `split` for each of them, and time in proportion to the text. Holds the text once, beside
-/// the maps of one rule, one decomposition and three times the text of one occurrence. (Milner, chapter 8.)
+/// refuses with `TooMany` exactly where a rule has more than `most` occurrences, with the number of the first such
+/// rule. At a refusal, and where there is no memory, `out` is unchanged. Costs the time of `list` for each rule and,
+/// where occurrences are explained, of `split` for each of them, and time in proportion to the text. Holds the text
+/// once, beside the maps of one rule, one decomposition and three times the text of one occurrence. (Milner, chapter
+/// 8.)
 pub fn write_matches(
     alloc: Global,
     system: &System,
@@ -71,8 +72,8 @@ fn put_rules(
     Ok(())
 }
 
-/// Appends the line that tells that the rule with this number has more than `most` occurrences. It refuses nothing; it fails
-/// only where there is no memory, and then `out` is unchanged. Linear in the line.
+/// Appends the line that tells that the rule with this number has more than `most` occurrences. It refuses nothing; it
+/// fails only where there is no memory, and then `out` is unchanged. Linear in the line.
 pub fn write_excess(
     alloc: Global,
     system: &System,

@@ -13,8 +13,8 @@ use bg_lists::Mem;
 use bg_rules::Pattern;
 use std::alloc::Global;
 
-/// Appends the line of an occurrence's map, and where it is explained the decomposition of the host there. After an error
-/// `out` is unchanged. Linear in the text, and holds it twice while it writes.
+/// Appends the line of an occurrence's map, and where it is explained the decomposition of the host there. After an
+/// error `out` is unchanged. Linear in the text, and holds it twice while it writes.
 pub(crate) fn write_occurrence(
     alloc: Global,
     signature: &Signature,

@@ -16,7 +16,8 @@ use bg_lists::{Mem, Rows, merged};
 use std::alloc::Global;
 
 /// The place part of the composition of `g` and `f`: what lies in region `j` of `f` comes to lie where site `j` of `g`
-/// lies. `f` has as many regions as `g` has sites, and no node is in both. The links of the two play no part. Costs time and memory in proportion to nodes and sites.
+/// lies. `f` has as many regions as `g` has sites, and no node is in both. The links of the two play no part. Costs
+/// time and memory in proportion to nodes and sites.
 pub fn compose_places(alloc: Global, g: &Big, f: &Big) -> Mem<Places>
     requires g_valid { IsValid g.now }
     requires f_valid { IsValid f.now }

@@ -99,8 +99,8 @@ impl Forest {
         self.sites.members_of(place)
     }
 
-    /// The number of nodes that the node, which is there, lies in, directly or not. Takes no memory; costs a logarithm of the number of
-    /// nodes for each of them.
+    /// The number of nodes that the node, which is there, lies in, directly or not. Takes no memory; costs a logarithm
+    /// of the number of nodes for each of them.
     pub fn depth(&self, node: u32) -> u32
         requires there { IsTrue (defined.has_node self.now node) }
         ensures { result ≡ defined.depth_of self.now node }
@@ -119,8 +119,8 @@ impl Forest {
         is_above(&self.places.parents, upper, lower)
     }
 
-    /// The node, which is there, and all nodes that lie in it, directly or not, ascending. Costs time n log n, and memory
-    /// n, in the number of nodes.
+    /// The node, which is there, and all nodes that lie in it, directly or not, ascending. Costs time n log n, and
+    /// memory n, in the number of nodes.
     pub fn subtree(&self, alloc: Global, node: u32) -> Mem<Vec<u32>>
         requires there { IsTrue (defined.has_node self.now node) }
         ensures exact { IfOk result (λ nodes. nodes.items ≡ defined.subtree_of self.now node) }

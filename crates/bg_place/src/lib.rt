@@ -1,10 +1,12 @@
 //! The place forest of a bigraph: what lies in what.
 //!
-//! - [`Places`], [`ParentRow`]: regions, sites and nodes, each with its parent; [`places_of`] takes them from a bigraph.
+//! - [`Places`], [`ParentRow`]: regions, sites and nodes, each with its parent; [`places_of`] takes them from a
+//!   bigraph.
 //! - [`Forest`]: the places with their children kept at hand.
 //! - [`compose_places`]: the place part of composition; [`place_through`] and [`sites_through`], of which it is made.
 //! - [`tensor_places`]: the place part of the tensor product, and of the parallel product.
-//! - [`climbs_reach_regions`], [`depths_count_from_regions`], [`places_not_there_are_empty`]: laws. No climb is cut off;
+//! - [`climbs_reach_regions`], [`depths_count_from_regions`], [`places_not_there_are_empty`]: laws. No climb is cut
+//!   off;
 //!   depths count from the regions; what is not there has no children and no sites.
 #![tactic(auto)]
 

@@ -15,9 +15,9 @@ use bg_base::{Big, NodeRow, Place};
 use bg_lists::{Duplicate, Mem, Rows, merged};
 use std::alloc::Global;
 
-/// The place part of the tensor product of `f` and `g`, and of their parallel product: the two side by side, the regions
-/// and sites of `g` after those of `f`; no node is in both. The links of the two play no part. Costs time and memory in
-/// proportion to nodes and sites.
+/// The place part of the tensor product of `f` and `g`, and of their parallel product: the two side by side, the
+/// regions and sites of `g` after those of `f`; no node is in both. The links of the two play no part. Costs time and
+/// memory in proportion to nodes and sites.
 pub fn tensor_places(alloc: Global, f: &Big, g: &Big) -> Mem<Places>
     requires f_valid { IsValid f.now }
     requires g_valid { IsValid g.now }

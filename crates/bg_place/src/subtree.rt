@@ -1,5 +1,5 @@
-//! The nodes that lie in a node. Each is climbed from until a region or a row that is known, and the rows on the way are
-//! marked, so that none is climbed from twice.
+//! The nodes that lie in a node. Each is climbed from until a region or a row that is known, and the rows on the way
+//! are marked, so that none is climbed from twice.
 ghost use Rattle.std.specs.Prelude.{◌≡◌, ◌<◌, length, map, filter, unwrap_or, None, Some, MatchOption, IfOk, slice_get, slice_set};
 ghost use Rattle.std.specs.List.Sorted.{IsStrictlySortedBy};
 ghost use Rattle.bg_place.specs.Places as defined;

@@ -17,8 +17,8 @@ pub(crate) struct Count {
     pub(crate) late: u32,
 }
 
-/// The count for these entries, `None` where it passes `most`: then no entry after that is looked at. Costs for each entry
-/// a logarithm of the number of nodes and of the entries; memory in proportion to the entries.
+/// The count for these entries, `None` where it passes `most`: then no entry after that is looked at. Costs for each
+/// entry a logarithm of the number of nodes and of the entries; memory in proportion to the entries.
 pub(crate) fn count_copies(
     alloc: Global,
     parts: &Parts<'_>,

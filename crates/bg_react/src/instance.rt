@@ -23,11 +23,11 @@ pub struct Instance {
     pub next: u32,
 }
 
-/// The instance of a parameter (Milner, chapter 8): region `i` has a copy of what lies in region `map[i]` of the parameter.
-/// The first copy of a part keeps the numbers of its nodes; each later copy takes the next free numbers, from `next` on, in
-/// the order of the originals. A copy shares the links of the original. It refuses only for want of memory. Costs time
-/// n log n, and memory n, in the number of nodes and ports of the parameter, of the entries of the map, and of the nodes and ports of the
-/// instance.
+/// The instance of a parameter (Milner, chapter 8): region `i` has a copy of what lies in region `map[i]` of the
+/// parameter. The first copy of a part keeps the numbers of its nodes; each later copy takes the next free numbers,
+/// from `next` on, in the order of the originals. A copy shares the links of the original. It refuses only for want of
+/// memory. Costs time n log n, and memory n, in the number of nodes and ports of the parameter, of the entries of the
+/// map, and of the nodes and ports of the instance.
 pub fn instantiate(alloc: Global, parameter: &Big, map: &[u32], next: u32) -> Mem<Instance>
     requires ground { IsGround parameter.now }
     requires no_edges { parameter.now.edges ≡ [] }

@@ -1,5 +1,5 @@
-//! The parts of a parameter: its rows by the region that they lie under. Each node is climbed from until a region or a row
-//! whose region is known, and the rows on the way are marked with it, so that none is climbed from twice.
+//! The parts of a parameter: its rows by the region that they lie under. Each node is climbed from until a region or a
+//! row whose region is known, and the rows on the way are marked with it, so that none is climbed from twice.
 ghost use Rattle.std.specs.Prelude.{◌≡◌, ◌<◌, true, map, unwrap_or, is_some, None, Some, IfOk, slice_get, slice_set};
 ghost use Rattle.std.specs.List.Sorted.{IsStrictlySortedBy};
 ghost use Rattle.bg_base.specs.declared.names.Place.TheVariants.{Node};
@@ -58,8 +58,8 @@ impl<'a> Parts<'a> {
         self.parameter
     }
 
-    /// The rows that lie under the region, in their order; none where the parameter has no such region. Takes no memory;
-    /// logarithmic in the number of nodes.
+    /// The rows that lie under the region, in their order; none where the parameter has no such region. Takes no
+    /// memory; logarithmic in the number of nodes.
     pub(crate) fn part(&self, region: u32) -> &[NodeRow]
         ensures { result.now ≡ part self.now region }
     {

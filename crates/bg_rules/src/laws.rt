@@ -10,8 +10,8 @@ ghost use Rattle.bg_rules.specs.Decomposition.{frame, Decomposes, Occurs};
 ghost use Rattle.bg_rules.specs.LocalConditions.{Meets, MeetsLocally};
 ghost use Rattle.bg_rules.specs.Occurrences.{AreOccurrences};
 
-/// Occurrences are the local conditions: a pattern occurs at some nodes of a ground host, that is, some context and some
-/// discrete parameter compose with it to the host, exactly where these nodes meet the local conditions.
+/// Occurrences are the local conditions: a pattern occurs at some nodes of a ground host, that is, some context and
+/// some discrete parameter compose with it to the host, exactly where these nodes meet the local conditions.
 pub fn occurrences_are_local()
     ensures { (host pattern : Big) (nodes : List ℕ) → IsPattern pattern → IsGround host
         → (MeetsLocally host pattern nodes ↔ Occurs host pattern nodes) }

@@ -1,7 +1,8 @@
 //! Patterns, where they occur in a host, and how a host reacts there.
 //!
 //! - [`first_unsolid`]: the clause of a solid bigraph that fails. [`Pattern`]: what occurs in a host.
-//! - [`Rule`] and [`Condition`]: what a reaction replaces, and where it may. [`sides_agree`] and [`map_fits`]: what a rule asks
+//! - [`Rule`] and [`Condition`]: what a reaction replaces, and where it may. [`sides_agree`] and [`map_fits`]: what a
+//!   rule asks
 //!   of its sides.
 //! - [`Host`]: a bigraph that rules change. [`System`] and [`Predicate`]: what a model describes.
 //! - [`RuleFault`], [`ReactFault`], [`ListFault`]: why a call gives no result.

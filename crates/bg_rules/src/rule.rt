@@ -137,8 +137,8 @@ impl Rule {
     }
 }
 
-/// Whether the reactum has the regions and the outer names of the redex, and no inner name. Takes no memory, and time in
-/// proportion to the names.
+/// Whether the reactum has the regions and the outer names of the redex, and no inner name. Takes no memory, and time
+/// in proportion to the names.
 pub fn sides_agree(redex: &Big, reactum: &Big) -> bool
     ensures test { result ≡ reaction.sides_agree redex.now reactum.now }
     ensures agree { IsTrue result ↔ SidesAgree redex.now reactum.now }
@@ -176,8 +176,8 @@ fn is_name(other: &Name, name: &Name) -> bool
     *other == *name
 }
 
-/// Whether the map has an entry for each site of the reactum, and each entry is a site of the redex. Takes no memory, and
-/// time in proportion to the map.
+/// Whether the map has an entry for each site of the reactum, and each entry is a site of the redex. Takes no memory,
+/// and time in proportion to the map.
 pub fn map_fits(redex: &Big, reactum: &Big, map: &Map) -> bool
     ensures test { result ≡ reaction.map_fits redex.now reactum.now map.now }
     ensures fits { IsTrue result ↔ MapFits redex.now reactum.now map.now }

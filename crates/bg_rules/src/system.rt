@@ -7,10 +7,10 @@ use bg_base::Signature;
 use bg_lists::Rows;
 use std::marker::Model;
 
-/// A bigraphical reactive system (Milner, chapter 8): a signature, the host that a run begins with, the rules by number,
-/// counted from 0, the number of their classes, and the predicates by number. The host, each side of a rule, each
-/// condition and each predicate is valid under the signature, each rule's class is below the number of classes, and
-/// there are at most 4,096 rules and at most 4,096 predicates. A contract sees the parts.
+/// A bigraphical reactive system (Milner, chapter 8): a signature, the host that a run begins with, the rules by
+/// number, counted from 0, the number of their classes, and the predicates by number. The host, each side of a rule,
+/// each condition and each predicate is valid under the signature, each rule's class is below the number of classes,
+/// and there are at most 4,096 rules and at most 4,096 predicates. A contract sees the parts.
 #[derive(Debug, Drop)]
 pub struct System {
     signature: Signature,

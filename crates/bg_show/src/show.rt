@@ -14,9 +14,9 @@ use bg_lists::Mem;
 use bg_rules::{Predicate, System};
 use std::alloc::Global;
 
-/// Appends the listing of a system: the listing of its signature, of the bigraph of its host, of each rule with its number,
-/// counted from 0, and of each predicate. It refuses nothing; it fails only where there is no memory, and then `out` is
-/// unchanged. Linear in the listing, and holds it twice while it writes.
+/// Appends the listing of a system: the listing of its signature, of the bigraph of its host, of each rule with its
+/// number, counted from 0, and of each predicate. It refuses nothing; it fails only where there is no memory, and then
+/// `out` is unchanged. Linear in the listing, and holds it twice while it writes.
 pub fn write_system(alloc: Global, system: &System, out: &mut Vec<u8>) -> Mem<()>
     ensures ok { OnOk result (out.new.items ≡ out.old.items ++ system_text system.now) }
     ensures err { OnErr result (out.new.items ≡ out.old.items) }

@@ -23,9 +23,9 @@ impl Definitions {
     ghost use Rattle.bg_values.specs.Names.{number_of};
     ghost use Rattle.bg_values.specs.Outcome.{Goes};
 
-    /// A bigraph. It refuses with the first cause: 42 at its name where it is there, 42 at a formal that repeats, then the
-    /// names of its expression; where it has no formals, what its evaluation refuses. Linear in the statement, where it
-    /// has formals; else it costs what `evaluate` costs.
+    /// A bigraph. It refuses with the first cause: 42 at its name where it is there, 42 at a formal that repeats, then
+    /// the names of its expression; where it has no formals, what its evaluation refuses. Linear in the statement,
+    /// where it has formals; else it costs what `evaluate` costs.
     pub fn add_bigraph(
         &mut self,
         alloc: Global,

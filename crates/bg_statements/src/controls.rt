@@ -24,9 +24,10 @@ impl Definitions {
     ghost use Rattle.bg_values.specs.Names.{number_of};
     ghost use Rattle.bg_values.specs.Outcome.{Gives};
 
-    /// A control of that kind. It refuses with the first cause: 42 at its name where it is there, 42 at a formal that repeats,
-    /// 52 at the number where the arity is above 16, 52 at its name where it would be the 4,097th control of the signature,
-    /// which it enters where it has no formals. Linear in the statement, but for a look-up in the signature.
+    /// A control of that kind. It refuses with the first cause: 42 at its name where it is there, 42 at a formal that
+    /// repeats, 52 at the number where the arity is above 16, 52 at its name where it would be the 4,097th control of
+    /// the signature, which it enters where it has no formals. Linear in the statement, but for a look-up in the
+    /// signature.
     pub fn add_control(
         &mut self,
         alloc: Global,

@@ -8,10 +8,10 @@ use bg_values::NameTable;
 use std::alloc::Global;
 use std::marker::Model;
 
-/// What the statements of a model so far define: the controls, the bigraphs and the rules with the code of their expressions,
-/// the parameters with their values, and the signature of the controls that have entered it. No arity is above 16.
-/// All statements are those of one text: the codes keep the numbers of its tokens. The names that a text has visible are not
-/// looked at. After a call that stops, what is kept is of no further use: a model ends there.
+/// What the statements of a model so far define: the controls, the bigraphs and the rules with the code of their
+/// expressions, the parameters with their values, and the signature of the controls that have entered it. No arity is
+/// above 16. All statements are those of one text: the codes keep the numbers of its tokens. The names that a text has
+/// visible are not looked at. After a call that stops, what is kept is of no further use: a model ends there.
 #[derive(Drop)]
 pub struct Definitions {
     pub(crate) controls: NameTable<ControlEntry>,

@@ -24,9 +24,9 @@ ghost use Rattle.bg_terms.specs.Values.{Reached, value};
 ghost use Rattle.bg_values.specs.Names.{Entry};
 ghost use Rattle.bg_values.specs.Scopes.{ScopeParts};
 
-/// What statements define one after the other is sound, from nothing on: no word stands for two controls and no arity is
-/// above 16; the signature is one, of these controls with some arguments; each expression, of a bigraph or
-/// of a rule, was read from a tree.
+/// What statements define one after the other is sound, from nothing on: no word stands for two controls and no arity
+/// is above 16; the signature is one, of these controls with some arguments; each expression, of a bigraph or of a
+/// rule, was read from a tree.
 pub fn definitions_stay_sound()
     ensures none { IsSound nothing }
     ensures control { (text : ScopeParts) (kind : Kind) (tree : SynControl) (before after : Defined) → IsSound before
@@ -41,8 +41,8 @@ pub fn definitions_stay_sound()
         → with_parameter text tree before ≡ Ok after → IsSound after }
 {}
 
-/// Behind sound definitions, the bigraph that an expression of the text comes to is valid under the signature reached, whose
-/// controls are those of the text with some arguments.
+/// Behind sound definitions, the bigraph that an expression of the text comes to is valid under the signature reached,
+/// whose controls are those of the text with some arguments.
 pub fn values_fit_the_signature_reached()
     ensures { (d : Defined) → IsSound d → (text : ScopeParts) (formals : List (Entry (Unit {0}))) (tree : SynE) (expression : Expression)
         → (e_read tree).1 (visible_with text formals d) ≡ Ok expression
@@ -52,8 +52,8 @@ pub fn values_fit_the_signature_reached()
         → FitsShapes (shapes_of d.controls) after.signature big }
 {}
 
-/// The bigraph of a whole expression has its nodes, and its edges, numbered 0, 1, 2 and so on; it is valid, without idle
-/// edges, and within the limits, and its outer names are names that a user wrote.
+/// The bigraph of a whole expression has its nodes, and its edges, numbered 0, 1, 2 and so on; it is valid, without
+/// idle edges, and within the limits, and its outer names are names that a user wrote.
 pub fn whole_values_are_numbered_from_zero()
     ensures { (s : Setting) (e : Expression) (met : Met) (big : Big) (after : Met) → whole_value s e met ≡ Ok (big, after) → IsWholeValue big }
 {}

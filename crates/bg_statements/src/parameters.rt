@@ -11,8 +11,8 @@ impl Definitions {
     ghost use Rattle.bg_statements.specs.Calls.{Defines};
     ghost use Rattle.bg_statements.specs.Statements as definition;
 
-    /// The parameters of a block in the order of the text, or the first refusal of one of them. Costs what they cost one by
-    /// one.
+    /// The parameters of a block in the order of the text, or the first refusal of one of them. Costs what they cost
+    /// one by one.
     pub fn add_parameters(
         &mut self,
         alloc: Global,

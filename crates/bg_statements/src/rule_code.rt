@@ -20,7 +20,8 @@ use bg_syntax::tree::statements::{
 use bg_values::{Scope, Stop, number_at, number_token};
 use std::alloc::Global;
 
-/// A condition of a rule: whether its pattern has to occur, on which side, the token of its `in`, and the code of its pattern.
+/// A condition of a rule: whether its pattern has to occur, on which side, the token of its `in`, and the code of its
+/// pattern.
 #[derive(Debug, Drop)]
 pub struct ConditionCode {
     pub positive: bool,

@@ -66,8 +66,8 @@ impl Whole {
     }
 }
 
-/// A condition of a rule, with the bigraph that its pattern comes to: whether it has to occur, on which side, and the token of
-/// the condition's `in`.
+/// A condition of a rule, with the bigraph that its pattern comes to: whether it has to occur, on which side, and the
+/// token of the condition's `in`.
 #[derive(Debug, Drop)]
 pub struct ConditionValue {
     pub positive: bool,
@@ -85,8 +85,8 @@ pub struct RuleValue {
     pub conditions: Rows<Condition>,
 }
 
-/// What expressions are evaluated in: the controls, the definitions before by their code, and the values of the formals. No
-/// arity is above 16.
+/// What expressions are evaluated in: the controls, the definitions before by their code, and the values of the
+/// formals. No arity is above 16.
 #[derive(Drop)]
 pub(crate) struct Setting<'a> {
     pub(crate) controls: &'a NameTable<ControlEntry>,

@@ -31,11 +31,12 @@ impl Definitions {
     ghost use Rattle.bg_values.specs.Names.{number_of};
     ghost use Rattle.bg_values.specs.Outcome.{Goes};
 
-    /// A rule. It refuses with the first cause: 42 at its name where it is there, 42 at a formal that repeats, then the names
-    /// of its expressions in the order of the text. Where it has no formals, then what the evaluation of its redex, its reactum
-    /// and its conditions refuses, in this order; then at its name 47 where the sides differ, 48 where the map does not fit, 49
-    /// where the redex is not solid; then 49 at the `in` of a condition that is not. Linear in the statement, where it has
-    /// formals; else it costs what `evaluate` costs for each expression, and what the tests of `bg_rules` cost.
+    /// A rule. It refuses with the first cause: 42 at its name where it is there, 42 at a formal that repeats, then the
+    /// names of its expressions in the order of the text. Where it has no formals, then what the evaluation of its
+    /// redex, its reactum and its conditions refuses, in this order; then at its name 47 where the sides differ, 48
+    /// where the map does not fit, 49 where the redex is not solid; then 49 at the `in` of a condition that is not.
+    /// Linear in the statement, where it has formals; else it costs what `evaluate` costs for each expression, and what
+    /// the tests of `bg_rules` cost.
     pub fn add_rule(&mut self, alloc: Global, text: &Scope, tree: &SynReact) -> Result<(), Stop>
         ensures { Defines result self.old self.new (definition.with_rule text.now tree.now) }
     {

@@ -25,8 +25,8 @@ impl Definitions {
         Ok(())
     }
 
-    /// A statement of any kind: what `add_control`, `add_bigraph`, `add_rule` or `add_parameter` does. `fun` has no effect of
-    /// its own.
+    /// A statement of any kind: what `add_control`, `add_bigraph`, `add_rule` or `add_parameter` does. `fun` has no
+    /// effect of its own.
     pub fn add_statement(&mut self, alloc: Global, text: &Scope, tree: &SynStmt) -> Result<(), Stop>
         ensures { Defines result self.old self.new (definition.with_statement text.now tree.now) }
     {

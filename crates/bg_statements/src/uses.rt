@@ -19,8 +19,8 @@ use std::alloc::Global;
 use std::marker::Model;
 use std::mem::replace;
 
-/// The names that the block may use: the bigraphs and the rules, each with how many formals it has, and the parameters, each
-/// with its values.
+/// The names that the block may use: the bigraphs and the rules, each with how many formals it has, and the parameters,
+/// each with its values.
 #[derive(Drop)]
 pub struct NameSpaces<'a> {
     pub bigraphs: &'a NameTable<u32>,
@@ -41,8 +41,8 @@ impl<'a> Model for NameSpaces<'a> {
 }
 
 /// The definitions of a whole text, for their uses. A use may meet controls that were not met before, so each takes the
-/// signature reached before it and leaves the one reached behind it; after a use that stops, the signature is of no further
-/// use. A contract sees what is kept of the definitions.
+/// signature reached before it and leaves the one reached behind it; after a use that stops, the signature is of no
+/// further use. A contract sees what is kept of the definitions.
 #[derive(Drop)]
 pub struct Uses {
     definitions: Definitions,
@@ -66,8 +66,8 @@ impl Uses {
     ghost use Rattle.bg_statements.specs.Uses as definition;
     ghost use Rattle.bg_values.specs.Outcome.{Gives};
 
-    /// What these statements define, and these parameters of a block behind them, for their uses; or the first refusal of one
-    /// of them. Costs what they cost one by one.
+    /// What these statements define, and these parameters of a block behind them, for their uses; or the first refusal
+    /// of one of them. Costs what they cost one by one.
     pub fn of(
         alloc: Global,
         text: &Scope,
@@ -100,8 +100,8 @@ impl Uses {
         &self.definitions.signature
     }
 
-    /// What a run begins with: the host of the bigraph with that number, where its formals have these values. Refuses what its
-    /// evaluation refuses, then 46 at `at` where it is not ground. Costs what `evaluate` costs.
+    /// What a run begins with: the host of the bigraph with that number, where its formals have these values. Refuses
+    /// what its evaluation refuses, then 46 at `at` where it is not ground. Costs what `evaluate` costs.
     pub fn host(
         &self,
         alloc: Global,
@@ -116,8 +116,8 @@ impl Uses {
         host_of(at, whole)
     }
 
-    /// The predicate that the bigraph with that number is, where its formals have the values of the label. Refuses what its
-    /// evaluation refuses, then 49 at `at` where it is not solid. Costs what `evaluate` and the test cost.
+    /// The predicate that the bigraph with that number is, where its formals have the values of the label. Refuses what
+    /// its evaluation refuses, then 49 at `at` where it is not solid. Costs what `evaluate` and the test cost.
     pub fn predicate(
         &self,
         alloc: Global,
@@ -133,8 +133,8 @@ impl Uses {
         Ok(Predicate { label, pattern })
     }
 
-    /// The rule with that number, where its formals have the values of the label. Refuses what [`Definitions::add_rule`]
-    /// refuses of a rule without formals, at the same places. Costs the same.
+    /// The rule with that number, where its formals have the values of the label. Refuses what
+    /// [`Definitions::add_rule`] refuses of a rule without formals, at the same places. Costs the same.
     pub fn rule(
         &self,
         alloc: Global,

@@ -15,8 +15,8 @@ pub fn models_are_derivation_trees()
     ensures same_steps { (model : SynModel) (depth : ℕ) → steps_of grammar depth (tree_of model) ≡ model_steps model depth }
 {}
 
-/// The steps of a tree determine it: two trees with the same steps are the same in each alternative, token and part, and
-/// differ at most in the addresses of boxes.
+/// The steps of a tree determine it: two trees with the same steps are the same in each alternative, token and part,
+/// and differ at most in the addresses of boxes.
 pub fn steps_determine_models()
     ensures { (depth : ℕ) (one other : SynModel) → model_steps one depth ≡ model_steps other depth → tree_of one ≡ tree_of other }
 {}

@@ -2,7 +2,8 @@
 //!
 //! - [`parse`]: the tree of the tokens, or their first fault ([`SyntaxFault`]).
 //! - [`tree`]: a type for each symbol of the grammar; [`Tree`] is the whole.
-//! - [`tokens_have_one_tree`], [`steps_determine_models`], [`models_are_derivation_trees`]: what the tokens and the steps
+//! - [`tokens_have_one_tree`], [`steps_determine_models`], [`models_are_derivation_trees`]: what the tokens and the
+//!   steps
 //!   of a tree determine.
 #![tactic(auto)]
 

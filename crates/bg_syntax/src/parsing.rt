@@ -10,9 +10,9 @@ use crate::tree::models::SynModel;
 use bg_text::Token;
 use std::alloc::Global;
 
-/// The tree of the tokens' derivation from `Model`. `Unexpected` and `TooDeep` come exactly where they have none without
-/// tokens too deep, with their first fault. One pass, linear in the tokens; takes memory for the tree alone, and a
-/// bounded depth of calls.
+/// The tree of the tokens' derivation from `Model`. `Unexpected` and `TooDeep` come exactly where they have none
+/// without tokens too deep, with their first fault. One pass, linear in the tokens; takes memory for the tree alone,
+/// and a bounded depth of calls.
 pub fn parse(alloc: Global, tokens: &[Token]) -> Result<SynModel, SyntaxFault>
     requires { length tokens.now < 2 ^ 32 - 1 }
     ensures tree { IfOk result (λ tree. IsTreeOf tokens.now tree) }

@@ -25,30 +25,31 @@ ghost use Rattle.bg_terms.specs.Values.{Reached, value};
 ghost use Rattle.bg_terms.specs.Order.{controls_of, AreInOrder};
 ghost use Rattle.bg_terms.specs.Numbering.{symbols, closures, AreNumbered, AreEdgesWithin};
 
-/// The nodes of what a term comes to have the numbers in a row from the first that is free, as many as the term has control
-/// symbols.
+/// The nodes of what a term comes to have the numbers in a row from the first that is free, as many as the term has
+/// control symbols.
 pub fn nodes_are_numbered_in_a_row()
     ensures { (depth : ℕ) (term : Term) (before after : Reached) (big : Big) → value depth term before ≡ Ok (big, after)
         → AreNumbered before.nodes (symbols term) big after }
 {}
 
-/// The edges of what a term comes to have numbers from the first that is free on, below the one that lies as many further
-/// as the term has closures, and that one is free next: a closure of a name that is not there leaves its number out.
+/// The edges of what a term comes to have numbers from the first that is free on, below the one that lies as many
+/// further as the term has closures, and that one is free next: a closure of a name that is not there leaves its number
+/// out.
 pub fn edges_lie_within_the_closures()
     ensures { (depth : ℕ) (term : Term) (before after : Reached) (big : Big) → value depth term before ≡ Ok (big, after)
         → AreEdgesWithin before.edges (closures term) big after }
 {}
 
-/// The nodes of what a term comes to stand in the order of its control symbols: looked up in the signature reached, their
-/// labels are, row by row, those of the symbols. That signature begins with the one before.
+/// The nodes of what a term comes to stand in the order of its control symbols: looked up in the signature reached,
+/// their labels are, row by row, those of the symbols. That signature begins with the one before.
 pub fn nodes_stand_in_the_order_of_the_text()
     ensures { (depth : ℕ) (term : Term) (before after : Reached) (big : Big) → value depth term before ≡ Ok (big, after)
         → AreInOrder before.signature (controls_of term) big after.signature }
 {}
 
-/// A closure before which `count` others begin in the order of the text takes the edge number that lies so many behind the
-/// first that is free: the evaluation of the term comes to it where that is the first free number, which `value` gives a
-/// closure.
+/// A closure before which `count` others begin in the order of the text takes the edge number that lies so many behind
+/// the first that is free: the evaluation of the term comes to it where that is the first free number, which `value`
+/// gives a closure.
 pub fn closures_take_edge_numbers_in_the_order_of_the_text()
     ensures { (depth : ℕ) (term : Term) (before after : Reached) (big : Big) → value depth term before ≡ Ok (big, after)
         → (count at : ℕ) (word : List ℕ) (inside : Term) → StandsBehind (terms.closure at word inside) count term
@@ -76,9 +77,9 @@ pub fn values_are_within_the_limits()
         → (big.regions ≤ 65536) × (length big.sites ≤ 65536) }
 {}
 
-/// Where each control symbol has as many names as its control has ports, at most 16, and controls with the same label are
-/// the same control, in the signature before and in the term: what the term comes to is valid under the signature reached,
-/// which is a signature where the one before is.
+/// Where each control symbol has as many names as its control has ports, at most 16, and controls with the same label
+/// are the same control, in the signature before and in the term: what the term comes to is valid under the signature
+/// reached, which is a signature where the one before is.
 pub fn values_fit_the_signature_reached()
     ensures fits { (depth : ℕ) (term : Term) (before after : Reached) (big : Big) → value depth term before ≡ Ok (big, after)
         → IsSignature before.signature → HaveArities term → AreOneByLabel (before.signature ++ controls_of term) → IsValidUnder after.signature big }
@@ -86,9 +87,10 @@ pub fn values_fit_the_signature_reached()
         → IsSignature before.signature → HaveArities term → AreOneByLabel (before.signature ++ controls_of term) → IsSignature after.signature }
 {}
 
-/// Where no visible control has an arity above 16 and no word stands for two, and each control symbol of an expression and
-/// of the definitions before it has as many names as its control has ports: what the expression comes to is valid under the
-/// signature reached, and the controls of that signature are visible controls with some arguments, if those before were.
+/// Where no visible control has an arity above 16 and no word stands for two, and each control symbol of an expression
+/// and of the definitions before it has as many names as its control has ports: what the expression comes to is valid
+/// under the signature reached, and the controls of that signature are visible controls with some arguments, if those
+/// before were.
 pub fn values_of_expressions_fit_the_visible_controls()
     ensures { (shapes : List Shape) → AreShapes shapes
         → (definitions : List Expression) → ((e : Expression) → Mem e definitions → HasPorts shapes e)
@@ -98,8 +100,8 @@ pub fn values_of_expressions_fit_the_visible_controls()
         → FitsShapes shapes after.signature big }
 {}
 
-/// The expression that a tree is has at each control symbol as many names as its control has ports: of the controls that
-/// were visible, and of more behind them.
+/// The expression that a tree is has at each control symbol as many names as its control has ports: of the controls
+/// that were visible, and of more behind them.
 pub fn expressions_of_trees_have_their_ports()
     ensures at_once { (tree : SynE) (visible : Visible) (expression : Expression) → (e_read tree).1 visible ≡ Ok expression
         → HasPorts (shapes_of visible.controls) expression }
@@ -116,8 +118,8 @@ pub fn controls_become_visible_one_by_one()
     ensures small { (controls : List (Entry ControlEntry)) → AreControls controls → All (λ (shape : Shape). shape.arity ≤ 16) (shapes_of controls) }
 {}
 
-/// What statements make visible in turn: nothing at first; then a control, whose word is not in the table and whose arity is
-/// at most 16, or a definition that is read. An expression that was read stays one as controls follow.
+/// What statements make visible in turn: nothing at first; then a control, whose word is not in the table and whose
+/// arity is at most 16, or a definition that is read. An expression that was read stays one as controls follow.
 pub fn definitions_are_read_one_by_one()
     ensures none { AreRead [] [] }
     ensures control { (controls : List (Entry ControlEntry)) (definitions : List Expression) (word : List ℕ) (entry : ControlEntry)
@@ -130,9 +132,9 @@ pub fn definitions_are_read_one_by_one()
     ensures later { (shapes others : List Shape) (expression : Expression) → IsRead shapes expression → IsRead (shapes ++ others) expression }
 {}
 
-/// Where an expression and the definitions before it were each read from a tree under the first ones of the visible controls:
-/// what the expression comes to is valid under the signature reached, and the controls of that signature are visible controls
-/// with some arguments, if those before were; they stay so as controls follow.
+/// Where an expression and the definitions before it were each read from a tree under the first ones of the visible
+/// controls: what the expression comes to is valid under the signature reached, and the controls of that signature are
+/// visible controls with some arguments, if those before were; they stay so as controls follow.
 pub fn values_of_trees_fit_the_visible_controls()
     ensures fits { (controls : List (Entry ControlEntry)) (definitions : List Expression) → AreRead controls definitions
         → (env : List Value) (expression : Expression) → IsRead (shapes_of controls) expression
@@ -142,8 +144,9 @@ pub fn values_of_trees_fit_the_visible_controls()
     ensures later { (shapes others : List Shape) (signature : List Control) → AreOfShapes shapes signature → AreOfShapes (shapes ++ others) signature }
 {}
 
-/// Controls and definitions that follow those which are there leave an expression its term, where its control symbols are of
-/// controls that are there and its references to definitions that are there. Those of the expression of a tree are.
+/// Controls and definitions that follow those which are there leave an expression its term, where its control symbols
+/// are of controls that are there and its references to definitions that are there. Those of the expression of a tree
+/// are.
 pub fn expressions_keep_their_terms()
     ensures controls { (shapes others : List Shape) (definitions : List Expression) → ((e : Expression) → Mem e definitions → HasPorts shapes e)
         → (env : List Value) (expression : Expression) → HasPorts shapes expression

@@ -7,8 +7,8 @@ use bg_listing::ListingFault;
 use bg_lists::OutOfMemory;
 use std::alloc::AllocError;
 
-/// Why a command gives no text: its input is refused, or a rule has too many occurrences, which the line tells, or there
-/// was no memory.
+/// Why a command gives no text: its input is refused, or a rule has too many occurrences, which the line tells, or
+/// there was no memory.
 #[derive(Debug, Drop)]
 pub(crate) enum Failure {
     Refused(Refusal),

@@ -13,7 +13,8 @@ pub enum Refusal {
         code: u8,
         line: u32,
     },
-    /// A text describes no system: by which code and detail, and at which line and column of the input, both counted from 1.
+    /// A text describes no system: by which code and detail, and at which line and column of the input, both counted
+    /// from 1.
     Model {
         code: u8,
         detail: Detail,

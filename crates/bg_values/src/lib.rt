@@ -2,7 +2,8 @@
 //!
 //! - [`Scope`]: the text of a model, its tokens, and the names that are visible; [`NameTable`]: names in the order of
 //!   their definitions.
-//! - [`formula_of`]: the formula that a tree of arithmetic is, its names numbered; [`Formula::evaluate`]: what it comes to.
+//! - [`formula_of`]: the formula that a tree of arithmetic is, its names numbered; [`Formula::evaluate`]: what it comes
+//!   to.
 //! - [`Stop`]: why there is no value: a [`Refusal`] with its [`Cause`] and its token, or want of memory.
 #![tactic(auto)]
 

@@ -94,8 +94,8 @@ impl<T: Drop> NameTable<T> {
         }
     }
 
-    /// Adds a name that stands for `value`, where it is not there yet; says whether it was added. There is no memory for
-    /// more than 4,294,967,294 names. Takes as long as the name has bytes, on average.
+    /// Adds a name that stands for `value`, where it is not there yet; says whether it was added. There is no memory
+    /// for more than 4,294,967,294 names. Takes as long as the name has bytes, on average.
     pub fn add(&mut self, alloc: Global, word: &[u8], value: T) -> Mem<bool>
         ensures added { IfOk result (λ new. MatchBool new
             (self.new ≡ self.old ++ (word.now, value) ∷ [])

@@ -4,7 +4,8 @@ ghost use Rattle.std.specs.List.{list_all};
 ghost use Rattle.std.specs.Char.{is_ascii_digit, digit_value};
 ghost use Rattle.bg_values.specs.Numbers as definition;
 
-/// The number that the digits spell, where they are digits alone, at least one, and it is at most 9,223,372,036,854,775,807.
+/// The number that the digits spell, where they are digits alone, at least one, and it is at most
+/// 9,223,372,036,854,775,807.
 pub(crate) fn number_in(digits: &[u8]) -> Option<i64>
     ensures { result ≡ definition.number_in digits.now }
 {

@@ -20,11 +20,11 @@ use std::alloc::Global;
 /// A parameter has at most so many values.
 const MOST_VALUES: usize = 4096;
 
-/// The values of a parameter, in order, repeats kept: those of a list, or the numbers of a range, or one value. Refuses with
-/// the first cause: a name, since none is visible in them, whatever names `scope` has; then item by item of a list what
-/// arithmetic refuses or a text for a number, and of a range the values of its three parts, a text for a number, a step
-/// below 1 or a range that begins behind its end; last more than 4,096 values. Linear in the tree and the values; the
-/// numbers of a range are counted before any is made.
+/// The values of a parameter, in order, repeats kept: those of a list, or the numbers of a range, or one value. Refuses
+/// with the first cause: a name, since none is visible in them, whatever names `scope` has; then item by item of a list
+/// what arithmetic refuses or a text for a number, and of a range the values of its three parts, a text for a number, a
+/// step below 1 or a range that begins behind its end; last more than 4,096 values. Linear in the tree and the values;
+/// the numbers of a range are counted before any is made.
 pub fn parameter_values(alloc: Global, scope: &Scope, tree: &SynParam) -> Result<Vec<Value>, Stop>
     ensures { operands.GivesList result (definition.parameter_values scope.now tree.now) }
 {

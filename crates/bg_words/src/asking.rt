@@ -27,8 +27,8 @@ pub struct Request {
     pub explain: bool,
 }
 
-/// What these matches ask for, or nothing where the command is none that is built, or a number is not of its form or not in
-/// its range.
+/// What these matches ask for, or nothing where the command is none that is built, or a number is not of its form or
+/// not in its range.
 #[tactic(auto, unfolding(crate::specs::Words::request_in))]
 pub(crate) fn request_in(matches: &ArgMatches) -> Option<Request>
     ensures { result ≡ definition.request_in (rows_of (found_of matches.now)) }

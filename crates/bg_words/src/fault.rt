@@ -5,7 +5,8 @@ use thiserror::Error;
 /// Why words ask for nothing.
 #[derive(Clone, Copy, Debug, PartialEq, Eq, Error)]
 pub enum WordsFault {
-    /// They are no command that is built with options that are there, each once and with a number of its form and range.
+    /// They are no command that is built with options that are there, each once and with a number of its form and
+    /// range.
     #[error("the words are refused")]
     Refused,
     /// There was no memory.

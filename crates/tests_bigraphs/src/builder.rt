@@ -1,5 +1,5 @@
-//! Each operation on small bigraphs, beside the call of `bg_algebra`. Each function makes few values: what a test holds at
-//! once is what costs in its proof.
+//! Each operation on small bigraphs, beside the call of `bg_algebra`. Each function makes few values: what a test holds
+//! at once is what costs in its proof.
 ghost use Rattle.std.specs.Prelude.{◌≡◌, ◌↔◌, ◌+◌, ◌<◌, ◌^◌, true, IsTrue, IfOk, length};
 ghost use Rattle.bg_base.specs.Bigraph.{IsValid};
 ghost use Rattle.bg_builder.specs.Numbers.{follows as numbers_follow};
@@ -364,7 +364,8 @@ fn composes_rows_of_any_numbers(rt: HostRuntime) {
     }
 }
 
-/// How many nodes, edges, sites, inner names, regions and outer names it has; the number of the refusal, if it is refused.
+/// How many nodes, edges, sites, inner names, regions and outer names it has; the number of the refusal, if it is
+/// refused.
 fn counts_of(come: Result<Big, AlgebraFault>) -> [u32; 6] {
     match come {
         Ok(big) => [

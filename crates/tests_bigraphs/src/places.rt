@@ -54,8 +54,8 @@ fn big(
     })
 }
 
-/// Region 0 has node 0 with nodes 3 and 9 in it, and node 7 in node 3; region 1 has node 5. Sites 0 and 3 lie in node 3,
-/// site 1 in region 1, site 2 in node 0.
+/// Region 0 has node 0 with nodes 3 and 9 in it, and node 7 in node 3; region 1 has node 5. Sites 0 and 3 lie in node
+/// 3, site 1 in region 1, site 2 in node 0.
 fn two_regions(alloc: Global) -> Result<Big, OutOfMemory> {
     let nodes = [
         (0, Place::Region(0)),

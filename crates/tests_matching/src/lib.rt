@@ -1,4 +1,5 @@
-//! Tests of occurrences and reactions, by public calls alone: embeddings, decompositions, what `match` writes, reactions.
+//! Tests of occurrences and reactions, by public calls alone: embeddings, decompositions, what `match` writes,
+//! reactions.
 #![tactic(auto)]
 
 #[cfg(test)]

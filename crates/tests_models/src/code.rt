@@ -20,7 +20,8 @@ enum Outcome {
     NoExpression,
 }
 
-/// A letter for an operation: `>` and `<` for one deeper and back, `.` for what is nested in an atom, `:` in another form.
+/// A letter for an operation: `>` and `<` for one deeper and back, `.` for what is nested in an atom, `:` in another
+/// form.
 fn letter_of(operation: &Operation) -> u8 {
     match operation {
         Operation::Node { .. } => b'N',

@@ -16,7 +16,8 @@ use std::test::*;
 /// What the expression of a text comes to.
 #[derive(Clone, Copy, Debug, PartialEq, Eq)]
 enum Outcome {
-    /// How many nodes, edges, regions, outer names and controls; and the edge of the first port of the first node, 9 for none.
+    /// How many nodes, edges, regions, outer names and controls; and the edge of the first port of the first node, 9
+    /// for none.
     Value([u32; 6]),
     /// The cause, and the token.
     Refused(Cause, u32),

@@ -378,8 +378,8 @@ fn entry_or_9(entry: Option<&u32>) -> u32 {
     }
 }
 
-/// How many nodes and edges the redex has, and the reactum; the entries of the map, the first and the last; and how many
-/// conditions, the first and the last.
+/// How many nodes and edges the redex has, and the reactum; the entries of the map, the first and the last; and how
+/// many conditions, the first and the last.
 fn summary(rule: &Rule) -> [u32; 10] {
     let redex = rule.redex().big();
     let reactum = rule.reactum();

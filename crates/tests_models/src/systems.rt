@@ -1,5 +1,5 @@
-//! The listing of a small system, and of one with rules in two classes, labels with arguments, a condition of each kind, maps
-//! and a predicate.
+//! The listing of a small system, and of one with rules in two classes, labels with arguments, a condition of each
+//! kind, maps and a predicate.
 ghost use Rattle.std.specs.Prelude.{◌≡◌, ◌<◌, [], All, IfOk};
 ghost use Rattle.bg_base.specs.Bigraph.{IsValidUnder};
 ghost use Rattle.bg_listing.specs.Limits.{IsReadableBig};

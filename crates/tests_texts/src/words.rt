@@ -1,8 +1,8 @@
 use bg_words::{Request, WordsFault, request};
 use std::alloc::{AllocError, Global};
 
-/// Words that ask for something. Behind the colon stands what they ask for: the command, the most occurrences, the workers,
-/// the steps, the seed, the size, and whether to explain.
+/// Words that ask for something. Behind the colon stands what they ask for: the command, the most occurrences, the
+/// workers, the steps, the seed, the size, and whether to explain.
 const TAKEN: &str = "\
 bigengine compose: Compose 100000 1 1000 0 10 false
 bigengine check: Check 100000 1 1000 0 10 false

@@ -1,4 +1,5 @@
-//! Reading. Models: statements, and then the block with parameters, the first bigraph, classes and predicates. Written by tools/grammar.py.
+//! Reading. Models: statements, and then the block with parameters, the first bigraph, classes and predicates. Written
+//! by tools/grammar.py.
 ghost use Rattle.std.specs.Prelude.{◌≤◌, [], ◌∷◌, length};
 ghost use Rattle.bg_syntax.specs.declared.symbol.Symbol.TheVariants as symbols;
 ghost use Rattle.bg_syntax.specs.Steps.{opens};

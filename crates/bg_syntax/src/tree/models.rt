@@ -1,4 +1,5 @@
-//! Models: statements, and then the block with parameters, the first bigraph, classes and predicates. Written by tools/grammar.py.
+//! Models: statements, and then the block with parameters, the first bigraph, classes and predicates. Written by
+//! tools/grammar.py.
 use crate::tree::expressions::SynRef;
 use crate::tree::statements::{SynParam, SynStmt};
 

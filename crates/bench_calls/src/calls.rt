@@ -4,9 +4,11 @@ ghost use Rattle.std.specs.List.Sorted.{IsStrictlySortedBy};
 ghost use Rattle.bg_base.specs.declared.big.NodeRow.{NodeRow as RowOfNode};
 ghost use Rattle.bg_base.specs.Bigraph.{IsValid, node_cmp, row_of};
 
-use crate::shapes::{Shape, big_of};
-use bg_base::{Big, Ident, Kind, Label, NodeRow, Place, Signature, SignatureFault, find_node};
-use bg_lists::{Mem, OutOfMemory, Rows};
+use crate::reactions::{host_of, reacted};
+use crate::rules::Change;
+use crate::shapes::{Shape, big_of, is_valid};
+use bg_base::{Big, NodeRow, Place, find_node};
+use bg_lists::Mem;
 use bg_place::{Forest, Places, compose_places, tensor_places};
 use std::alloc::Global;
 
@@ -28,10 +30,14 @@ pub enum Call {
     Compose,
     /// `tensor_places` with another bigraph of that shape.
     Tensor,
+    /// A host is made and checked, and no more is done.
+    Host,
+    /// `react` at the root of a host, by the rule that does this.
+    React(Change),
 }
 
 impl Call {
-    pub fn all() -> [Call; 8] {
+    pub fn all() -> [Call; 12] {
         [
             Call::Made,
             Call::Forest,
@@ -41,6 +47,10 @@ impl Call {
             Call::Pair,
             Call::Compose,
             Call::Tensor,
+            Call::Host,
+            Call::React(Change::Keep),
+            Call::React(Change::Twice),
+            Call::React(Change::Drop),
         ]
     }
 
@@ -54,6 +64,8 @@ impl Call {
             Call::Pair => "pair",
             Call::Compose => "compose",
             Call::Tensor => "tensor",
+            Call::Host => "host",
+            Call::React(change) => change.word(),
         }
     }
 
@@ -67,7 +79,11 @@ impl Call {
             "pair" => Some(Call::Pair),
             "compose" => Some(Call::Compose),
             "tensor" => Some(Call::Tensor),
-            _ => None,
+            "host" => Some(Call::Host),
+            _ => {
+                let change = Change::named(word)?;
+                Some(Call::React(change))
+            }
         }
     }
 }
@@ -97,30 +113,6 @@ impl Tally {
             tally = tally.with(*number);
         }
         tally
-    }
-}
-
-/// One control, normal and without ports.
-fn one_control(alloc: Global) -> Result<Signature, SignatureFault> {
-    let mut signature = Signature::new(alloc);
-    let Some(name) = Ident::new(alloc, "Room")? else {
-        return Ok(signature);
-    };
-    let label = Label {
-        name,
-        args: Rows::from_vec(Vec::new(alloc)),
-    };
-    signature.add(alloc, label, 0, Kind::Normal)?;
-    Ok(signature)
-}
-
-/// Whether the bigraph is valid under that control.
-fn is_valid(alloc: Global, big: &Big) -> bool
-    ensures { IsTrue result → IsValid big.now }
-{
-    match one_control(alloc) {
-        Ok(signature) => big.check(alloc, &signature).is_ok(),
-        Err(_) => false,
     }
 }
 
@@ -232,8 +224,33 @@ fn tally_of_two(alloc: Global, call: Call, upper: &Big, lower: &Big) -> Mem<Opti
     }
 }
 
-/// What the call answers on bigraphs of that shape and of so many nodes; none where a bigraph is not valid.
+/// The nodes of a host of that shape and of so many nodes.
+fn nodes_of_host(alloc: Global, shape: Shape, rows: u32) -> Mem<Option<Tally>> {
+    let Some(host) = host_of(alloc, shape, rows)? else {
+        return Ok(None);
+    };
+    Ok(Some(nodes_of(host.big())))
+}
+
+/// The nodes of such a host after a reaction.
+fn nodes_behind(alloc: Global, shape: Shape, change: Change, rows: u32) -> Mem<Option<Tally>> {
+    let Some(host) = reacted(alloc, shape, change, rows)? else {
+        return Ok(None);
+    };
+    Ok(Some(nodes_of(host.big())))
+}
+
+/// What the call answers on bigraphs of that shape and of so many nodes; none where a bigraph is not valid, or a
+/// host too large.
 pub fn tally_of(alloc: Global, shape: Shape, call: Call, rows: u32) -> Mem<Option<Tally>> {
+    match call {
+        Call::Host => nodes_of_host(alloc, shape, rows),
+        Call::React(change) => nodes_behind(alloc, shape, change, rows),
+        _ => tally_of_bigs(alloc, shape, call, rows),
+    }
+}
+
+fn tally_of_bigs(alloc: Global, shape: Shape, call: Call, rows: u32) -> Mem<Option<Tally>> {
     let lower = big_of(alloc, shape, 0, rows)?;
     if !is_valid(alloc, &lower) {
         return Ok(None);

@@ -1,14 +1,16 @@
-//! Runs calls of the two halves of a bigraph on large bigraphs, so that `bench/run` can time them. What it writes are
+//! Runs calls on large bigraphs and hosts, so that `bench/run` can time them. What it writes are
 //! counts and sums, and no times.
 //!
-//!     bench_halves SHAPE CALL ROWS    one call
-//!     bench_halves ROWS               each call on each shape
+//!     bench_calls SHAPE CALL ROWS    one call
+//!     bench_calls ROWS               each call on each shape
 //!
 //! A shape is `chain` or `star`; a call is `made`, `forest`, `children`, `depth`, `subtree`, `pair`,
-//! `compose` or `tensor`.
+//! `compose`, `tensor`, `host`, `keep`, `twice` or `drop`.
 #![tactic(auto)]
 
 mod calls;
+mod reactions;
+mod rules;
 mod shapes;
 
 use calls::{Call, Tally, tally_of};

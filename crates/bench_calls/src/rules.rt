@@ -12,8 +12,6 @@ use std::alloc::Global;
 /// What a rule makes of a node.
 #[derive(Clone, Copy, Debug)]
 pub enum Change {
-    /// There is no rule.
-    None,
     /// A new node, with what was in the old one.
     Keep,
     /// What was in it, twice.
@@ -25,7 +23,6 @@ pub enum Change {
 impl Change {
     pub fn word(self) -> &'static str {
         match self {
-            Change::None => "none",
             Change::Keep => "keep",
             Change::Twice => "twice",
             Change::Drop => "drop",
@@ -34,7 +31,6 @@ impl Change {
 
     pub fn named(word: &str) -> Option<Change> {
         match word {
-            "none" => Some(Change::None),
             "keep" => Some(Change::Keep),
             "twice" => Some(Change::Twice),
             "drop" => Some(Change::Drop),
@@ -45,7 +41,7 @@ impl Change {
     /// For each site of the reactum the site of the redex.
     fn entries(self) -> &'static [u32] {
         match self {
-            Change::None | Change::Drop => &[],
+            Change::Drop => &[],
             Change::Keep => &[0],
             Change::Twice => &[0, 0],
         }
@@ -81,15 +77,12 @@ fn reactum(alloc: Global, change: Change) -> Mem<Big>
     match change {
         Change::Keep => room(alloc),
         Change::Twice => sites(alloc, 2),
-        Change::None | Change::Drop => sites(alloc, 0),
+        Change::Drop => sites(alloc, 0),
     }
 }
 
-/// The rule; none where there is none.
+/// The rule.
 pub fn rule_of(alloc: Global, change: Change) -> Mem<Option<Rule>> {
-    if let Change::None = change {
-        return Ok(None);
-    }
     let Some(name) = Ident::new(alloc, change.word())? else {
         return Ok(None);
     };
