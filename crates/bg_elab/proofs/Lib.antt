@@ -10,6 +10,7 @@ mod ReferenceRead
 mod Turns
 mod UsesMade
 pub mod SystemsKept
+mod Described
 mod Said
 mod SaidRows
 mod SaidFormulas

@@ -14,6 +14,7 @@ use Rattle.bg_lists.specs.Lists.{Mem}
 use Rattle.bg_lists.proofs.Words.{All-from_members}
 use Rattle.bg_rules.specs.declared.predicate.Predicate.{Predicate}
 use Rattle.bg_rules.specs.Rules.{RuleParts}
+use Rattle.bg_rules.specs.Solid.{IsPattern}
 use Rattle.bg_rules.specs.Systems.{SystemParts, IsRuleUnder, IsSystem}
 use Rattle.bg_statements.specs.Defined.{Defined}
 use Rattle.bg_statements.specs.InTurn.{in_turn}
@@ -24,6 +25,7 @@ use Rattle.bg_statements.proofs.RulesSound.{statements_sound}
 use Rattle.bg_statements.proofs.Sounds.{nothing_sound, parameter_sound}
 use Rattle.bg_statements.proofs.TestsPassed.{one_more}
 use Rattle.bg_statements.proofs.Turns.{turns_keep}
+use Rattle.bg_statements.proofs.UsesAre.{host_used_host, predicate_used_is}
 use Rattle.bg_statements.proofs.UsesFit.{FitsControls, GoesOn, stays, goes_further, valid_later, rule_later, host_used_fits, predicate_used_fits, rule_used_fits}
 use Rattle.bg_syntax.specs.declared.tree.expressions.SynRef.{SynRef}
 use Rattle.bg_syntax.specs.declared.tree.models.SynBlock.{SynBlock}
@@ -142,7 +144,7 @@ module _ (d : Defined) (sound : IsSound d) where
 
   module _ (before : List Control) where
     abbrev Holds : List Control → Predicate → Type 0
-    Holds signature predicate = IsValidUnder signature predicate.pattern
+    Holds signature predicate = IsPattern predicate.pattern × IsValidUnder signature predicate.pattern
 
     one_predicate : (r : Reference) (choice : List Value) (made more : List Predicate × List Control) → AreMade Holds d before made
         → with_predicate d r choice made ≡ Ok more → AreMade Holds d before more
@@ -152,8 +154,8 @@ module _ (d : Defined) (sound : IsSound d) where
         let c = bound (predicate_used d r.at r.number b.found made.1) (λ (v : Predicate × List Control). Ok (made.0 ++ v.0 ∷ [], v.1)) more b.goes_on in
         let so = predicate_used_fits d sound r.at r.number b.found made.1 c.found are.on.fits c.is in
         subst (AreMade Holds d before) (ok_same c.goes_on)
-        (one_made Holds d before c.found.1 made c.found.0 (λ s t predicate on fits. valid_later d s t predicate.pattern on fits) are
-        (room_there Preds r.at (length made.0) a.found a.is) so.on so.valid)
+        (one_made Holds d before c.found.1 made c.found.0 (λ s t predicate on fits. (fits.0, valid_later d s t predicate.pattern on fits.1)) are
+        (room_there Preds r.at (length made.0) a.found a.is) so.on (predicate_used_is d r.at r.number b.found made.1 c.found c.is, so.valid))
 
     predicates_made : (references : List Reference) (made : List Predicate × List Control) → FitsControls d before
         → predicates_valued d references before ≡ Ok made → AreMade Holds d before made
@@ -179,10 +181,12 @@ module _ (d : Defined) (sound : IsSound d) where
       let last = c.found.1 in
       subst IsSystem (ok_same c.goes_on)
       (record {
+        init_is = host_used_host d block.init.at block.init.number args.found d.signature a.found args.goes_on;
         init_fits = valid_later d a.found.1 last a.found.0.big (goes_further d a.found.1 b.found.1 last rules.on preds.on) init.valid;
         rules_fit = All-from_members (λ (rule : RuleParts). IsRuleUnder last block.classes rule) b.found.0
             (λ rule m. rule_later d b.found.1 last block.classes rule preds.on (rules.each rule m));
-        preds_fit = All-from_members (λ (predicate : Predicate). IsValidUnder last predicate.pattern) c.found.0 preds.each;
+        preds_are = All-from_members (λ (predicate : Predicate). IsPattern predicate.pattern) c.found.0 (λ predicate m. (preds.each predicate m).0);
+        preds_fit = All-from_members (λ (predicate : Predicate). IsValidUnder last predicate.pattern) c.found.0 (λ predicate m. (preds.each predicate m).1);
         few_rules = rules.few;
         few_preds = preds.few;
       })

@@ -11,11 +11,16 @@ ghost use Rattle.bg_syntax.specs.declared.tree.models.SynModel.{SynModel};
 ghost use Rattle.bg_text.specs.declared.token.Token.{Token};
 ghost use Rattle.bg_values.specs.Scopes.{ScopeParts};
 
-/// What a model comes to that is not refused is a system: its host, each side of a rule, each condition and each
-/// predicate are valid under its signature, the class of each rule is below the number of classes, and there are at
-/// most 4,096 rules and at most 4,096 predicates.
+/// What a model comes to that is not refused is a system: what a run begins with is a host, each rule is a rule, and
+/// the conditions and the predicates have patterns; all these bigraphs are valid under its signature; the class of each
+/// rule is below the number of classes; and there are at most 4,096 rules and at most 4,096 predicates.
 pub fn models_come_to_systems()
     ensures { (text : ScopeParts) (tree : SynModel) (parts : SystemParts) → elaborated text tree ≡ Ok parts → IsSystem parts }
+{}
+
+/// What a text describes is a system.
+pub fn texts_describe_systems()
+    ensures { (bytes : List ℕ) (system : SystemParts) → IsReading bytes (Ok system) → IsSystem system }
 {}
 
 /// Tokens determine what a model comes to: two trees of the same tokens come to the same system, or to the same

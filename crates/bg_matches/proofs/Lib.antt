@@ -2,3 +2,4 @@ mod Writing
 mod Occurrences
 mod OneRule
 mod Rules
+mod OneText

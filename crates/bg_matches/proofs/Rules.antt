@@ -5,13 +5,13 @@ use Rattle.std.proofs.lemmas.List.Elements.{All-push}
 use Rattle.bg_base.specs.declared.signature.Control.{Control}
 use Rattle.bg_base.specs.declared.big.Big.{Big}
 use Rattle.bg_lists.proofs.Places.{At-same, At-get_or, At-slice_get, get_or-At, slice_get-At}
-use Rattle.bg_match.specs.TooMany.{AreMoreThan}
+use Rattle.bg_rules.specs.Occurrences.{AreAtMost, AreMoreThan}
 use Rattle.bg_rules.specs.Rules.{RuleParts}
 use Rattle.bg_rules.specs.Systems.{SystemParts}
 use Rattle.bg_matches.specs.declared.fault.MatchesFault.{MatchesFault}
 use Rattle.bg_matches.specs.declared.fault.MatchesFault.TheVariants.{TooMany}
 use Rattle.bg_matches.specs.Appending.{Appends}
-use Rattle.bg_matches.specs.Counts.{AreAtMost, IsFirstExcess}
+use Rattle.bg_matches.specs.Counts.{IsFirstExcess}
 use Rattle.bg_matches.specs.MatchText.{IsRuleText, AreRuleTexts, none, each}
 use Rattle.bg_matches.proofs.Writing.{behind}
 

@@ -1,18 +1,14 @@
 -- Rules with more occurrences than are asked for.
-use Rattle.std.specs.Prelude.{◌≡◌, ℕ, ◌≤◌, ◌<◌, Some, List, ◌++◌, length, codes, slice_get}
+use Rattle.std.specs.Prelude.{◌≡◌, ℕ, ◌<◌, Some, List, ◌++◌, All, codes, slice_get}
 use Rattle.std.specs.Fmt.{decimal}
-use Rattle.bg_base.specs.declared.big.Big.{Big}
 use Rattle.bg_listing.specs.Spelling.{label_text}
-use Rattle.bg_match.specs.TooMany.{AreMoreThan}
-use Rattle.bg_rules.specs.Occurrences.{AreOccurrences}
+use Rattle.bg_rules.specs.Occurrences.{AreAtMost, AreMoreThan}
 use Rattle.bg_rules.specs.Rules.{RuleParts}
 use Rattle.bg_rules.specs.Systems.{SystemParts}
 
--- the pattern occurs in the host at no more than so many maps
-pub record AreAtMost (most : ℕ) (host pattern : Big) : Type 0 where
-  pub maps : List (List ℕ)
-  pub occurrences : AreOccurrences host pattern maps
-  pub few : length maps ≤ most
+-- no rule of the system has more than so many occurrences in its host
+abbrev pub AreFew : ℕ → SystemParts → Type 0
+AreFew most system = All (λ (rule : RuleParts). AreAtMost most system.init.big rule.redex) system.rules
 
 -- the redex of the rule with that number has more than so many occurrences, and of each rule before it at most so many
 pub record IsFirstExcess (most : ℕ) (system : SystemParts) (number : ℕ) (rule : RuleParts) : Type 0 where

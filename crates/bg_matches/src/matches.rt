@@ -1,8 +1,8 @@
 //! The writers of what the command `match` answers.
-ghost use Rattle.std.specs.Prelude.{◌≡◌, ◌<◌, ◌++◌, ℕ, List, Some, slice_get, length, take, All, IfErr, OnOk, OnErr};
+ghost use Rattle.std.specs.Prelude.{◌≡◌, ◌<◌, ◌++◌, ℕ, List, Some, slice_get, length, take, IfErr, OnOk, OnErr};
 ghost use Rattle.bg_matches.specs.declared.fault.MatchesFault.TheVariants.{TooMany};
 ghost use Rattle.bg_matches.specs.Appending.{Appends};
-ghost use Rattle.bg_matches.specs.Counts.{AreAtMost, IsFirstExcess, excess_line};
+ghost use Rattle.bg_matches.specs.Counts.{AreFew, IsFirstExcess, excess_line};
 ghost use Rattle.bg_matches.specs.MatchText.{IsMatchText};
 ghost use Rattle.bg_rules.specs.Rules.{RuleParts};
 
@@ -28,7 +28,7 @@ pub fn write_matches(
     out: &mut Vec<u8>,
 ) -> Result<(), MatchesFault>
     ensures text { OnOk result (Appends (IsMatchText system.now explain) out.old.items out.new.items) }
-    ensures few { OnOk result (All (λ (rule : RuleParts). AreAtMost most system.now.init.big rule.redex) system.now.rules) }
+    ensures few { OnOk result (AreFew most system.now) }
     ensures many { IfErr result (λ fault. (number : ℕ) → fault ≡ TooMany number
         → (rule : RuleParts) × IsFirstExcess most system.now number rule) }
     ensures err { OnErr result (out.new.items ≡ out.old.items) }
@@ -50,7 +50,7 @@ fn put_rules(
     out: &mut Vec<u8>,
 ) -> Result<(), MatchesFault>
     ensures text { OnOk result (Appends (IsMatchText system.now explain) out.old.items out.new.items) }
-    ensures few { OnOk result (All (λ (rule : RuleParts). AreAtMost most system.now.init.big rule.redex) system.now.rules) }
+    ensures few { OnOk result (AreFew most system.now) }
     ensures many { IfErr result (λ fault. (number : ℕ) → fault ≡ TooMany number
         → (rule : RuleParts) × IsFirstExcess most system.now number rule) }
     ensures kept { OnErr result (take (length out.old.items) out.new.items ≡ out.old.items) }

@@ -1,13 +1,11 @@
 //! What is written of a rule.
 ghost use Rattle.std.specs.Prelude.{◌≡◌, ◌≤◌, ℕ, length, take, All, IfOk, IfErr, OnOk, OnErr};
 ghost use Rattle.bg_base.specs.Bigraph.{IsValidUnder, IsGround};
-ghost use Rattle.bg_match.specs.TooMany.{AreMoreThan};
 ghost use Rattle.bg_matches.specs.declared.fault.MatchesFault.TheVariants.{TooMany};
 ghost use Rattle.bg_matches.specs.Appending.{Appends};
-ghost use Rattle.bg_matches.specs.Counts.{AreAtMost};
 ghost use Rattle.bg_matches.specs.MatchText.{IsRuleText, AreOccurrenceTexts};
 ghost use Rattle.bg_rules.specs.Decomposition.{Occurs};
-ghost use Rattle.bg_rules.specs.Occurrences.{AreOccurrences};
+ghost use Rattle.bg_rules.specs.Occurrences.{AreOccurrences, AreAtMost, AreMoreThan};
 
 use crate::MatchesFault;
 use crate::lines::write_rule_line;

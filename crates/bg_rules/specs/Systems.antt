@@ -4,8 +4,10 @@ use Rattle.bg_base.specs.declared.signature.Control.{Control}
 use Rattle.bg_base.specs.Bigraph.{IsValidUnder}
 use Rattle.bg_rules.specs.declared.condition.Condition.{Condition}
 use Rattle.bg_rules.specs.declared.predicate.Predicate.{Predicate}
+use Rattle.bg_rules.specs.Hosts.{IsHost}
 use Rattle.bg_rules.specs.Reaction.{HostParts}
-use Rattle.bg_rules.specs.Rules.{RuleParts}
+use Rattle.bg_rules.specs.Rules.{RuleParts, IsRule}
+use Rattle.bg_rules.specs.Solid.{IsPattern}
 
 -- a system, as contracts see it
 pub record SystemParts : Type 0 where
@@ -15,8 +17,10 @@ pub record SystemParts : Type 0 where
   pub classes : ℕ
   pub preds : List Predicate
 
--- the sides of the rule and the patterns of its conditions are valid under the signature, and its class is below that number
+-- a rule whose conditions have patterns; its sides and these are valid under the signature, and its class is below that number
 pub record IsRuleUnder (signature : List Control) (classes : ℕ) (rule : RuleParts) : Type 0 where
+  pub is_rule : IsRule rule
+  pub conditions_are : All (λ (condition : Condition). IsPattern condition.pattern) rule.conditions
   pub redex_fits : IsValidUnder signature rule.redex
   pub reactum_fits : IsValidUnder signature rule.reactum
   pub conditions_fit : All (λ (condition : Condition). IsValidUnder signature condition.pattern) rule.conditions
@@ -24,8 +28,10 @@ pub record IsRuleUnder (signature : List Control) (classes : ℕ) (rule : RulePa
 
 -- what each system keeps
 pub record IsSystem (system : SystemParts) : Type 0 where
+  pub init_is : IsHost system.init
   pub init_fits : IsValidUnder system.signature system.init.big
   pub rules_fit : All (λ (rule : RuleParts). IsRuleUnder system.signature system.classes rule) system.rules
+  pub preds_are : All (λ (predicate : Predicate). IsPattern predicate.pattern) system.preds
   pub preds_fit : All (λ (predicate : Predicate). IsValidUnder system.signature predicate.pattern) system.preds
   pub few_rules : length system.rules ≤ 4096
   pub few_preds : length system.preds ≤ 4096

@@ -25,11 +25,11 @@ pub fn decompositions_are_unique()
         → (context ≡ other_context) × (edges ≡ other_edges) × (parameter ≡ other_parameter) }
 {}
 
-/// There is exactly one list of all occurrences, each once, in dictionary order.
+/// Of a pattern and a ground host there is a list of all occurrences, each once, in dictionary order; of any two
+/// bigraphs there is one at most.
 pub fn occurrences_have_one_list()
     ensures some { (host pattern : Big) → IsPattern pattern → IsGround host → (maps : List (List ℕ)) × AreOccurrences host pattern maps }
-    ensures one { (host pattern : Big) (maps others : List (List ℕ)) → IsPattern pattern → IsGround host
-        → AreOccurrences host pattern maps → AreOccurrences host pattern others → maps ≡ others }
+    ensures one { (host pattern : Big) (maps others : List (List ℕ)) → AreOccurrences host pattern maps → AreOccurrences host pattern others → maps ≡ others }
 {}
 
 /// What decomposes is ground: what lies in the context, that is the pattern with the parameter in it, and the host. The

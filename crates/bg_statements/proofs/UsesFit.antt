@@ -34,6 +34,7 @@ use Rattle.bg_statements.specs.Sound.{IsRuleRead, IsSound}
 use Rattle.bg_statements.specs.Uses.{setting_with, bigraph_used, is_ground, ground_at, host_used, predicate_used, rule_parts, rule_used}
 use Rattle.bg_statements.proofs.TestsPassed.{found_member, one_more, solid_same, conditions_passed, rule_passed}
 use Rattle.bg_statements.proofs.Turns.{turns_keep}
+use Rattle.bg_statements.proofs.UsesAre.{rule_value_is}
 use Rattle.bg_terms.specs.declared.shape.Shape.{Shape}
 use Rattle.bg_terms.specs.Expressions.{Expression}
 use Rattle.bg_terms.specs.Read.{IsRead, shapes_of}
@@ -81,6 +82,8 @@ pub rule_later : (d : Defined) (before after : List Control) (classes : ℕ) (ru
     → IsRuleUnder before classes rule → IsRuleUnder after classes rule
 rule_later d before after classes rule on under =
     record {
+      is_rule = under.is_rule;
+      conditions_are = under.conditions_are;
       redex_fits = valid_later d before after rule.redex on under.redex_fits;
       reactum_fits = valid_later d before after rule.reactum on under.reactum_fits;
       conditions_fit = All-from_members (λ (c : Condition). IsValidUnder after c.pattern) rule.conditions
@@ -229,8 +232,16 @@ module _ (d : Defined) (sound : IsSound d) (at number : ℕ) where
       (λ (w : RuleValue × Met). Ok (rule_parts label class w.0, w.1.signature)) v a.goes_on in
       let read = sound.rules_read a.found (found_member UnknownName at d.rule_expressions number a.found a.is) in
       let so = rule_reaches d sound label.args a.found read (begun signature) b.found fits b.is in
+      let kept = rule_value_is (setting_with d label.args) a.found (begun signature) b.found b.is in
       subst (λ (w : RuleParts × List Control). RuleFits d signature w.1 classes w.0) (ok_same b.goes_on)
       (record {
-        under = record { redex_fits = so.redex_fits; reactum_fits = so.reactum_fits; conditions_fit = so.conditions_fit; class_below = below };
+        under = record {
+          is_rule = record { sides = kept.sides; reactum_numbered = kept.reactum_numbered };
+          conditions_are = kept.conditions_patterns;
+          redex_fits = so.redex_fits;
+          reactum_fits = so.reactum_fits;
+          conditions_fit = so.conditions_fit;
+          class_below = below;
+        };
         on = so.on;
       })

@@ -8,7 +8,8 @@ use Rattle.bg_top.specs.Answer.{Answer, number, wrong_words, too_long}
 use Rattle.bg_rules.specs.Systems.{SystemParts}
 use Rattle.bg_top.specs.Model.{IsModelAnswer, IsModelText}
 use Rattle.bg_top.specs.Model as model
-use Rattle.bg_top.specs.Match.{AreFew, IsMatchAnswer, IsMatchOf, HasTooMany, listed, too_many}
+use Rattle.bg_matches.specs.Counts.{AreFew}
+use Rattle.bg_top.specs.Match.{IsMatchAnswer, IsMatchOf, HasTooMany, listed, too_many}
 use Rattle.bg_top.specs.Match as matching
 use Rattle.bg_top.specs.Compose.{IsComposition, composed}
 use Rattle.bg_top.specs.Refusal.{told}
@@ -24,7 +25,7 @@ use Rattle.bg_elab.specs.declared.fault.ModelFault.{ModelFault}
 use Rattle.bg_elab.specs.Reading.{IsReading}
 use Rattle.bg_elab.proofs.Readings.{one_reading}
 use Rattle.bg_lists.specs.Lists.{Mem}
-use Rattle.bg_match.specs.TooMany.{AreMoreThan}
+use Rattle.bg_rules.specs.Occurrences.{AreMoreThan}
 use Rattle.bg_show.specs.SystemText.{system_text}
 use Rattle.bg_top.specs.Check.{check_text}
 use Rattle.bg_top.proofs.Excess.{few_or_more, first_is_one}

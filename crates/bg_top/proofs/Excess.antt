@@ -1,24 +1,14 @@
 -- Rules with more occurrences than are asked for.
 use Rattle.std.proofs.Common.{◌≡◌, ℕ, List, length, ap, arith}
-use Rattle.std.proofs.lemmas.Cmp.{nat_list_cmp_total}
 use Rattle.bg_lists.specs.Lists.{Mem}
-use Rattle.bg_lists.proofs.Ascents.{same_ascending}
-use Rattle.bg_lists.proofs.Comparisons.{Less-not_back}
 use Rattle.bg_lists.proofs.Places.{Mem-from_At, At-slice_get}
 use Rattle.bg_lists.proofs.Words.{All-member}
 use Rattle.bg_base.specs.declared.big.Big.{Big}
-use Rattle.bg_match.specs.TooMany.{AreMoreThan}
-use Rattle.bg_matches.specs.Counts.{AreAtMost, IsFirstExcess}
-use Rattle.bg_rules.specs.Occurrences.{AreOccurrences}
+use Rattle.bg_matches.specs.Counts.{AreFew, IsFirstExcess}
+use Rattle.bg_rules.specs.Occurrences.{AreAtMost, AreMoreThan}
+use Rattle.bg_rules.proofs.Occurrences.{one_list}
 use Rattle.bg_rules.specs.Rules.{RuleParts}
 use Rattle.bg_rules.specs.Systems.{SystemParts}
-use Rattle.bg_top.specs.Match.{AreFew}
-
--- the lists of all occurrences are one
-one_list : (host pattern : Big) (maps others : List (List ℕ)) → AreOccurrences host pattern maps → AreOccurrences host pattern others → maps ≡ others
-one_list host pattern maps others is also =
-    same_ascending (Less-not_back (nat_list_cmp_total)) maps others is.ascend also.ascend
-    (λ nodes m. also.all nodes (is.occur nodes m)) (λ nodes m. is.all nodes (also.occur nodes m))
 
 -- not at most so many and more
 not_both : (most : ℕ) (host pattern : Big) → AreAtMost most host pattern → AreMoreThan most host pattern → ⊥

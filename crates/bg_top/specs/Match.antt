@@ -1,22 +1,18 @@
 -- What `match` answers to its input: where the rules of the system that it describes occur.
-use Rattle.std.specs.Prelude.{ℕ, Bool, List, Ok, Err, All}
+use Rattle.std.specs.Prelude.{ℕ, Bool, List, Ok, Err}
 use Rattle.bg_elab.specs.declared.fault.Detail.{Detail}
 use Rattle.bg_elab.specs.declared.fault.ModelFault.TheVariants.{Bad}
 use Rattle.bg_elab.specs.Reading.{IsReading}
 use Rattle.bg_lists.specs.Lists.{Mem}
-use Rattle.bg_match.specs.TooMany.{AreMoreThan}
-use Rattle.bg_matches.specs.Counts.{AreAtMost, IsFirstExcess, excess_line}
+use Rattle.bg_matches.specs.Counts.{AreFew, IsFirstExcess, excess_line}
 use Rattle.bg_matches.specs.MatchText.{IsMatchText}
+use Rattle.bg_rules.specs.Occurrences.{AreMoreThan}
 use Rattle.bg_rules.specs.Rules.{RuleParts}
 use Rattle.bg_rules.specs.Systems.{SystemParts}
 use Rattle.bg_top.specs.Answer.{Answer, line}
 use Rattle.bg_top.specs.Model.{refused_at}
 use Rattle.bg_top.specs.Refusal.{refusal_text}
 use Rattle.bg_top.specs.declared.reply.Status.TheVariants.{Done, Refused, TooMany}
-
--- no rule of the system has more than so many occurrences in its host
-abbrev pub AreFew : ℕ → SystemParts → Type 0
-AreFew most system = All (λ (rule : RuleParts). AreAtMost most system.init.big rule.redex) system.rules
 
 -- the texts of the rules of the system that the input describes; or the first rule with more occurrences than are asked
 -- for; or the line that refuses the input

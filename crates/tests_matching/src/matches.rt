@@ -4,6 +4,7 @@ ghost use Rattle.bg_base.specs.Bigraph.{IsValidUnder};
 ghost use Rattle.bg_base.specs.declared.big.NodeRow.{NodeRow as NodeRowValue};
 ghost use Rattle.bg_base.specs.declared.names.Link.TheVariants.{Edge};
 ghost use Rattle.bg_base.specs.Products.{has_point};
+ghost use Rattle.bg_rules.specs.Hosts.{IsHost};
 ghost use Rattle.bg_rules.specs.Rules.{IsNumberedFromZero};
 ghost use Rattle.bg_rules.specs.Systems.{IsRuleUnder};
 
@@ -108,11 +109,14 @@ fn has_small_edges(big: &Big) -> bool
 
 /// The host of a listing, which has no outer name.
 fn host_of(alloc: Global, signature: &Signature, text: &str) -> Result<Host, Fail>
-    ensures { IfOk result (λ host. IsValidUnder signature.now host.big) }
+    ensures kept { IfOk result (λ host. IsHost host) }
+    ensures fits { IfOk result (λ host. IsValidUnder signature.now host.big) }
 {
     let big = big_of(alloc, signature, text)?;
     if is_closed(&big) && has_small_nodes(&big) && has_small_edges(&big) {
-        Ok(Host::new(big))
+        let host = Host::new(big);
+        let _big = host.big();
+        Ok(host)
     } else {
         Err(Fail::from("a site, a name or a large number"))
     }
@@ -131,6 +135,7 @@ fn rule_of(alloc: Global, signature: &Signature) -> Result<Rule, Fail>
     let map = Rows::try_from_vec(vec![in alloc; 0]?)?;
     let conditions = Rows::from_vec(Vec::new(alloc));
     let rule = Rule::new(label, redex, reactum, map, conditions, 0)?;
+    let _redex = rule.redex();
     Ok(rule)
 }
 

@@ -5,7 +5,9 @@ ghost use Rattle.bg_base.specs.Bigraph.{IsValidUnder};
 ghost use Rattle.bg_listing.specs.Limits.{IsReadableBig};
 ghost use Rattle.bg_rules.specs.declared.condition.Condition.{Condition as ConditionValue};
 ghost use Rattle.bg_rules.specs.declared.predicate.Predicate.{Predicate as PredicateValue};
+ghost use Rattle.bg_rules.specs.Hosts.{IsHost};
 ghost use Rattle.bg_rules.specs.Rules.{RuleParts, IsNumberedFromZero};
+ghost use Rattle.bg_rules.specs.Solid.{IsPattern};
 ghost use Rattle.bg_rules.specs.Systems.{IsRuleUnder};
 
 use bg_base::{Big, Ident, Label, Signature, Text, Value};
@@ -45,10 +47,12 @@ fn big_of(alloc: Global, signature: &Signature, text: &str) -> Result<Big, Fail>
 
 /// The pattern of a listing.
 fn pattern_of(alloc: Global, signature: &Signature, text: &str) -> Result<Pattern, Fail>
-    ensures { IfOk result (λ pattern. IsValidUnder signature.now pattern) }
+    ensures kept { IfOk result (λ pattern. IsPattern pattern) }
+    ensures fits { IfOk result (λ pattern. IsValidUnder signature.now pattern) }
 {
     let big = big_of(alloc, signature, text)?;
     let pattern = Pattern::new(big)?;
+    let _big = pattern.big();
     Ok(pattern)
 }
 
@@ -67,11 +71,14 @@ fn reactum_of(alloc: Global, signature: &Signature, text: &str) -> Result<Big, F
 
 /// The host of a listing, which has no outer name.
 fn host_of(alloc: Global, signature: &Signature, text: &str) -> Result<Host, Fail>
-    ensures { IfOk result (λ host. IsValidUnder signature.now host.big) }
+    ensures kept { IfOk result (λ host. IsHost host) }
+    ensures fits { IfOk result (λ host. IsValidUnder signature.now host.big) }
 {
     let big = big_of(alloc, signature, text)?;
     if big.sites.is_empty() && big.inner.is_empty() && big.outer.is_empty() {
-        Ok(Host::new(big))
+        let host = Host::new(big);
+        let _big = host.big();
+        Ok(host)
     } else {
         Err(Fail::from("a site or a name"))
     }
@@ -101,6 +108,7 @@ fn rule_of(
     conditions: Rows<Condition>,
     class: u32,
 ) -> Result<Rule, Fail>
+    requires conditions_are { All (λ (condition : ConditionValue). IsPattern condition.pattern) conditions }
     requires conditions_fit { All (λ (condition : ConditionValue). IsValidUnder signature.now condition.pattern) conditions }
     requires class_below { class < 2 }
     ensures { IfOk result (λ rule. IsRuleUnder signature.now 2 rule) }
@@ -109,6 +117,7 @@ fn rule_of(
     let reactum = reactum_of(alloc, signature, sides.reactum)?;
     let map = Rows::try_from_vec(map)?;
     let rule = Rule::new(label, redex, reactum, map, conditions, class)?;
+    let _redex = rule.redex();
     Ok(rule)
 }
 
@@ -119,8 +128,10 @@ fn system_of(
     rules: Vec<Rule>,
     preds: Vec<Predicate>,
 ) -> Result<System, Fail>
+    requires init_is { IsHost init }
     requires init_fits { IsValidUnder signature init.big }
     requires rules_fit { All (λ (rule : RuleParts). IsRuleUnder signature 2 rule) rules.items }
+    requires preds_are { All (λ (predicate : PredicateValue). IsPattern predicate.pattern) preds.items }
     requires preds_fit { All (λ (predicate : PredicateValue). IsValidUnder signature predicate.pattern) preds.items }
 {
     if rules.len() > 10 || preds.len() > 10 {
@@ -201,7 +212,8 @@ const ONE_REGION: Sides<'static> = Sides {
 
 /// A condition of each kind.
 fn conditions_of(alloc: Global, signature: &Signature) -> Result<Rows<Condition>, Fail>
-    ensures { IfOk result (λ conditions. All (λ (condition : ConditionValue). IsValidUnder signature.now condition.pattern) conditions) }
+    ensures are { IfOk result (λ conditions. All (λ (condition : ConditionValue). IsPattern condition.pattern) conditions) }
+    ensures fit { IfOk result (λ conditions. All (λ (condition : ConditionValue). IsValidUnder signature.now condition.pattern) conditions) }
 {
     let mut conditions = Vec::new(alloc);
     for (positive, side, text) in [
@@ -251,7 +263,8 @@ fn removal(alloc: Global, signature: &Signature) -> Result<Rule, Fail>
 
 /// The predicate of that identifier which holds where `K(2){x}` occurs.
 fn predicate_of(alloc: Global, signature: &Signature, name: &str) -> Result<Predicate, Fail>
-    ensures { IfOk result (λ predicate. IsValidUnder signature.now predicate.pattern) }
+    ensures kept { IfOk result (λ predicate. IsPattern predicate.pattern) }
+    ensures fits { IfOk result (λ predicate. IsValidUnder signature.now predicate.pattern) }
 {
     let label = label_of(alloc, name, vec![in alloc; Value::Int(3)]?)?;
     let pattern = pattern_of(alloc, signature, K_AT_X)?;

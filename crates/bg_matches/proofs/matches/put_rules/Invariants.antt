@@ -1,7 +1,7 @@
 use Rattle.std.proofs.Common.{take, All}
 use Rattle.bg_rules.specs.Rules.{RuleParts}
 use Rattle.bg_matches.specs.Appending.{Appends}
-use Rattle.bg_matches.specs.Counts.{AreAtMost}
+use Rattle.bg_rules.specs.Occurrences.{AreAtMost}
 use Rattle.bg_matches.specs.MatchText.{AreRuleTexts}
 use Rattle.bg_matches.proofs.matches.put_rules.Given as goal
 

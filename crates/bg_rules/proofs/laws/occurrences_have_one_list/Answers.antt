@@ -5,4 +5,4 @@ pub returns-clause-some : goal.returns-clause-some
 returns-clause-some c = λ host pattern is ground. (all_maps host pattern is ground, are_occurrences host pattern is ground)
 
 pub returns-clause-one : goal.returns-clause-one
-returns-clause-one c = λ host pattern maps others is ground one two. one_list host pattern is ground maps others one two
+returns-clause-one c = one_list

@@ -27,13 +27,15 @@ bare_host valid =
       next_edge_small = omega arith;
     }
 
-without_rules : (system : SystemParts) → IsValidUnder system.signature system.init.big → system.rules ≡ [] → system.preds ≡ [] → IsSystem system
-without_rules system fits no_rules no_preds =
+without_rules : (system : SystemParts) → IsHost system.init → IsValidUnder system.signature system.init.big → system.rules ≡ [] → system.preds ≡ [] → IsSystem system
+without_rules system host fits no_rules no_preds =
     let rules_none : length system.rules ≡ 0 = ap length no_rules in
     let preds_none : length system.preds ≡ 0 = ap length no_preds in
     record {
+      init_is = host;
       init_fits = fits;
       rules_fit = λ k d below. absurd (omega arith);
+      preds_are = λ k d below. absurd (omega arith);
       preds_fit = λ k d below. absurd (omega arith);
       few_rules = omega arith;
       few_preds = omega arith;
@@ -54,4 +56,6 @@ new-requires-4 c =
       classes = c.args.classes;
       preds = c.from_vec-2.result;
     })
+    (rw c.with_counters-init.ensures (subst (λ (big : Big). IsHost (record { big = big; next_node = 5; next_edge = 6 })) (sym c.barren.ensures.value)
+    (bare_host (subst IsValid c.barren.ensures.value c.barren.ensures.valid))))
     (rw c.with_counters-init.ensures (c.barren.ensures.fits c.new.result)) (cc) (cc)
