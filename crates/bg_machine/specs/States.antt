@@ -1,5 +1,5 @@
 -- States of the machine that evaluates expressions.
-use Rattle.std.specs.Prelude.{ℕ, ◌≤◌, List, length, ◌∷◌, Result, Ok}
+use Rattle.std.specs.Prelude.{ℕ, ◌≤◌, List, ◌∷◌, Result, Ok}
 use Rattle.bg_base.specs.declared.big.Big.{Big}
 use Rattle.bg_base.specs.Bigraph.{IsValid}
 use Rattle.bg_values.specs.declared.refusal.Refusal.{Refusal}
@@ -14,11 +14,10 @@ pub record State : Type 0 where
   pub depth : ℕ
   pub reached : Reached
 
--- a bigraph that may stand on the stack: valid, with at most 65,536 regions and as many sites
+-- a bigraph that may stand on the stack: valid, with at most 65,536 regions
 pub record IsHeld (big : Big) : Type 0 where
   pub valid : IsValid big
   pub few_regions : big.regions ≤ 65536
-  pub few_sites : length big.sites ≤ 65536
 
 -- the bigraph on top of the stack, and what was reached
 abbrev pub pushed : State → Come → Result State Refusal

@@ -133,16 +133,16 @@ impl Machine {
     }
 
     /// Puts a bigraph on top to which others can be put, where it is within the limits.
-    pub(crate) fn show_new(&mut self, alloc: Global, at: u32, big: Big) -> Result<(), Stop>
+    pub(crate) fn put_new(&mut self, alloc: Global, at: u32, big: Big) -> Result<(), Stop>
         requires valid { IsValid big }
         ensures { Goes result self.new (pushed self.old (values.within at big self.old.reached)) }
     {
         let big = Builder::of(alloc, big)?;
-        self.show(at, big)
+        self.put(at, big)
     }
 
     /// Puts the bigraph on top, where it is within the limits.
-    pub(crate) fn show(&mut self, at: u32, big: Builder) -> Result<(), Stop>
+    pub(crate) fn put(&mut self, at: u32, big: Builder) -> Result<(), Stop>
         ensures { Goes result self.new (pushed self.old (values.within at big self.old.reached)) }
     {
         let big = limited(at, big)?;
@@ -162,7 +162,7 @@ impl Machine {
     {
         self.count(at)?;
         let big = idle_names(alloc, words.as_slice())?;
-        self.show_new(alloc, at, big)
+        self.put_new(alloc, at, big)
     }
 
     /// `id(n,{x})`
@@ -178,7 +178,7 @@ impl Machine {
     {
         self.count(at)?;
         let big = wide_identity(alloc, at, width, words.as_slice())?;
-        self.show_new(alloc, at, big)
+        self.put_new(alloc, at, big)
     }
 
     /// `merge(n)`
@@ -188,7 +188,7 @@ impl Machine {
     {
         self.count(at)?;
         let big = wide_merger(alloc, at, width)?;
-        self.show_new(alloc, at, big)
+        self.put_new(alloc, at, big)
     }
 
     /// `1`
@@ -197,7 +197,7 @@ impl Machine {
         ensures { Goes result self.new (definition.comes_to self.old (terms.one at)) }
     {
         self.count(at)?;
-        self.show_new(alloc, at, barren(alloc))
+        self.put_new(alloc, at, barren(alloc))
     }
 
     /// `0`
@@ -206,7 +206,7 @@ impl Machine {
         ensures { Goes result self.new (definition.comes_to self.old (terms.nothing at)) }
     {
         self.count(at)?;
-        self.show_new(alloc, at, empty(alloc))
+        self.put_new(alloc, at, empty(alloc))
     }
 
     /// `K(..){a,b}`
@@ -265,7 +265,7 @@ impl Machine {
         let number = enter(alloc, at, shape, args, &mut self.signature)?;
         self.nodes = next;
         let big = single(alloc, shape.kind, number, node, ports)?;
-        self.show_new(alloc, at, big)
+        self.put_new(alloc, at, big)
     }
 
     /// Takes the bigraph on top.
@@ -317,7 +317,7 @@ impl Machine {
             return Err(Stop::refuse(Cause::Unexpected, at));
         }
         let big = product_of(alloc, product, at, f, g)?;
-        self.show(at, big)
+        self.put(at, big)
     }
 
     /// The bigraph on top, nested in the one below it, in their place.
@@ -337,7 +337,7 @@ impl Machine {
             return Err(Stop::refuse(Cause::Unexpected, at));
         }
         let big = nested(at, is_atom, f, g)?;
-        self.show(at, big)
+        self.put(at, big)
     }
 
     /// Closes the name in the bigraph on top.
@@ -364,6 +364,6 @@ impl Machine {
             return Err(Stop::refuse(Cause::Unexpected, at));
         }
         let whole = closed(alloc, big, word, edge)?;
-        self.show(at, whole)
+        self.put(at, whole)
     }
 }

@@ -1,5 +1,5 @@
 //! The operators of the model language on bigraphs.
-ghost use Rattle.std.specs.Prelude.{◌≡◌, ◌+◌, ◌<◌, ◌^◌, true, length};
+ghost use Rattle.std.specs.Prelude.{◌≡◌, ◌+◌, ◌<◌, ◌^◌, true};
 ghost use Rattle.bg_builder.specs.Numbers.{follows};
 ghost use Rattle.bg_terms.specs.declared.shape.Product.TheVariants as products;
 ghost use Rattle.bg_terms.specs.Values as definition;
@@ -23,7 +23,6 @@ pub fn product_of(
 ) -> Result<Builder, Stop>
     requires follows { follows f g ≡ true }
     requires regions { f.regions + g.regions < 2 ^ 32 }
-    requires sites { length f.sites + length g.sites < 2 ^ 32 }
     ensures { Gives result (definition.product_of product at f g) }
 {
     match product {
@@ -53,7 +52,6 @@ fn composed(alloc: Global, at: u32, f: Builder, g: Builder) -> Result<Builder, S
 fn beside(at: u32, f: Builder, g: Builder) -> Result<Builder, Stop>
     requires follows { follows f g ≡ true }
     requires regions { f.regions + g.regions < 2 ^ 32 }
-    requires sites { length f.sites + length g.sites < 2 ^ 32 }
     ensures { Gives result (definition.product_of products.Tensor at f g) }
 {
     match f.tensor(g) {
@@ -69,7 +67,6 @@ fn beside(at: u32, f: Builder, g: Builder) -> Result<Builder, Stop>
 fn in_parallel(at: u32, f: Builder, g: Builder) -> Result<Builder, Stop>
     requires follows { follows f g ≡ true }
     requires regions { f.regions + g.regions < 2 ^ 32 }
-    requires sites { length f.sites + length g.sites < 2 ^ 32 }
     ensures { Gives result (definition.product_of products.Parallel at f g) }
 {
     match f.parallel(g) {
