@@ -1,5 +1,5 @@
 -- What a text describes is a system.
-use Rattle.std.proofs.Common.{◌≡◌, ℕ, List, Result, Ok, Err, refl, sym, ap, ◌∙◌}
+use Rattle.std.proofs.Common.{◌≡◌, ℕ, List, Result, Ok, Err, refl, sym, ◌∙◌}
 use Rattle.bg_elab.specs.declared.fault.ModelFault.{ModelFault}
 use Rattle.bg_elab.specs.Elaboration.{text_of}
 use Rattle.bg_elab.specs.Reading.{told, IsReading, no_tokens, unexpected, too_deep, comes_to}
@@ -8,10 +8,12 @@ use Rattle.bg_elab.proofs.SystemsKept.{elaborated_is_system}
 use Rattle.bg_rules.specs.Systems.{SystemParts, IsSystem}
 use Rattle.bg_values.specs.declared.refusal.Refusal.{Refusal}
 use Rattle.bg_values.specs.Scopes.{ScopeParts}
-use Rattle.bg_values.proofs.Bindings.{ok_same}
 
 told_ok : (text : ScopeParts) (outcome : Result SystemParts Refusal) (system : SystemParts) → told text outcome ≡ Ok system → outcome ≡ Ok system
-told_ok text (Ok other) system is = ap (λ (s : SystemParts). Ok s) (ok_same is)
+told_ok text (Ok other) system is =
+    let plain : ◌≡◌ {A = Result SystemParts ModelFault} (Ok other) (Ok system) = is in
+    let same : other ≡ system = cc in
+    cc
 told_ok text (Err refusal) system is = absurd cc
 
 read_is_system : (bytes : List ℕ) (outcome : Result SystemParts ModelFault) (system : SystemParts) → IsReading bytes outcome → outcome ≡ Ok system → IsSystem system
