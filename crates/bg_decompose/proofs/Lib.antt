@@ -1,4 +1,4 @@
 mod Covered
 mod Pieces
 mod Whole
-mod Splits
+pub mod Splits

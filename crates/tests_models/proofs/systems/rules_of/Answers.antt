@@ -1,6 +1,6 @@
 use Rattle.bg_rules.specs.Rules.{RuleParts}
 use Rattle.bg_rules.specs.Systems.{IsRuleUnder}
-use Rattle.bg_show.proofs.Pushes.{all_of_none, all_pushed}
+use Rattle.tests_models.proofs.Pushes.{all_of_none, all_pushed}
 use Rattle.tests_models.proofs.systems.rules_of.Goals as goal
 
 pub returns : goal.returns
