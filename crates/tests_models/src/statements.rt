@@ -378,6 +378,15 @@ fn entry_or_9(entry: Option<&u32>) -> u32 {
     }
 }
 
+/// How many conditions there are, 99 for more.
+fn count_of(conditions: &[Condition]) -> u32 {
+    if conditions.len() < 99 {
+        conditions.len() as u32
+    } else {
+        99
+    }
+}
+
 /// How many nodes and edges the redex has, and the reactum; the entries of the map, the first and the last; and how
 /// many conditions, the first and the last.
 fn summary(rule: &Rule) -> [u32; 10] {
@@ -393,7 +402,7 @@ fn summary(rule: &Rule) -> [u32; 10] {
         map.len(),
         entry_or_9(map.as_slice().first()),
         entry_or_9(map.as_slice().last()),
-        conditions.len() as u32,
+        count_of(conditions),
         kind_of(conditions.first()),
         kind_of(conditions.last()),
     ]
