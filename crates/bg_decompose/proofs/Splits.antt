@@ -53,9 +53,5 @@ joinable host pattern nodes numbers context edges parameter same d =
       parameter_valid = d.is_parameter.ground.valid;
       nodes_new = d.nodes_new;
       edges_new = d.edges_new;
-      apart = d.apart;
-      filled = d.filled;
-      filled_apart = d.filled_apart;
-      placed = d.placed;
-      placed_apart = d.placed_apart;
+      fit = d.fit;
     })

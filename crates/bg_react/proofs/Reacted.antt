@@ -99,11 +99,7 @@ module _ (host : HostParts) (rule : RuleParts) (context parameter : Big) (is_hos
         parameter_valid = instance_of_next host rule.redex rule.reactum rule.map between.nodes is_host.numbered is_rule.sides context between.edges parameter between.decomposes;
         nodes_new = counted_new host.next_node (length rule.reactum.nodes);
         edges_new = counted_new host.next_edge (length rule.reactum.edges);
-        apart = recomposes.apart;
-        filled = recomposes.filled;
-        filled_apart = recomposes.filled_apart;
-        placed = recomposes.placed;
-        placed_apart = recomposes.placed_apart;
+        fit = recomposes;
       }
 
   pub goes_between : (instance : Big) → instance ≡ next_instance host rule.reactum rule.map parameter → GoesBetween host rule.reactum context instance

@@ -148,25 +148,25 @@ module _ (pattern : Big) (nodes edges : List ℕ) (parameter : Big) (side : IsSi
             is_parameter = d.is_parameter;
             nodes_new = d.nodes_new;
             edges_new = d.edges_new;
-            parameter_width = d.filled.widths ∙ frame_width pattern nodes edges parameter side is_parameter nodes_new edges_new;
-            pattern_width = sym inside_regions ∙ d.placed.widths;
-            names = sym d.placed.names ∙ inside_outer;
+            parameter_width = d.fit.filled.widths ∙ frame_width pattern nodes edges parameter side is_parameter nodes_new edges_new;
+            pattern_width = sym inside_regions ∙ d.fit.placed.widths;
+            names = sym d.fit.placed.names ∙ inside_outer;
             regions = sym (compose_regions context inside) ∙ ap (λ (b : Big). b.regions) d.whole;
             outer = sym (compose_outer context inside) ∙ ap (λ (b : Big). b.outer) d.whole;
             pattern_parameter = record {
               apart = λ x m n. let v = frame_onto m in let w = ids parameter.nodes n in
-                  nodes_apart made parameter d.filled_apart v.1 w.1 (v.2 ∙ sym w.2);
+                  nodes_apart made parameter d.fit.filled_apart v.1 w.1 (v.2 ∙ sym w.2);
             };
             pattern_context = record {
               apart = λ x m n. let v = frame_onto m in let w = ids context.nodes n in
-                  nodes_apart context inside d.placed_apart w.1 (Mem-compose_upper made parameter v.1) (w.2 ∙ sym v.2);
+                  nodes_apart context inside d.fit.placed_apart w.1 (Mem-compose_upper made parameter v.1) (w.2 ∙ sym v.2);
             };
             parameter_context = record {
               apart = λ x m n. let v = ids parameter.nodes m in let w = ids context.nodes n in
-                  nodes_apart context inside d.placed_apart w.1 (Mem-compose_lower made parameter v.1) (w.2 ∙ sym v.2);
+                  nodes_apart context inside d.fit.placed_apart w.1 (Mem-compose_lower made parameter v.1) (w.2 ∙ sym v.2);
             };
             edges_apart = record {
-              apart = λ x m n. edges_apart context inside d.placed_apart n (Mem-compose_edge_upper made parameter (Mem-frame_edge m));
+              apart = λ x m n. edges_apart context inside d.fit.placed_apart n (Mem-compose_edge_upper made parameter (Mem-frame_edge m));
             };
             of_context = λ row m. whole_of (Mem-compose_upper context inside m);
             of_pattern = λ row m. whole_of (Mem-same (pattern_row_is context row) (Mem-compose_lower context inside (Mem-compose_upper made parameter (Mem-frame m))));
@@ -287,11 +287,13 @@ module _ (pattern : Big) (nodes edges : List ℕ) (parameter : Big) (side : IsSi
             is_parameter = g.is_parameter;
             nodes_new = g.nodes_new;
             edges_new = g.edges_new;
-            apart = frame_apart pattern nodes edges parameter side is_parameter nodes_new edges_new;
-            filled = filled_faces;
-            filled_apart = filled_supports;
-            placed = placed_faces;
-            placed_apart = placed_supports;
+            fit = record {
+              apart = frame_apart pattern nodes edges parameter side is_parameter nodes_new edges_new;
+              filled = filled_faces;
+              filled_apart = filled_supports;
+              placed = placed_faces;
+              placed_apart = placed_supports;
+            };
             whole = same_parts (compose context inside) host
                 (same_nodes (compose context inside).nodes host.nodes
                 (compose_nodes_ascend context inside g.context_valid.nodes_ascend inside_up placed_supports) ground.valid.nodes_ascend rows_into rows_back)

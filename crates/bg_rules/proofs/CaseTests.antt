@@ -216,11 +216,13 @@ module _ (signature : List Control) where
         is_parameter = is;
         nodes_new = new-from_test nodes (length pattern.nodes) one.0;
         edges_new = new-from_test edges (length pattern.edges) two.0;
-        apart = apart-from_test (rename pattern nodes edges) (identity 0 parameter.outer) three.0;
-        filled = FacesAgree-from_test framed parameter filled.0;
-        filled_apart = SupportsApart-from_test framed parameter filled.1;
-        placed = FacesAgree-from_test context inside placed.0;
-        placed_apart = SupportsApart-from_test context inside placed.1;
+        fit = record {
+          apart = apart-from_test (rename pattern nodes edges) (identity 0 parameter.outer) three.0;
+          filled = FacesAgree-from_test framed parameter filled.0;
+          filled_apart = SupportsApart-from_test framed parameter filled.1;
+          placed = FacesAgree-from_test context inside placed.0;
+          placed_apart = SupportsApart-from_test context inside placed.1;
+        };
         whole = whole;
       }
 

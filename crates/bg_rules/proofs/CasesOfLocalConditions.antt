@@ -66,7 +66,7 @@ inner_name =
       ground = ground_by four_controls _ refl refl;
       clauses_met = refl;
       local = all_tell _ _ _ refl;
-      never = λ o. one_more o.edges o.parameter.outer o.decomposes.filled.names;
+      never = λ o. one_more o.edges o.parameter.outer o.decomposes.fit.filled.names;
     }
 
 -- ---- the name of a port: the identity on the names of the parameter's ports cannot stand beside it
@@ -112,7 +112,7 @@ not_inside o row m number ports =
     let framed = frame k_on_port_name (0 ∷ []) o.edges o.parameter.outer in
     elim (Mem-compose_cases framed o.parameter m) [
       | inl two ↦ unlike (eqb 1) 1 0 refl refl (sym number ∙ frame_only o.edges o.parameter.outer row two)
-      | inr w ↦ no_port o.edges o.parameter o.decomposes.apart o.decomposes.is_parameter w.0 w.1 (ap (λ (r : NodeRow). r.id) w.2 ∙ number)
+      | inr w ↦ no_port o.edges o.parameter o.decomposes.fit.apart o.decomposes.is_parameter w.0 w.1 (ap (λ (r : NodeRow). r.id) w.2 ∙ number)
           (as_many_ports framed w.0 row w.2 ports)
     ]
 
@@ -125,7 +125,7 @@ never_beside o =
     elim (Mem-compose_cases o.context inside there_is) [
       | inl up ↦
           (let w = number_row o.context.nodes (place_node o.context d.context_valid (parent_there o.context d.context_valid up) refl) in
-          nodes_apart o.context inside d.placed_apart w.1 (Mem-compose_upper framed o.parameter (frame_row o.edges o.parameter.outer)) w.2)
+          nodes_apart o.context inside d.fit.placed_apart w.1 (Mem-compose_upper framed o.parameter (frame_row o.edges o.parameter.outer)) w.2)
       | inr w ↦ not_inside o w.0 w.1 (ap (λ (r : NodeRow). r.id) w.2) (as_many_ports o.context w.0 child w.2 refl)
     ]
 

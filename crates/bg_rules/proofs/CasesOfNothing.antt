@@ -72,14 +72,14 @@ one_way : (host context : Big) (edges : List ℕ) (parameter : Big) → Decompos
 unfolding identity
 one_way host context edges parameter d =
     let is = d.is_parameter in
-    let regions = d.filled.widths ∙ frame_sites edges parameter.outer in
+    let regions = d.fit.filled.widths ∙ frame_sites edges parameter.outer in
     let nodes = no_nodes parameter is.ground.valid regions in
     let none : parameter ≡ nothing = same_parts parameter nothing nodes is.no_edges is.ground.no_sites is.ground.no_inner regions (is.names ∙ ap names_of nodes) in
     let no_edges = nil_of_length edges d.edges_new.as_many in
     let inside : compose (frame nothing [] edges parameter.outer) parameter ≡ compose (frame nothing [] [] []) nothing
     = ap₂ (λ (es : List ℕ) (big : Big). compose (frame nothing [] es big.outer) big) no_edges none in
-    let sites = sym (ap (λ (big : Big). big.regions) (inside ∙ within)) ∙ d.placed.widths in
-    let names = sym (ap (λ (big : Big). big.outer) (inside ∙ within)) ∙ d.placed.names in
+    let sites = sym (ap (λ (big : Big). big.regions) (inside ∙ within)) ∙ d.fit.placed.widths in
+    let names = sym (ap (λ (big : Big). big.outer) (inside ∙ within)) ∙ d.fit.placed.names in
     (sym (around context d.context_valid sites names) ∙ ap (compose context) (sym inside) ∙ d.whole, no_edges, none)
 
 -- and that is one
@@ -94,10 +94,12 @@ each_host host ground =
       is_parameter = parameter_by four_controls nothing refl refl tt refl;
       nodes_new = new-from_test [] 0 refl;
       edges_new = new-from_test [] 0 refl;
-      apart = apart-from_test (rename nothing [] []) (identity 0 []) refl;
-      filled = FacesAgree-from_test (frame nothing [] [] []) nothing refl;
-      filled_apart = SupportsApart-from_test (frame nothing [] [] []) nothing refl;
-      placed = record { widths = sites; names = names };
-      placed_apart = SupportsApart-from_test host (compose (frame nothing [] [] []) nothing) refl;
+      fit = record {
+        apart = apart-from_test (rename nothing [] []) (identity 0 []) refl;
+        filled = FacesAgree-from_test (frame nothing [] [] []) nothing refl;
+        filled_apart = SupportsApart-from_test (frame nothing [] [] []) nothing refl;
+        placed = record { widths = sites; names = names };
+        placed_apart = SupportsApart-from_test host (compose (frame nothing [] [] []) nothing) refl;
+      };
       whole = around host ground.valid sites names;
     }

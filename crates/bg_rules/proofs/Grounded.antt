@@ -25,12 +25,12 @@ module _ (host pattern : Big) (nodes : List ℕ) (context : Big) (edges : List �
       tensor_valid (rename pattern nodes edges) (identity 0 parameter.outer)
       (rename_valid pattern nodes edges d.pattern_valid d.nodes_new.as_many d.edges_new.as_many d.nodes_new.differ d.edges_new.differ)
       (identity_valid 0 parameter.outer d.is_parameter.ground.valid.outer_ascends)
-      d.apart.supports d.apart.inner d.apart.outer
+      d.fit.apart.supports d.fit.apart.inner d.fit.apart.outer
 
   pub inside_ground : IsGround (compose (frame pattern nodes edges parameter.outer) parameter)
   inside_ground =
       record {
-        valid = compose_valid made parameter d.filled d.filled_apart made_valid d.is_parameter.ground.valid;
+        valid = compose_valid made parameter d.fit.filled d.fit.filled_apart made_valid d.is_parameter.ground.valid;
         no_sites = compose_sites made parameter ∙ ap (map (place_through made)) d.is_parameter.ground.no_sites;
         no_inner = compose_inner made parameter ∙ ap (map (inner_through made)) d.is_parameter.ground.no_inner;
       }
@@ -38,7 +38,7 @@ module _ (host pattern : Big) (nodes : List ℕ) (context : Big) (edges : List �
   whole_ground : IsGround (compose context (compose (frame pattern nodes edges parameter.outer) parameter))
   whole_ground =
       record {
-        valid = compose_valid context inside d.placed d.placed_apart d.context_valid inside_ground.valid;
+        valid = compose_valid context inside d.fit.placed d.fit.placed_apart d.context_valid inside_ground.valid;
         no_sites = compose_sites context inside ∙ ap (map (place_through context)) inside_ground.no_sites;
         no_inner = compose_inner context inside ∙ ap (map (inner_through context)) inside_ground.no_inner;
       }

@@ -8,11 +8,10 @@ use Rattle.bg_base.specs.Order.{name_cmp}
 use Rattle.bg_base.specs.declared.big.NodeRow.{NodeRow}
 use Rattle.bg_base.specs.declared.big.Big.{Big}
 use Rattle.bg_base.specs.Bigraph.{IsValid, IsGround}
-use Rattle.bg_base.specs.Composition.{compose}
 use Rattle.bg_base.specs.Elementary.{counted}
 use Rattle.bg_base.specs.Products.{lean}
 use Rattle.bg_rules.specs.Solid.{IsPattern}
-use Rattle.bg_rules.specs.Decomposition.{Decomposes, frame}
+use Rattle.bg_rules.specs.Decomposition.{Decomposes, put_together}
 use Rattle.bg_rules.specs.Instantiation.{instantiate, next_after}
 
 -- a bigraph, and the numbers that its next new node and its next new edge will have
@@ -58,9 +57,13 @@ pub record AreSides (redex reactum : Big) (entries : List ℕ) : Type 0 where
 -- the reactum with new numbers for its nodes and edges, round the instance, in the context; then idle edges are dropped
 abbrev pub recomposed : HostParts → Big → List ℕ → Big → Big → Big
 recomposed host reactum entries context parameter =
-    lean (compose context (compose
-    (frame reactum (counted host.next_node (length reactum.nodes)) (counted host.next_edge (length reactum.edges)) parameter.outer)
-    (instantiate parameter entries (host.next_node + length reactum.nodes))))
+    lean (put_together
+    reactum
+    (counted host.next_node (length reactum.nodes))
+    context
+    (counted host.next_edge (length reactum.edges))
+    parameter.outer
+    (instantiate parameter entries (host.next_node + length reactum.nodes)))
 
 -- the host reacts at these nodes to that
 pub record Reacts (host : HostParts) (redex reactum : Big) (entries nodes : List ℕ) (after : HostParts) : Type 0 where
