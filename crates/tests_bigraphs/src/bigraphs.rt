@@ -65,10 +65,10 @@ fn words_are_spelled(rt: HostRuntime) -> Result<(), Fail> {
         ("x y", false),
     ] {
         let made = Ident::new(alloc, text).expect(&rt, "memory");
-        assert_eq!(rt; made.is_some(), spelled, "{text}");
+        assert!(rt; made.is_some() == spelled, "{text}");
         if let Some(word) = made {
             let copied = word.copy(alloc).expect(&rt, "memory");
-            assert_eq!(rt; copied.as_str(), text);
+            assert!(rt; copied.as_str() == text);
         }
     }
     for (text, spelled) in [
@@ -78,10 +78,10 @@ fn words_are_spelled(rt: HostRuntime) -> Result<(), Fail> {
         ("a\nb", false),
     ] {
         let made = Text::new(alloc, text).expect(&rt, "memory");
-        assert_eq!(rt; made.is_some(), spelled, "{text}");
+        assert!(rt; made.is_some() == spelled, "{text}");
         if let Some(words) = made {
             let copied = words.copy(alloc).expect(&rt, "memory");
-            assert_eq!(rt; copied.as_str(), text);
+            assert!(rt; copied.as_str() == text);
         }
     }
     Ok(())
@@ -99,24 +99,22 @@ fn signatures_refuse_in_order(rt: HostRuntime) -> Result<(), Fail> {
     let alloc = rt.alloc();
     let mut signature = three_controls(alloc).expect(&rt, "memory");
     let third = label(alloc, "C").expect(&rt, "memory");
-    assert_eq!(rt; signature.len(), 3);
-    assert_eq!(rt; signature.find(&third), Some(2));
-    assert_eq!(rt; signature.label(2), &third);
-    assert_eq!(rt; signature.arity(2), 2);
-    assert_eq!(rt; signature.kind(1), Kind::Atomic);
-    assert_eq!(rt;
-        signature.add(alloc, third, 17, Kind::Normal),
-        Err(SignatureFault::DuplicateControl)
+    assert!(rt; signature.len() == 3);
+    assert!(rt; signature.find(&third) == Some(2));
+    assert!(rt; signature.label(2) == &third);
+    assert!(rt; signature.arity(2) == 2);
+    assert!(rt; signature.kind(1) == Kind::Atomic);
+    assert!(rt;
+        signature.add(alloc, third, 17, Kind::Normal) == Err(SignatureFault::DuplicateControl)
     );
     let fourth = label(alloc, "D").expect(&rt, "memory");
-    assert_eq!(rt; signature.find(&fourth), None);
-    assert_eq!(rt;
-        signature.add(alloc, fourth, 17, Kind::Normal),
-        Err(SignatureFault::ArityTooLarge)
+    assert!(rt; signature.find(&fourth) == None);
+    assert!(rt;
+        signature.add(alloc, fourth, 17, Kind::Normal) == Err(SignatureFault::ArityTooLarge)
     );
     let copied = signature.copy(alloc).expect(&rt, "memory");
-    assert_eq!(rt; copied.len(), 3);
-    assert_eq!(rt; copied.controls().len(), 3);
+    assert!(rt; copied.len() == 3);
+    assert!(rt; copied.controls().len() == 3);
     Ok(())
 }
 
@@ -182,9 +180,9 @@ fn check_names_the_first_row_and_the_least_code(rt: HostRuntime) -> Result<(), F
             nodes.push(node(alloc, id, control, parent))?;
         }
         let big = places(alloc, nodes, &[site]).expect(&rt, "memory");
-        assert_eq!(rt; big.check(alloc, &signature), answer);
+        assert!(rt; big.check(alloc, &signature) == answer);
         let copied = big.copy(alloc).expect(&rt, "memory");
-        assert_eq!(rt; copied.check(alloc, &signature), answer);
+        assert!(rt; copied.check(alloc, &signature) == answer);
     }
     Ok(())
 }
@@ -200,16 +198,16 @@ fn links_must_be_there(rt: HostRuntime) -> Result<(), Fail> {
         link: Link::Edge(4),
     })?;
     big.inner = Rows::from_vec(inner);
-    assert_eq!(rt; big.check(alloc, &signature), malformed(4, Part::Inner, 0));
+    assert!(rt; big.check(alloc, &signature) == malformed(4, Part::Inner, 0));
     big.edges = Rows::try_from_vec(Vec::from_slice(alloc, &[7, 4])?).expect(&rt, "few");
-    assert_eq!(rt; big.check(alloc, &signature), malformed(3, Part::Edges, 1));
+    assert!(rt; big.check(alloc, &signature) == malformed(3, Part::Edges, 1));
     big.edges = Rows::try_from_vec(Vec::from_slice(alloc, &[4, 7])?).expect(&rt, "few");
-    assert_eq!(rt; big.check(alloc, &signature), Ok(()));
+    assert!(rt; big.check(alloc, &signature) == Ok(()));
     let mut outer = Vec::new(alloc);
     outer.push(Name::Opened(3))?;
     outer.push(Name::Port(3, 1))?;
     big.outer = Rows::try_from_vec(outer).expect(&rt, "few");
-    assert_eq!(rt; big.check(alloc, &signature), malformed(3, Part::Outer, 1));
+    assert!(rt; big.check(alloc, &signature) == malformed(3, Part::Outer, 1));
     Ok(())
 }
 
@@ -224,15 +222,12 @@ fn copies_are_equal(rt: HostRuntime) -> Result<(), Fail> {
         rule: 3,
         map,
     };
-    assert_eq!(rt; step.copy(alloc).expect(&rt, "memory"), step);
-    assert_eq!(rt; entry.copy(alloc).expect(&rt, "memory"), entry);
+    assert!(rt; step.copy(alloc).expect(&rt, "memory") == step);
+    assert!(rt; entry.copy(alloc).expect(&rt, "memory") == entry);
     let value = Value::Int(-9);
-    assert_eq!(rt; value.copy(alloc).expect(&rt, "memory"), value);
+    assert!(rt; value.copy(alloc).expect(&rt, "memory") == value);
     let link = Link::Outer(Name::Port(1, 2));
-    assert_eq!(rt; link.copy(alloc).expect(&rt, "memory"), link);
-    assert_eq!(rt;
-        Place::Region(2).copy(alloc).expect(&rt, "memory"),
-        Place::Region(2)
-    );
+    assert!(rt; link.copy(alloc).expect(&rt, "memory") == link);
+    assert!(rt; Place::Region(2).copy(alloc).expect(&rt, "memory") == Place::Region(2));
     Ok(())
 }

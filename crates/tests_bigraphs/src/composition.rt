@@ -182,14 +182,14 @@ fn puts_an_agent_into_a_room(rt: HostRuntime) -> Result<(), Fail> {
     let alloc = rt.alloc();
     let signature = three_controls(alloc)?;
     let whole = composed(&rt, alloc, &signature, &room(alloc)?, &agent(alloc, 1)?)?;
-    assert_eq!(rt; whole.nodes.len(), 2);
-    assert_eq!(rt; whole.nodes.as_slice().len(), 2);
-    assert_eq!(rt; whole.nodes[0].parent, Place::Region(0));
-    assert_eq!(rt; whole.nodes[1].id, 1);
-    assert_eq!(rt; whole.nodes[1].control, 1);
-    assert_eq!(rt; whole.nodes[1].parent, Place::Node(0));
+    assert!(rt; whole.nodes.len() == 2);
+    assert!(rt; whole.nodes.as_slice().len() == 2);
+    assert!(rt; whole.nodes[0].parent == Place::Region(0));
+    assert!(rt; whole.nodes[1].id == 1);
+    assert!(rt; whole.nodes[1].control == 1);
+    assert!(rt; whole.nodes[1].parent == Place::Node(0));
     assert!(rt; whole.sites.is_empty());
-    assert_eq!(rt; whole.regions, 1);
+    assert!(rt; whole.regions == 1);
     Ok(())
 }
 
@@ -199,14 +199,14 @@ fn joins_open_and_closed_links(rt: HostRuntime) -> Result<(), Fail> {
     let signature = three_controls(alloc)?;
     let whole = composed(&rt, alloc, &signature, &wiring(alloc)?, &wired(alloc)?)?;
     let z = outer(alloc, "z")?;
-    assert_eq!(rt; whole.nodes.as_slice().len(), 1);
-    assert_eq!(rt; whole.nodes[0].links.as_slice().len(), 2);
-    assert_eq!(rt; whole.nodes[0].links[0], Link::Edge(0));
-    assert_eq!(rt; &whole.nodes[0].links[1], &z);
-    assert_eq!(rt; whole.edges.as_slice(), [0, 7].as_slice());
-    assert_eq!(rt; whole.inner.as_slice().len(), 1);
-    assert_eq!(rt; &whole.inner[0].link, &z);
-    assert_eq!(rt; whole.outer.as_slice().len(), 1);
+    assert!(rt; whole.nodes.as_slice().len() == 1);
+    assert!(rt; whole.nodes[0].links.as_slice().len() == 2);
+    assert!(rt; whole.nodes[0].links[0] == Link::Edge(0));
+    assert!(rt; whole.nodes[0].links[1] == z);
+    assert!(rt; whole.edges.as_slice() == [0, 7].as_slice());
+    assert!(rt; whole.inner.as_slice().len() == 1);
+    assert!(rt; whole.inner[0].link == z);
+    assert!(rt; whole.outer.as_slice().len() == 1);
     Ok(())
 }
 
@@ -215,16 +215,16 @@ fn refuses_in_order(rt: HostRuntime) -> Result<(), Fail> {
     let alloc = rt.alloc();
     let signature = three_controls(alloc)?;
     let met = composed(&rt, alloc, &signature, &room(alloc)?, &agent(alloc, 0)?);
-    assert_eq!(rt; met.err(), Some(AlgebraFault::SupportMeets));
+    assert!(rt; met.err() == Some(AlgebraFault::SupportMeets));
     let narrow = composed(&rt, alloc, &signature, &agent(alloc, 0)?, &agent(alloc, 0)?);
-    assert_eq!(rt; narrow.err(), Some(AlgebraFault::FacesDiffer));
+    assert!(rt; narrow.err() == Some(AlgebraFault::FacesDiffer));
     let unnamed = composed(&rt, alloc, &signature, &wiring(alloc)?, &agent(alloc, 0)?);
-    assert_eq!(rt; unnamed.err(), Some(AlgebraFault::FacesDiffer));
-    assert_eq!(rt; AlgebraFault::FacesDiffer.number(), Some(11));
-    assert_eq!(rt; AlgebraFault::SupportMeets.number(), Some(12));
-    assert_eq!(rt; AlgebraFault::OutOfMemory.number(), None);
+    assert!(rt; unnamed.err() == Some(AlgebraFault::FacesDiffer));
+    assert!(rt; AlgebraFault::FacesDiffer.number() == Some(11));
+    assert!(rt; AlgebraFault::SupportMeets.number() == Some(12));
+    assert!(rt; AlgebraFault::OutOfMemory.number() == None);
     let text = format!(in alloc; "{}", AlgebraFault::SupportMeets)?;
-    assert_eq!(rt; text.as_str(), "a node or an edge is in both bigraphs");
+    assert!(rt; text.as_str() == "a node or an edge is in both bigraphs");
     Ok(())
 }
 
@@ -235,6 +235,6 @@ fn composes_more_than_65_536_nodes(rt: HostRuntime) -> Result<(), Fail> {
     let upper = many(alloc, 40_000, 40_000, true)?;
     let lower = many(alloc, 0, 40_000, false)?;
     let whole = composed(&rt, alloc, &signature, &upper, &lower)?;
-    assert_eq!(rt; whole.nodes.len(), 80_000);
+    assert!(rt; whole.nodes.len() == 80_000);
     Ok(())
 }

@@ -211,13 +211,13 @@ fn expect_open(
 ) -> Result<(), Fail> {
     let link = open(alloc, word)?;
     assert!(rt; !is_closed(&link));
-    assert_eq!(rt; wiring.degree(&link), degree);
+    assert!(rt; wiring.degree(&link) == degree);
     Ok(())
 }
 
 fn expect_port(rt: &impl Abort, wiring: &Wiring, node: u32, port: u32, closed: bool) {
     assert!(rt; wiring.has_port(node, port));
-    assert_eq!(rt; is_closed(wiring.link(node, port)), closed);
+    assert!(rt; is_closed(wiring.link(node, port)) == closed);
 }
 
 #[test]
@@ -225,11 +225,11 @@ fn lists_the_points_of_each_link(rt: HostRuntime) -> Result<(), Fail> {
     let alloc = rt.alloc();
     let wiring = wiring_of(&rt, alloc)?;
     let points = wiring.points(&Link::Edge(3));
-    assert_eq!(rt; points.len(), 3);
-    assert_eq!(rt; &points[0], &Point::Port { node: 0, index: 0 });
-    assert_eq!(rt; &points[1], &Point::Port { node: 2, index: 0 });
-    assert_eq!(rt; wiring.points(&Link::Edge(4)).len(), 0);
-    assert_eq!(rt; wiring.idle_edges(), [8].as_slice());
+    assert!(rt; points.len() == 3);
+    assert!(rt; points[0] == Point::Port { node: 0, index: 0 });
+    assert!(rt; points[1] == Point::Port { node: 2, index: 0 });
+    assert!(rt; wiring.points(&Link::Edge(4)).len() == 0);
+    assert!(rt; wiring.idle_edges() == [8].as_slice());
     Ok(())
 }
 
@@ -271,13 +271,13 @@ fn all_closed(links: &[Link]) -> bool {
 fn composes_through_inner_names(rt: HostRuntime) -> Result<(), Fail> {
     let alloc = rt.alloc();
     let links = composed(&rt, alloc, &joining(alloc)?, &wired(alloc)?)?;
-    assert_eq!(rt; links.edges.as_slice(), [3, 5, 8].as_slice());
-    assert_eq!(rt; links.ports.len(), 2);
+    assert!(rt; links.edges.as_slice() == [3, 5, 8].as_slice());
+    assert!(rt; links.ports.len() == 2);
     for row in links.ports.as_slice() {
         assert!(rt; all_closed(row.links.as_slice()));
     }
-    assert_eq!(rt; links.inner.len(), 1);
-    assert_eq!(rt; links.outer.len(), 1);
+    assert!(rt; links.inner.len() == 1);
+    assert!(rt; links.outer.len() == 1);
     Ok(())
 }
 
@@ -309,8 +309,8 @@ fn shares_the_names_that_both_have(rt: HostRuntime) -> Result<(), Fail> {
         &lone(alloc, 4, &["a", "c"])?,
         &lone(alloc, 1, &["b", "c"])?,
     )?;
-    assert_eq!(rt; links.edges.as_slice(), [1, 4].as_slice());
-    assert_eq!(rt; links.ports.len(), 2);
+    assert!(rt; links.edges.as_slice() == [1, 4].as_slice());
+    assert!(rt; links.ports.len() == 2);
     assert!(rt; links.outer == names(alloc, &["a", "b", "c"])?);
     Ok(())
 }
@@ -319,8 +319,8 @@ fn shares_the_names_that_both_have(rt: HostRuntime) -> Result<(), Fail> {
 fn joins_names_that_are_apart(rt: HostRuntime) -> Result<(), Fail> {
     let alloc = rt.alloc();
     let f = lone(alloc, 4, &["a", "c"])?;
-    assert_eq!(rt; links_of(alloc, &f)?.ports.len(), 1);
+    assert!(rt; links_of(alloc, &f)?.ports.len() == 1);
     let links = tensored(&rt, alloc, &f, &lone(alloc, 1, &["b", "d"])?)?;
-    assert_eq!(rt; links.outer.len(), 4);
+    assert!(rt; links.outer.len() == 4);
     Ok(())
 }

@@ -96,16 +96,16 @@ fn small_nest(alloc: Global, f: &Big, g: &Big) -> Result<Big, AlgebraFault>
 
 /// The bigraph has so many nodes, sites, regions and outer names.
 fn expect_counts(rt: &impl Abort, big: &Big, nodes: u32, sites: u32, regions: u32, outer: u32) {
-    assert_eq!(rt; big.nodes.len(), nodes);
-    assert_eq!(rt; big.sites.len(), sites);
-    assert_eq!(rt; big.regions, regions);
-    assert_eq!(rt; big.outer.len(), outer);
+    assert!(rt; big.nodes.len() == nodes);
+    assert!(rt; big.sites.len() == sites);
+    assert!(rt; big.regions == regions);
+    assert!(rt; big.outer.len() == outer);
 }
 
 /// The node's row, at its position, says that it lies there.
 fn expect_parent(rt: &impl Abort, big: &Big, at: usize, parent: Place) {
     assert!(rt; at < big.nodes.as_slice().len());
-    assert_eq!(rt; big.nodes.as_slice()[at].parent, parent);
+    assert!(rt; big.nodes.as_slice()[at].parent == parent);
 }
 
 /// Two nodes of control A, numbered 0 and 1, in a region each.
@@ -175,9 +175,9 @@ fn tensor_refusal(
 fn tensor_refuses_names_before_nodes(rt: HostRuntime) -> Result<(), Fail> {
     let alloc = rt.alloc();
     let names = tensor_refusal(alloc, 0, "x", 0, "x")?;
-    assert_eq!(rt; names, Some(AlgebraFault::NamesMeet));
+    assert!(rt; names == Some(AlgebraFault::NamesMeet));
     let nodes = tensor_refusal(alloc, 0, "x", 0, "y")?;
-    assert_eq!(rt; nodes, Some(AlgebraFault::SupportMeets));
+    assert!(rt; nodes == Some(AlgebraFault::SupportMeets));
     Ok(())
 }
 
@@ -186,9 +186,9 @@ fn products_refuse_inner_names_in_both(rt: HostRuntime) -> Result<(), Fail> {
     let alloc = rt.alloc();
     let wire = wire(alloc)?;
     let parallel = small_parallel(alloc, &wire, &wire).err();
-    assert_eq!(rt; parallel, Some(AlgebraFault::InnerNamesMeet));
+    assert!(rt; parallel == Some(AlgebraFault::InnerNamesMeet));
     let merged = small_merge(alloc, &wire, &wire).err();
-    assert_eq!(rt; merged, Some(AlgebraFault::InnerNamesMeet));
+    assert!(rt; merged == Some(AlgebraFault::InnerNamesMeet));
     Ok(())
 }
 
@@ -197,9 +197,9 @@ fn nest_refuses_inner_names_and_widths(rt: HostRuntime) -> Result<(), Fail> {
     let alloc = rt.alloc();
     let node = atom(alloc, A, 0, &[])?;
     let named = small_nest(alloc, &wire(alloc)?, &node).err();
-    assert_eq!(rt; named, Some(AlgebraFault::HasInnerNames));
+    assert!(rt; named == Some(AlgebraFault::HasInnerNames));
     let full = small_nest(alloc, &node, &node).err();
-    assert_eq!(rt; full, Some(AlgebraFault::WidthsDiffer));
+    assert!(rt; full == Some(AlgebraFault::WidthsDiffer));
     Ok(())
 }
 
@@ -208,11 +208,11 @@ fn a_closed_name_is_an_edge(rt: HostRuntime) -> Result<(), Fail> {
     let alloc = rt.alloc();
     let node = tied(alloc, 3, "x")?;
     let unknown = close(alloc, &node, &plain(alloc, "y")?, 0).err();
-    assert_eq!(rt; unknown, Some(AlgebraFault::NoSuchName));
+    assert!(rt; unknown == Some(AlgebraFault::NoSuchName));
     let closed = close(alloc, &node, &plain(alloc, "x")?, 7)?;
     expect_counts(&rt, &closed, 1, 0, 1, 0);
     let kept = lean(alloc, &closed)?;
-    assert_eq!(rt; kept.edges.as_slice(), [7].as_slice());
+    assert!(rt; kept.edges.as_slice() == [7].as_slice());
     Ok(())
 }
 
@@ -223,7 +223,7 @@ fn an_idle_edge_is_dropped(rt: HostRuntime) -> Result<(), Fail> {
     let open = idle(alloc, &name)?;
     let closed = close(alloc, &open, &plain(alloc, "x")?, 7)?;
     let dropped = lean(alloc, &closed)?;
-    assert_eq!(rt; dropped.edges.len(), 0);
+    assert!(rt; dropped.edges.len() == 0);
     Ok(())
 }
 
@@ -233,27 +233,27 @@ fn a_node_is_numbered_anew(rt: HostRuntime) -> Result<(), Fail> {
     let node = atom(alloc, A, 3, &[])?;
     if node.nodes.len() == 1 && node.edges.len() == 0 {
         let renamed = rename(alloc, &node, &[5], &[])?;
-        assert_eq!(rt; renamed.nodes.len(), 1);
+        assert!(rt; renamed.nodes.len() == 1);
     }
     Ok(())
 }
 
 /// Both programs of composition give the same nodes.
 fn expect_same_rows(rt: &impl Abort, one: &Big, other: &Big) {
-    assert_eq!(rt; one.nodes.len(), other.nodes.len());
+    assert!(rt; one.nodes.len() == other.nodes.len());
     for (row, twin) in one
         .nodes
         .as_slice()
         .iter()
         .zip(other.nodes.as_slice().iter())
     {
-        assert_eq!(rt; row.id, twin.id);
-        assert_eq!(rt; row.control, twin.control);
-        assert_eq!(rt; row.parent, twin.parent);
+        assert!(rt; row.id == twin.id);
+        assert!(rt; row.control == twin.control);
+        assert!(rt; row.parent == twin.parent);
     }
-    assert_eq!(rt; one.edges.as_slice(), other.edges.as_slice());
-    assert_eq!(rt; one.sites.as_slice(), other.sites.as_slice());
-    assert_eq!(rt; one.regions, other.regions);
+    assert!(rt; one.edges.as_slice() == other.edges.as_slice());
+    assert!(rt; one.sites.as_slice() == other.sites.as_slice());
+    assert!(rt; one.regions == other.regions);
 }
 
 /// Composes by both programs, and compares.

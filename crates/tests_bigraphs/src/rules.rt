@@ -47,19 +47,19 @@ fn idle_name(alloc: Global) -> Mem<Big>
 #[test]
 fn a_node_with_a_site_is_solid(rt: HostRuntime) -> Result<(), Fail> {
     let room = ion(rt.alloc(), A, 0, &[])?;
-    assert_eq!(rt; first_unsolid(&room), None);
+    assert!(rt; first_unsolid(&room) == None);
     Ok(())
 }
 
 #[test]
 fn a_region_wants_a_node(rt: HostRuntime) -> Result<(), Fail> {
-    assert_eq!(rt; first_unsolid(&barren(rt.alloc())), Some(1));
+    assert!(rt; first_unsolid(&barren(rt.alloc())) == Some(1));
     Ok(())
 }
 
 #[test]
 fn nothing_has_no_node(rt: HostRuntime) -> Result<(), Fail> {
-    assert_eq!(rt; first_unsolid(&empty(rt.alloc())), Some(5));
+    assert!(rt; first_unsolid(&empty(rt.alloc())) == Some(5));
     Ok(())
 }
 
@@ -67,7 +67,7 @@ fn nothing_has_no_node(rt: HostRuntime) -> Result<(), Fail> {
 fn a_site_lies_in_no_region(rt: HostRuntime) -> Result<(), Fail> {
     let alloc = rt.alloc();
     let beside_a_site = merged(alloc, &atom(alloc, A, 0, &[])?, &merger(alloc, 1)?)?;
-    assert_eq!(rt; first_unsolid(&beside_a_site), Some(4));
+    assert!(rt; first_unsolid(&beside_a_site) == Some(4));
     Ok(())
 }
 
@@ -75,7 +75,7 @@ fn a_site_lies_in_no_region(rt: HostRuntime) -> Result<(), Fail> {
 fn sites_lie_apart(rt: HostRuntime) -> Result<(), Fail> {
     let alloc = rt.alloc();
     let two_sites = compose(alloc, &ion(alloc, A, 0, &[])?, &merger(alloc, 2)?)?;
-    assert_eq!(rt; first_unsolid(&two_sites), Some(3));
+    assert!(rt; first_unsolid(&two_sites) == Some(3));
     Ok(())
 }
 
@@ -83,7 +83,7 @@ fn sites_lie_apart(rt: HostRuntime) -> Result<(), Fail> {
 fn a_name_wants_a_point(rt: HostRuntime) -> Result<(), Fail> {
     let alloc = rt.alloc();
     let beside_a_name = merged(alloc, &idle_name(alloc)?, &atom(alloc, A, 0, &[])?)?;
-    assert_eq!(rt; first_unsolid(&beside_a_name), Some(2));
+    assert!(rt; first_unsolid(&beside_a_name) == Some(2));
     Ok(())
 }
 
@@ -92,7 +92,7 @@ fn names_are_plain(rt: HostRuntime) -> Result<(), Fail> {
     let alloc = rt.alloc();
     let names = [Name::Opened(3)];
     let tied = atom(alloc, K, 0, names.as_slice())?;
-    assert_eq!(rt; first_unsolid(&tied), Some(6));
+    assert!(rt; first_unsolid(&tied) == Some(6));
     Ok(())
 }
 
@@ -100,9 +100,9 @@ fn names_are_plain(rt: HostRuntime) -> Result<(), Fail> {
 fn the_least_clause_is_named(rt: HostRuntime) -> Result<(), Fail> {
     let alloc = rt.alloc();
     let site = merger(alloc, 1)?;
-    assert_eq!(rt; first_unsolid(&site), Some(1));
+    assert!(rt; first_unsolid(&site) == Some(1));
     let beside_a_name = merged(alloc, &site, &idle_name(alloc)?)?;
-    assert_eq!(rt; first_unsolid(&beside_a_name), Some(1));
+    assert!(rt; first_unsolid(&beside_a_name) == Some(1));
     Ok(())
 }
 
@@ -139,8 +139,8 @@ fn room_pattern(alloc: Global) -> Mem<Pattern> {
 #[test]
 fn the_copy_of_a_pattern_is_a_pattern(rt: HostRuntime) -> Result<(), Fail> {
     let copy = room_pattern(rt.alloc())?.copy(rt.alloc())?;
-    assert_eq!(rt; copy.big().nodes.len(), 1);
-    assert_eq!(rt; copy.big().sites.len(), 1);
+    assert!(rt; copy.big().nodes.len() == 1);
+    assert!(rt; copy.big().sites.len() == 1);
     Ok(())
 }
 
@@ -163,12 +163,12 @@ fn rule_of(alloc: Global, reactum: Big, map: Vec<u32>) -> Mem<Result<Rule, RuleF
 
 /// What a rule of a room and a room has.
 fn expect_rooms(rt: &impl Abort, rule: &Rule) {
-    assert_eq!(rt; rule.redex().big().nodes.len(), 1);
-    assert_eq!(rt; rule.reactum().sites.len(), 1);
-    assert_eq!(rt; rule.map().len(), 1);
-    assert_eq!(rt; rule.conditions().len(), 0);
-    assert_eq!(rt; rule.class(), 0);
-    assert_eq!(rt; rule.label().args.len(), 0);
+    assert!(rt; rule.redex().big().nodes.len() == 1);
+    assert!(rt; rule.reactum().sites.len() == 1);
+    assert!(rt; rule.map().len() == 1);
+    assert!(rt; rule.conditions().len() == 0);
+    assert!(rt; rule.class() == 0);
+    assert!(rt; rule.label().args.len() == 0);
 }
 
 #[test]
@@ -176,7 +176,7 @@ fn a_rule_keeps_its_parts(rt: HostRuntime) -> Result<(), Fail> {
     let alloc = rt.alloc();
     match rule_of(alloc, room(alloc)?, vec![in alloc; 0]?)? {
         Ok(rule) => expect_rooms(&rt, &rule),
-        Err(fault) => assert_eq!(rt; fault.number(), 0),
+        Err(fault) => assert!(rt; fault.number() == 0),
     }
     Ok(())
 }
@@ -185,7 +185,7 @@ fn a_rule_keeps_its_parts(rt: HostRuntime) -> Result<(), Fail> {
 fn sides_have_the_same_names(rt: HostRuntime) -> Result<(), Fail> {
     let alloc = rt.alloc();
     let rule = rule_of(alloc, tied(alloc)?, Vec::new(alloc))?;
-    assert_eq!(rt; rule.err().map(|fault| fault.number()), Some(47));
+    assert!(rt; rule.err().map(|fault| fault.number()) == Some(47));
     Ok(())
 }
 
@@ -193,9 +193,9 @@ fn sides_have_the_same_names(rt: HostRuntime) -> Result<(), Fail> {
 fn a_map_leads_to_sites(rt: HostRuntime) -> Result<(), Fail> {
     let alloc = rt.alloc();
     let beyond = rule_of(alloc, room(alloc)?, vec![in alloc; 1]?)?;
-    assert_eq!(rt; beyond.err(), Some(RuleFault::BadMap));
+    assert!(rt; beyond.err() == Some(RuleFault::BadMap));
     let short = rule_of(alloc, room(alloc)?, Vec::new(alloc))?;
-    assert_eq!(rt; short.err(), Some(RuleFault::BadMap));
+    assert!(rt; short.err() == Some(RuleFault::BadMap));
     Ok(())
 }
 
@@ -212,9 +212,9 @@ fn host_of(alloc: Global, node: u32) -> Mem<Host> {
 #[test]
 fn counters_are_past_the_numbers(rt: HostRuntime) -> Result<(), Fail> {
     let host = host_of(rt.alloc(), 7)?.copy(rt.alloc())?;
-    assert_eq!(rt; host.next_node(), 8);
-    assert_eq!(rt; host.next_edge(), 0);
-    assert_eq!(rt; host.big().nodes.len(), 1);
+    assert!(rt; host.next_node() == 8);
+    assert!(rt; host.next_edge() == 0);
+    assert!(rt; host.big().nodes.len() == 1);
     Ok(())
 }
 
@@ -233,9 +233,9 @@ fn bare_system(alloc: Global, classes: u32) -> System {
 #[test]
 fn a_system_keeps_its_parts(rt: HostRuntime) -> Result<(), Fail> {
     let system = bare_system(rt.alloc(), 3);
-    assert_eq!(rt; system.classes(), 3);
-    assert_eq!(rt; system.init().next_edge(), 6);
-    assert_eq!(rt; system.signature().len(), 0);
-    assert_eq!(rt; system.rules().len() + system.preds().len(), 0);
+    assert!(rt; system.classes() == 3);
+    assert!(rt; system.init().next_edge() == 6);
+    assert!(rt; system.signature().len() == 0);
+    assert!(rt; system.rules().len() + system.preds().len() == 0);
     Ok(())
 }

@@ -81,8 +81,8 @@ fn composed(alloc: Global, bytes: Vec<u8>) -> Result<End, AllocError> {
 fn composes_a_node_into_a_site(rt: HostRuntime) -> Result<(), Fail> {
     let alloc = rt.alloc();
     let end = composed(alloc, edited(alloc, &[])?)?;
-    assert_eq!(rt; end.status, 0);
-    assert_eq!(rt; end.written.as_slice(), COMPOSED.as_bytes());
+    assert!(rt; end.status == 0);
+    assert!(rt; end.written.as_slice() == COMPOSED.as_bytes());
     Ok(())
 }
 
@@ -108,8 +108,8 @@ fn what_cannot_be_composed_is_refused_with_its_line(rt: HostRuntime) -> Result<(
     ];
     for (edits, line) in refused {
         let end = composed(alloc, edited(alloc, edits)?)?;
-        assert_eq!(rt; end.status, 1);
-        assert_eq!(rt; end.written.as_slice(), line.as_bytes());
+        assert!(rt; end.status == 1);
+        assert!(rt; end.written.as_slice() == line.as_bytes());
     }
     Ok(())
 }
@@ -130,8 +130,8 @@ fn other_words_are_refused_and_nothing_is_read(rt: HostRuntime) -> Result<(), Fa
     for texts in refused {
         let source = source_of(alloc, &[1])?;
         let end = end_of(alloc, texts, source, &[])?;
-        assert_eq!(rt; end.status, 2);
-        assert_eq!(rt; end.written.as_slice(), b"words\n".as_slice());
+        assert!(rt; end.status == 2);
+        assert!(rt; end.written.as_slice() == b"words\n".as_slice());
     }
     Ok(())
 }
@@ -279,8 +279,8 @@ fn checked(alloc: Global, bytes: Vec<u8>) -> Result<End, AllocError> {
 fn check_all(rt: &impl Abort, alloc: Global, texts: &[Checked]) -> Result<(), Fail> {
     for (text, status, line) in texts {
         let end = checked(alloc, text.as_bytes().to_vec(alloc)?)?;
-        assert_eq!(rt; end.status, *status);
-        assert_eq!(rt; end.written.as_slice(), line.as_bytes());
+        assert!(rt; end.status == *status);
+        assert!(rt; end.written.as_slice() == line.as_bytes());
     }
     Ok(())
 }
@@ -317,8 +317,8 @@ fn a_system_is_listed(rt: HostRuntime) -> Result<(), Fail> {
     let source = MemorySource::new(SMALL.as_bytes().to_vec(alloc)?, 4096, Vec::new(alloc));
     let words = ["bigengine", "--steps=5", "show", "--explain"];
     let end = end_of(alloc, &words, source, &[])?;
-    assert_eq!(rt; end.status, 0);
-    assert_eq!(rt; end.written.as_slice(), LISTED.as_bytes());
+    assert!(rt; end.status == 0);
+    assert!(rt; end.written.as_slice() == LISTED.as_bytes());
     Ok(())
 }
 
@@ -380,8 +380,8 @@ fn occurrences_are_listed(rt: HostRuntime) -> Result<(), Fail> {
     let alloc = rt.alloc();
     for (options, text, status, line) in MATCHED {
         let end = matched(alloc, options, text)?;
-        assert_eq!(rt; end.status, status);
-        assert_eq!(rt; end.written.as_slice(), line.as_bytes());
+        assert!(rt; end.status == status);
+        assert!(rt; end.written.as_slice() == line.as_bytes());
     }
     Ok(())
 }
@@ -404,11 +404,8 @@ fn doubled(alloc: Global) -> Result<Vec<u8>, AllocError> {
 fn a_model_has_at_most_65536_nodes(rt: HostRuntime) -> Result<(), Fail> {
     let alloc = rt.alloc();
     let end = checked(alloc, doubled(alloc)?)?;
-    assert_eq!(rt; end.status, 1);
-    assert_eq!(rt;
-        end.written.as_slice(),
-        b"refused 52 TooLarge nodes at 19:15\n".as_slice()
-    );
+    assert!(rt; end.status == 1);
+    assert!(rt; end.written.as_slice() == b"refused 52 TooLarge nodes at 19:15\n".as_slice());
     Ok(())
 }
 
@@ -419,10 +416,10 @@ fn a_proper_prefix_of_a_model_is_refused(rt: HostRuntime) -> Result<(), Fail> {
     let behind = bytes.len().saturating_sub(1);
     for size in 0..behind {
         let end = checked(alloc, bytes[..size].to_vec(alloc)?)?;
-        assert_eq!(rt; end.status, 1);
+        assert!(rt; end.status == 1);
     }
     let end = checked(alloc, bytes[..behind].to_vec(alloc)?)?;
-    assert_eq!(rt; end.status, 0);
+    assert!(rt; end.status == 0);
     Ok(())
 }
 
@@ -430,11 +427,8 @@ fn a_proper_prefix_of_a_model_is_refused(rt: HostRuntime) -> Result<(), Fail> {
 fn spaces_alone_have_no_block(rt: HostRuntime) -> Result<(), Fail> {
     let alloc = rt.alloc();
     let end = checked(alloc, vec![in alloc; b' '; 8_388_608]?)?;
-    assert_eq!(rt; end.status, 1);
-    assert_eq!(rt;
-        end.written.as_slice(),
-        b"refused 53 NoBlock at 1:8388609\n".as_slice()
-    );
+    assert!(rt; end.status == 1);
+    assert!(rt; end.written.as_slice() == b"refused 53 NoBlock at 1:8388609\n".as_slice());
     Ok(())
 }
 
@@ -442,8 +436,8 @@ fn spaces_alone_have_no_block(rt: HostRuntime) -> Result<(), Fail> {
 fn an_input_of_a_byte_too_many_is_too_long(rt: HostRuntime) -> Result<(), Fail> {
     let alloc = rt.alloc();
     let end = composed(alloc, vec![in alloc; b' '; 8_388_609]?)?;
-    assert_eq!(rt; end.status, 8);
-    assert_eq!(rt; end.written.as_slice(), b"too long\n".as_slice());
+    assert!(rt; end.status == 8);
+    assert!(rt; end.written.as_slice() == b"too long\n".as_slice());
     Ok(())
 }
 
@@ -453,11 +447,8 @@ fn an_input_of_the_most_bytes_is_judged(rt: HostRuntime) -> Result<(), Fail> {
     let bytes = vec![in alloc; b' '; 8_388_608]?;
     let source = MemorySource::new(bytes, 1, Vec::new(alloc));
     let end = end_of(alloc, &["bigengine", "compose"], source, &[])?;
-    assert_eq!(rt; end.status, 1);
-    assert_eq!(rt;
-        end.written.as_slice(),
-        b"refused 1 BadLine at 1\n".as_slice()
-    );
+    assert!(rt; end.status == 1);
+    assert!(rt; end.written.as_slice() == b"refused 1 BadLine at 1\n".as_slice());
     Ok(())
 }
 
@@ -466,7 +457,7 @@ fn a_read_that_fails_leaves_nothing_written(rt: HostRuntime) -> Result<(), Fail>
     let alloc = rt.alloc();
     let source = source_of(alloc, &[2])?;
     let end = end_of(alloc, &["bigengine", "compose"], source, &[])?;
-    assert_eq!(rt; end.status, 3);
+    assert!(rt; end.status == 3);
     assert!(rt; end.written.is_empty());
     Ok(())
 }
@@ -476,7 +467,7 @@ fn a_write_that_fails_leaves_the_start_of_the_text(rt: HostRuntime) -> Result<()
     let alloc = rt.alloc();
     let source = source_of(alloc, &[])?;
     let end = end_of(alloc, &["bigengine", "compose"], source, &[4])?;
-    assert_eq!(rt; end.status, 4);
-    assert_eq!(rt; end.written.as_slice(), b"big".as_slice());
+    assert!(rt; end.status == 4);
+    assert!(rt; end.written.as_slice() == b"big".as_slice());
     Ok(())
 }

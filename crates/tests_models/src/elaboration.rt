@@ -48,7 +48,7 @@ fn the_first_list_varies_slowest(rt: HostRuntime) {
         (6, 0),
         (4_294_967_295, 0),
     ] {
-        assert_eq!(rt; digits(of_three(alloc, number)), digits_of_it);
+        assert!(rt; digits(of_three(alloc, number)) == digits_of_it);
     }
 }
 
@@ -305,7 +305,7 @@ fn the_first_parameter_varies_slowest(rt: HostRuntime) {
         .iter()
         .enumerate()
     {
-        assert_eq!(rt; digits_at(&found, place), *digits);
+        assert!(rt; digits_at(&found, place) == *digits);
     }
-    assert_eq!(rt; digits_at(&found, 11), 0);
+    assert!(rt; digits_at(&found, 11) == 0);
 }

@@ -184,8 +184,8 @@ fn writes_a_small_system(rt: HostRuntime) -> Result<(), Fail> {
     let mut written = Vec::new(rt.alloc());
     written.push(b'>')?;
     write_system(rt.alloc(), &system, &mut written)?;
-    assert_eq!(rt; &written[..1], b">".as_slice());
-    assert_eq!(rt; &written[1..], SMALL_LISTING.as_bytes());
+    assert!(rt; &written[..1] == b">".as_slice());
+    assert!(rt; &written[1..] == SMALL_LISTING.as_bytes());
     Ok(())
 }
 
@@ -314,6 +314,6 @@ fn writes_rules_conditions_and_predicates(rt: HostRuntime) -> Result<(), Fail> {
     let system = large_system(rt.alloc())?;
     let mut written = Vec::new(rt.alloc());
     write_system(rt.alloc(), &system, &mut written)?;
-    assert_eq!(rt; written.as_slice(), LARGE_LISTING.as_bytes());
+    assert!(rt; written.as_slice() == LARGE_LISTING.as_bytes());
     Ok(())
 }

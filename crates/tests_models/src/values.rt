@@ -232,8 +232,8 @@ fn finds_values_where_names_are_visible(rt: HostRuntime) {
 #[test]
 fn finds_the_names_of_parameters(rt: HostRuntime) {
     let text = "int n = {1, 2}; string s = \"a\";";
-    assert_eq!(rt; name_tokens(rt.alloc(), text), Some((1, 10)));
-    assert_eq!(rt; name_tokens(rt.alloc(), "int n = 1; ctrl K = 0;"), None);
+    assert!(rt; name_tokens(rt.alloc(), text) == Some((1, 10)));
+    assert!(rt; name_tokens(rt.alloc(), "int n = 1; ctrl K = 0;") == None);
 }
 
 #[test]

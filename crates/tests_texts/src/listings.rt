@@ -32,29 +32,28 @@ fn reads_a_signature_and_two_bigraphs(rt: HostRuntime) -> Result<(), Fail> {
     let (signature, first) = read_signature(rt.alloc(), text, START)
         .ok()
         .ok_or("the signature is read")?;
-    assert_eq!(rt;
-        first,
-        Cursor {
-            offset: 34,
-            line: 4
-        }
+    assert!(rt;
+        first
+            == Cursor {
+                offset: 34,
+                line: 4
+            }
     );
     let (outer, second) = read_big(rt.alloc(), text, first, &signature)
         .ok()
         .ok_or("the first bigraph is read")?;
-    assert_eq!(rt; second.line, 12);
-    assert_eq!(rt; outer.sites.len(), 1);
+    assert!(rt; second.line == 12);
+    assert!(rt; outer.sites.len() == 1);
     let (inner, end) = read_big(rt.alloc(), text, second, &signature)
         .ok()
         .ok_or("the second bigraph is read")?;
-    assert_eq!(rt;
-        end,
-        Cursor {
+    assert!(rt;
+        end == Cursor {
             offset: 151,
             line: 19
         }
     );
-    assert_eq!(rt; inner.nodes.len(), 1);
+    assert!(rt; inner.nodes.len() == 1);
     Ok(())
 }
 
@@ -64,7 +63,7 @@ fn writes_what_it_reads(rt: HostRuntime) -> Result<(), Fail> {
         let (signature, big, end) = read_both(rt.alloc(), text.as_bytes())
             .ok()
             .ok_or("both are read")?;
-        assert_eq!(rt; end.offset as usize, text.len());
+        assert!(rt; end.offset as usize == text.len());
         let mut written = Vec::new(rt.alloc());
         write_signature(rt.alloc(), &signature, &mut written)
             .ok()
@@ -74,7 +73,7 @@ fn writes_what_it_reads(rt: HostRuntime) -> Result<(), Fail> {
                 .ok()
                 .ok_or("the bigraph is written")?;
         }
-        assert_eq!(rt; written.as_slice(), text.as_bytes());
+        assert!(rt; written.as_slice() == text.as_bytes());
     }
     Ok(())
 }
@@ -157,7 +156,7 @@ fn refuses_with_the_code_and_the_line(rt: HostRuntime) {
             Err(ListingFault::OutOfMemory) => (0, 0),
             Ok(_) => (0, 1),
         };
-        assert_eq!(rt; refused, (code, line), "{text}");
+        assert!(rt; refused == (code, line), "{text}");
     }
 }
 
@@ -172,7 +171,7 @@ fn refuses_every_prefix_at_its_end(rt: HostRuntime) {
             Err(ListingFault::OutOfMemory) => (0, 0),
             Ok(_) => (0, 1),
         };
-        assert_eq!(rt; refused, (BAD_LINE, line), "the first {length} bytes");
+        assert!(rt; refused == (BAD_LINE, line), "the first {length} bytes");
         if *byte == b'\n' && line < 1000 {
             line += 1;
         }
@@ -200,12 +199,12 @@ fn reads_the_longest_label(rt: HostRuntime) -> Result<(), Fail> {
             .ok()
             .ok_or("there is memory")?;
         let (label, end) = found.ok_or("a label stands there")?;
-        assert_eq!(rt; end, length, "{text}");
+        assert!(rt; end == length, "{text}");
         let mut written = Vec::new(rt.alloc());
         write_label(rt.alloc(), &label, &mut written)
             .ok()
             .ok_or("the label is written")?;
-        assert_eq!(rt; written.as_slice(), &text.as_bytes()[..length as usize]);
+        assert!(rt; written.as_slice() == &text.as_bytes()[..length as usize]);
     }
     for text in ["", "k", "3", "'K", "(3)"] {
         let found = read_label(rt.alloc(), text.as_bytes(), 0)
@@ -232,7 +231,7 @@ fn reads_and_writes_numbers(rt: HostRuntime) -> Result<(), Fail> {
         ("99999999999999999999999999", 4294967295, None),
     ];
     for (text, most, found) in table {
-        assert_eq!(rt; read_number(text.as_bytes(), 0, most), found, "{text}");
+        assert!(rt; read_number(text.as_bytes(), 0, most) == found, "{text}");
     }
     let mut written = Vec::new(rt.alloc());
     write_number(rt.alloc(), 4294967295, &mut written)
@@ -241,6 +240,6 @@ fn reads_and_writes_numbers(rt: HostRuntime) -> Result<(), Fail> {
     write_number(rt.alloc(), 0, &mut written)
         .ok()
         .ok_or("the number is written")?;
-    assert_eq!(rt; written.as_slice(), b"42949672950".as_slice());
+    assert!(rt; written.as_slice() == b"42949672950".as_slice());
     Ok(())
 }

@@ -35,7 +35,7 @@ fn a_source_is_read_whole_in_pieces(rt: HostRuntime) -> Result<(), Fail> {
     let alloc = rt.alloc();
     let mut source = MemorySource::new(b"a room in a building".to_vec(alloc)?, 3, Vec::new(alloc));
     let bytes = read_all(alloc, &mut source, 20)?;
-    assert_eq!(rt; bytes.as_slice(), b"a room in a building".as_slice());
+    assert!(rt; bytes.as_slice() == b"a room in a building".as_slice());
     Ok(())
 }
 
@@ -55,7 +55,7 @@ fn a_read_that_fails_leaves_the_rest(rt: HostRuntime) -> Result<(), Fail> {
     let first = read_all(alloc, &mut source, 100);
     assert!(rt; matches!(&first, Err(ReadAllFault::ReadFault)));
     let rest = read_all(alloc, &mut source, 100)?;
-    assert_eq!(rt; rest.as_slice(), b"om".as_slice());
+    assert!(rt; rest.as_slice() == b"om".as_slice());
     Ok(())
 }
 
@@ -64,7 +64,7 @@ fn a_sink_is_given_all(rt: HostRuntime) -> Result<(), Fail> {
     let alloc = rt.alloc();
     let mut sink = MemorySink::new(alloc, 2, Vec::new(alloc));
     write_all(&mut sink, b"agents")?;
-    assert_eq!(rt; sink.held(), b"agents".as_slice());
+    assert!(rt; sink.held() == b"agents".as_slice());
     Ok(())
 }
 
@@ -74,7 +74,7 @@ fn a_write_that_fails_leaves_a_prefix(rt: HostRuntime) -> Result<(), Fail> {
     let mut sink = MemorySink::new(alloc, 1, [4].to_vec(alloc)?);
     let result = write_all(&mut sink, b"agents");
     assert!(rt; matches!(&result, Err(SinkFault::Failed)));
-    assert_eq!(rt; sink.held(), b"age".as_slice());
+    assert!(rt; sink.held() == b"age".as_slice());
     Ok(())
 }
 
@@ -84,7 +84,7 @@ fn a_flush_that_fails_leaves_all(rt: HostRuntime) -> Result<(), Fail> {
     let mut sink = MemorySink::new(alloc, 100, [2].to_vec(alloc)?);
     let result = write_all(&mut sink, b"agents");
     assert!(rt; matches!(&result, Err(SinkFault::Failed)));
-    assert_eq!(rt; sink.held(), b"agents".as_slice());
+    assert!(rt; sink.held() == b"agents".as_slice());
     Ok(())
 }
 
@@ -96,7 +96,7 @@ fn standard_ends_pass_bytes_on(rt: HostRuntime) -> Result<(), Fail> {
     let mut held: Vec<u8> = Vec::new(alloc);
     let mut sink = StdSink::new(&mut held);
     write_all(&mut sink, bytes.as_slice())?;
-    assert_eq!(rt; held.as_slice(), b"a link".as_slice());
+    assert!(rt; held.as_slice() == b"a link".as_slice());
     Ok(())
 }
 

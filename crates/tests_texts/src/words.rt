@@ -141,11 +141,11 @@ fn words(rt: HostRuntime) -> Result<(), WordsFault> {
     for case in TAKEN.lines() {
         let (line, wanted) = case.split_once(": ").expect(&rt, "a colon");
         let told = told(alloc, line)?;
-        assert_eq!(rt; told.as_str(), wanted, "{line}");
+        assert!(rt; told.as_str() == wanted, "{line}");
     }
     for line in REFUSED {
-        assert_eq!(rt; asked(alloc, line), Err(WordsFault::Refused), "{line}");
+        assert!(rt; asked(alloc, line) == Err(WordsFault::Refused), "{line}");
     }
-    assert_eq!(rt; request(alloc, &[]), Err(WordsFault::Refused));
+    assert!(rt; request(alloc, &[]) == Err(WordsFault::Refused));
     Ok(())
 }
