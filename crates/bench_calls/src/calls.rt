@@ -12,7 +12,7 @@ use bg_lists::Mem;
 use bg_place::{Forest, Places, compose_places, tensor_places};
 use std::alloc::Global;
 
-#[derive(Clone, Copy, Debug)]
+#[derive(Clone, Copy)]
 pub enum Call {
     /// The bigraph is made and checked, and no more is done.
     Made,
@@ -89,7 +89,7 @@ impl Call {
 }
 
 /// What a call answered: how many nodes, and the sum of their numbers, or of a depth.
-#[derive(Clone, Copy, Debug)]
+#[derive(Clone, Copy)]
 pub struct Tally {
     pub count: u64,
     pub sum: u64,

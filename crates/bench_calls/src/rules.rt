@@ -10,7 +10,7 @@ use bg_rules::{Pattern, Rule};
 use std::alloc::Global;
 
 /// What a rule makes of a node.
-#[derive(Clone, Copy, Debug)]
+#[derive(Clone, Copy)]
 pub enum Change {
     /// A new node, with what was in the old one.
     Keep,

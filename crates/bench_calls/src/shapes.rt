@@ -7,7 +7,7 @@ use bg_lists::{Mem, Rows};
 use smallvec::SmallVec;
 use std::alloc::Global;
 
-#[derive(Clone, Copy, Debug)]
+#[derive(Clone, Copy)]
 pub enum Shape {
     /// Each node lies in the node of the next number, and the last one in the region.
     Chain,

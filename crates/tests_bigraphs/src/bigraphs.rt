@@ -56,14 +56,16 @@ fn malformed(code: u8, part: Part, row: u32) -> Result<(), CheckFault> {
 #[test]
 fn words_are_spelled(rt: HostRuntime) -> Result<(), Fail> {
     let alloc = rt.alloc();
-    for (text, spelled) in [
+    for &(text, spelled) in [
         ("K", true),
         ("x'_9", true),
         ("9x", false),
         ("_x", false),
         ("", false),
         ("x y", false),
-    ] {
+    ]
+    .iter()
+    {
         let made = Ident::new(alloc, text).expect(&rt, "memory");
         assert!(rt; made.is_some() == spelled, "{text}");
         if let Some(word) = made {
@@ -71,12 +73,14 @@ fn words_are_spelled(rt: HostRuntime) -> Result<(), Fail> {
             assert!(rt; copied.as_str() == text);
         }
     }
-    for (text, spelled) in [
+    for &(text, spelled) in [
         ("", true),
         ("two words, (3)", true),
         ("a\"b", false),
         ("a\nb", false),
-    ] {
+    ]
+    .iter()
+    {
         let made = Text::new(alloc, text).expect(&rt, "memory");
         assert!(rt; made.is_some() == spelled, "{text}");
         if let Some(words) = made {
@@ -174,9 +178,9 @@ fn check_names_the_first_row_and_the_least_code(rt: HostRuntime) -> Result<(), F
             malformed(7, Part::Nodes, 0),
         ),
     ];
-    for (rows, site, answer) in cases {
+    for &(rows, site, answer) in cases.iter() {
         let mut nodes = Vec::new(alloc);
-        for (id, control, parent) in rows {
+        for &(id, control, parent) in rows.iter() {
             nodes.push(node(alloc, id, control, parent))?;
         }
         let big = places(alloc, nodes, &[site]).expect(&rt, "memory");

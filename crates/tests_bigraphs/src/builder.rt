@@ -325,8 +325,8 @@ fn agrees(alloc: Global, op: Op, left: u32, right: u32, then: Then) -> bool {
 #[test]
 fn agrees_with_the_algebra(rt: HostRuntime) {
     let alloc = rt.alloc();
-    for op in [Op::Compose, Op::Tensor, Op::Parallel, Op::Merge, Op::Nest] {
-        for then in [Then::Nothing, Then::Merged, Then::Closed] {
+    for &op in [Op::Compose, Op::Tensor, Op::Parallel, Op::Merge, Op::Nest].iter() {
+        for &then in [Then::Nothing, Then::Merged, Then::Closed].iter() {
             for left in 0..SAMPLES {
                 for right in 0..SAMPLES {
                     assert!(rt;
@@ -351,7 +351,7 @@ fn composes_alike(alloc: Global, upper: u32, lower: u32, base: u32) -> Result<bo
 #[test]
 fn composes_rows_of_any_numbers(rt: HostRuntime) {
     let alloc = rt.alloc();
-    for base in [0, 100, 101, 105, 200] {
+    for &base in [0, 100, 101, 105, 200].iter() {
         for upper in 0..SAMPLES {
             for lower in 0..SAMPLES {
                 assert!(rt;
@@ -385,7 +385,7 @@ fn counts_of(come: Result<Big, AlgebraFault>) -> [u32; 6] {
 #[test]
 fn counts_rows(rt: HostRuntime) {
     let alloc = rt.alloc();
-    for (op, left, right, then, counts) in [
+    for &(op, left, right, then, counts) in [
         (Op::Compose, 6, 4, Then::Nothing, [2, 0, 1, 0, 2, 2]),
         (Op::Compose, 7, 12, Then::Nothing, [1, 0, 1, 0, 1, 0]),
         (Op::Compose, 7, 4, Then::Nothing, [11, 0, 0, 0, 0, 0]),
@@ -400,7 +400,9 @@ fn counts_rows(rt: HostRuntime) {
         (Op::Nest, 2, 3, Then::Nothing, [15, 0, 0, 0, 0, 0]),
         (Op::Parallel, 3, 3, Then::Closed, [2, 1, 2, 0, 2, 0]),
         (Op::Parallel, 7, 8, Then::Closed, [16, 0, 0, 0, 0, 0]),
-    ] {
+    ]
+    .iter()
+    {
         assert!(rt; counts_of(made(alloc, op, left, right, then)) == counts);
     }
 }

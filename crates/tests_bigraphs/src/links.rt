@@ -237,7 +237,7 @@ fn lists_the_points_of_each_link(rt: HostRuntime) -> Result<(), Fail> {
 fn counts_the_points_of_outer_names(rt: HostRuntime) -> Result<(), Fail> {
     let alloc = rt.alloc();
     let wiring = wiring_of(&rt, alloc)?;
-    for (word, degree) in [("a", 1), ("b", 1), ("c", 0), ("d", 0)] {
+    for &(word, degree) in [("a", 1), ("b", 1), ("c", 0), ("d", 0)].iter() {
         expect_open(&rt, alloc, &wiring, word, degree)?;
     }
     Ok(())

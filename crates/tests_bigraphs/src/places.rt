@@ -137,7 +137,7 @@ fn a_node_has_its_place_and_depth(rt: HostRuntime) -> Result<(), Fail> {
         (5, Place::Region(1), 0),
         (7, Place::Node(3), 2),
     ];
-    for (node, parent, depth) in rows {
+    for &(node, parent, depth) in rows.iter() {
         assert!(rt; forest.contains(node));
         assert!(rt; forest.parent(node) == parent);
         assert!(rt; forest.depth(node) == depth);
@@ -160,7 +160,7 @@ fn a_place_has_its_children_and_sites(rt: HostRuntime) -> Result<(), Fail> {
 #[test]
 fn a_node_lies_in_others_and_not_in_itself(rt: HostRuntime) -> Result<(), Fail> {
     let forest = forest(&rt, rt.alloc())?;
-    for (upper, lower, lies) in [(0, 7, true), (3, 7, true), (7, 7, false), (9, 7, false)] {
+    for &(upper, lower, lies) in [(0, 7, true), (3, 7, true), (7, 7, false), (9, 7, false)].iter() {
         assert!(rt; forest.is_ancestor(upper, lower) == lies);
     }
     Ok(())

@@ -378,7 +378,7 @@ fn matched(alloc: Global, options: &[&str], text: &str) -> Result<End, AllocErro
 #[test]
 fn occurrences_are_listed(rt: HostRuntime) -> Result<(), Fail> {
     let alloc = rt.alloc();
-    for (options, text, status, line) in MATCHED {
+    for &(options, text, status, line) in MATCHED.iter() {
         let end = matched(alloc, options, text)?;
         assert!(rt; end.status == status);
         assert!(rt; end.written.as_slice() == line.as_bytes());

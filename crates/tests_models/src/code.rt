@@ -10,7 +10,7 @@ use std::alloc::Global;
 use std::test::*;
 
 /// What the expression of a text is as code.
-#[derive(Clone, Copy, Debug, PartialEq, Eq)]
+#[derive(Clone, Copy, PartialEq, Eq)]
 enum Outcome {
     /// Code; whether it has the letters that are wanted.
     Code(bool),
@@ -184,7 +184,7 @@ fn finds_the_code_of_expressions(rt: HostRuntime) {
     let Ok(tables) = tables_here(rt.alloc()) else {
         return;
     };
-    for (text, letters) in CODES {
+    for &(text, letters) in CODES.iter() {
         assert!(rt;
             read(rt.alloc(), &tables, text, letters) == Outcome::Code(true),
             "{text}"
@@ -197,7 +197,7 @@ fn refuses_the_first_name_that_cannot_stand(rt: HostRuntime) {
     let Ok(tables) = tables_here(rt.alloc()) else {
         return;
     };
-    for (text, cause, token) in REFUSED {
+    for &(text, cause, token) in REFUSED.iter() {
         assert!(rt;
             read(rt.alloc(), &tables, text, "") == Outcome::Refused(cause, token),
             "{text}"

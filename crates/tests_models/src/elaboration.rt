@@ -39,7 +39,7 @@ fn digits(found: Mem<Option<Rows<Value>>>) -> i64 {
 #[test]
 fn the_first_list_varies_slowest(rt: HostRuntime) {
     let alloc = rt.alloc();
-    for (number, digits_of_it) in [
+    for &(number, digits_of_it) in [
         (0, 134),
         (1, 135),
         (2, 136),
@@ -47,7 +47,9 @@ fn the_first_list_varies_slowest(rt: HostRuntime) {
         (5, 236),
         (6, 0),
         (4_294_967_295, 0),
-    ] {
+    ]
+    .iter()
+    {
         assert!(rt; digits(of_three(alloc, number)) == digits_of_it);
     }
 }
@@ -68,7 +70,7 @@ fn of_an_empty_list_there_is_no_choice(rt: HostRuntime) {
 }
 
 /// What a model comes to.
-#[derive(Clone, Copy, Debug, PartialEq, Eq)]
+#[derive(Clone, Copy, PartialEq, Eq)]
 enum Outcome {
     /// How many controls, rules, classes and predicates there are, and the next number of a node of the host.
     System {
@@ -247,7 +249,7 @@ const SYSTEMS: [(&str, u32, usize, u32, usize, u32); 5] = [
 
 #[test]
 fn refuses_at_the_first_place(rt: HostRuntime) -> Result<(), Fail> {
-    for (marked, code, detail) in REFUSED {
+    for &(marked, code, detail) in REFUSED.iter() {
         let (text, offset) = unmarked(rt.alloc(), marked)?;
         let wanted = Outcome::Fault(ModelFault::Bad {
             code,
@@ -261,7 +263,7 @@ fn refuses_at_the_first_place(rt: HostRuntime) -> Result<(), Fail> {
 
 #[test]
 fn models_are_systems(rt: HostRuntime) {
-    for (text, controls, rules, classes, preds, next_node) in SYSTEMS {
+    for &(text, controls, rules, classes, preds, next_node) in SYSTEMS.iter() {
         let wanted = Outcome::System {
             controls,
             rules,
@@ -301,7 +303,8 @@ fn the_first_parameter_varies_slowest(rt: HostRuntime) {
         "ctrl D = 0; big s = D.1; fun react r(x, y) = D --> D; begin brs int n = {1, 2}; int m = {3, 4}; \
         init s; rules = [ {r(n, m)}, {r(m, n)}, {r(n + n, 0), r(5, 6)} ]; end";
     let found = model(rt.alloc(), text.as_bytes());
-    for (place, digits) in [13, 14, 23, 24, 131, 132, 141, 142, 220, 240, 256]
+    for &(place, digits) in [13, 14, 23, 24, 131, 132, 141, 142, 220, 240, 256]
+        .iter()
         .iter()
         .enumerate()
     {

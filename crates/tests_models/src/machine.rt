@@ -14,7 +14,7 @@ use std::alloc::Global;
 use std::test::*;
 
 /// What the expression of a text comes to.
-#[derive(Clone, Copy, Debug, PartialEq, Eq)]
+#[derive(Clone, Copy, PartialEq, Eq)]
 enum Outcome {
     /// How many nodes, edges, regions, outer names and controls; and the edge of the first port of the first node, 9
     /// for none.
@@ -181,7 +181,7 @@ fn finds_the_values_of_expressions(rt: HostRuntime) {
     let Ok(tables) = tables_here(alloc) else {
         return;
     };
-    for (text, wanted) in [
+    for &(text, wanted) in [
         ("big s = B{x,y}.A;", [2, 0, 1, 2, 2, 9]),
         ("big s = A | A | A;", [3, 0, 1, 0, 1, 9]),
         ("big s = A || A;", [2, 0, 2, 0, 1, 9]),
@@ -190,7 +190,9 @@ fn finds_the_values_of_expressions(rt: HostRuntime) {
         ("big s = c(3) | c(4) | c(n) | c(3);", [4, 0, 1, 1, 3, 9]),
         ("big s = merge(2) * (A + A);", [2, 0, 1, 0, 1, 9]),
         ("big s = {x,x} || 1;", [0, 0, 1, 1, 0, 9]),
-    ] {
+    ]
+    .iter()
+    {
         assert!(rt;
             come(alloc, &tables, text) == Outcome::Value(wanted),
             "{text}"
@@ -204,7 +206,7 @@ fn refuses_at_the_first_place(rt: HostRuntime) {
     let Ok(tables) = tables_here(alloc) else {
         return;
     };
-    for (text, cause, token) in [
+    for &(text, cause, token) in [
         ("big s = A.1;", Cause::AtomicHasChild, 4),
         ("big s = A.0;", Cause::AtomicHasChild, 4),
         ("big s = (A).1;", Cause::WidthsDiffer, 6),
@@ -215,7 +217,9 @@ fn refuses_at_the_first_place(rt: HostRuntime) {
         ("big s = id(70000);", Cause::TooLarge(LimitWord::Places), 3),
         ("big s = A.1 | c(1/0);", Cause::AtomicHasChild, 4),
         ("big s = c(1/0) | A.1;", Cause::ZeroDivisor, 6),
-    ] {
+    ]
+    .iter()
+    {
         assert!(rt;
             come(alloc, &tables, text) == Outcome::Refused(cause, token),
             "{text}"
@@ -265,11 +269,13 @@ fn drops_idle_edges_at_the_end(rt: HostRuntime) {
     let Ok(tables) = tables_here(alloc) else {
         return;
     };
-    for (text, edges, last) in [
+    for &(text, edges, last) in [
         ("big s = /x /y /z (B{x,z} | {y});", 2, 1),
         ("big s = /x /y B{x,y};", 2, 1),
         ("big s = /x {x} | B{x,y};", 0, 9),
-    ] {
+    ]
+    .iter()
+    {
         assert!(rt;
             whole_edges(alloc, &tables, text) == Some((edges, last)),
             "{text}"

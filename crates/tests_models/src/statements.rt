@@ -10,7 +10,7 @@ use std::alloc::{AllocError, Global};
 use std::test::*;
 
 /// What the statements of a text come to.
-#[derive(Clone, Copy, Debug, PartialEq, Eq)]
+#[derive(Clone, Copy, PartialEq, Eq)]
 enum Outcome {
     /// How many controls the signature has.
     Defined(u32),
@@ -301,7 +301,7 @@ const DEFINED: [(&str, u32); 25] = [
 
 #[test]
 fn refuses_at_the_first_place(rt: HostRuntime) {
-    for (case, cause) in REFUSED {
+    for &(case, cause) in REFUSED.iter() {
         let Some((found, mark)) = outcome_behind(rt.alloc(), case) else {
             return;
         };
@@ -311,7 +311,7 @@ fn refuses_at_the_first_place(rt: HostRuntime) {
 
 #[test]
 fn accepts_what_is_allowed(rt: HostRuntime) {
-    for (case, controls) in DEFINED {
+    for &(case, controls) in DEFINED.iter() {
         let Some((found, _)) = outcome_behind(rt.alloc(), case) else {
             return;
         };
@@ -325,7 +325,7 @@ fn accepts_what_is_allowed(rt: HostRuntime) {
 
 #[test]
 fn refuses_rules_at_the_first_place(rt: HostRuntime) {
-    for (case, cause) in REFUSED_RULES {
+    for &(case, cause) in REFUSED_RULES.iter() {
         let Some((found, mark)) = outcome_behind(rt.alloc(), case) else {
             return;
         };
@@ -335,7 +335,7 @@ fn refuses_rules_at_the_first_place(rt: HostRuntime) {
 
 #[test]
 fn accepts_rules(rt: HostRuntime) {
-    for (case, controls) in DEFINED_RULES {
+    for &(case, controls) in DEFINED_RULES.iter() {
         let Some((found, _)) = outcome_behind(rt.alloc(), case) else {
             return;
         };
@@ -416,7 +416,7 @@ fn summary_behind(alloc: Global, rule: &str) -> Option<[u32; 10]> {
 #[test]
 fn rules_come_to_their_parts(rt: HostRuntime) {
     let alloc = rt.alloc();
-    for (rule, parts) in [
+    for &(rule, parts) in [
         ("react r = D --> 1;", [1, 0, 0, 0, 0, 9, 9, 0, 9, 9]),
         ("react r = A | A --> A | A;", [2, 0, 2, 0, 2, 0, 1, 0, 9, 9]),
         (
@@ -439,7 +439,9 @@ fn rules_come_to_their_parts(rt: HostRuntime) {
             "react r = A --> A if D in ctx, D in ctx, !D in param @ [0];",
             [1, 0, 1, 0, 1, 0, 0, 3, 1, 2],
         ),
-    ] {
+    ]
+    .iter()
+    {
         assert!(rt; summary_behind(alloc, rule) == Some(parts), "{rule}");
     }
 }
@@ -463,7 +465,7 @@ impl Writing {
 
     /// A number below 100,000, in five digits.
     fn number(&mut self, number: u32) -> Result<(), AllocError> {
-        for unit in [10_000, 1000, 100, 10, 1] {
+        for &unit in [10_000, 1000, 100, 10, 1].iter() {
             self.bytes.push((number / unit % 10) as u8 + b'0')?;
         }
         Ok(())

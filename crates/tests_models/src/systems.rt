@@ -216,12 +216,14 @@ fn conditions_of(alloc: Global, signature: &Signature) -> Result<Rows<Condition>
     ensures fit { IfOk result (λ conditions. All (λ (condition : ConditionValue). IsValidUnder signature.now condition.pattern) conditions) }
 {
     let mut conditions = Vec::new(alloc);
-    for (positive, side, text) in [
+    for &(positive, side, text) in [
         (false, Side::Param, A_WITH_SITE),
         (true, Side::Ctx, A_ALONE),
         (false, Side::Ctx, K_AT_X),
         (true, Side::Param, A_ALONE),
-    ] {
+    ]
+    .iter()
+    {
         let pattern = pattern_of(alloc, signature, text)?;
         conditions.push(Condition {
             positive,

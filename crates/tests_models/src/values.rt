@@ -7,7 +7,7 @@ use std::alloc::Global;
 use std::test::*;
 
 /// What a parameter comes to.
-#[derive(Clone, Copy, Debug, PartialEq, Eq)]
+#[derive(Clone, Copy, PartialEq, Eq)]
 enum Outcome {
     /// So many values, the first and the last of which are these numbers; 0 for a text.
     Values(usize, i64, i64),
@@ -190,7 +190,7 @@ const REFUSED: [(&str, Cause, u32); 15] = [
 #[test]
 fn finds_the_values_of_parameters(rt: HostRuntime) {
     let names = NameTable::new(rt.alloc());
-    for (text, count, first, last) in VALUES {
+    for &(text, count, first, last) in VALUES.iter() {
         assert!(rt;
             read_parameter(rt.alloc(), text, &names, &[]) == Outcome::Values(count, first, last),
             "{text}"
@@ -201,7 +201,7 @@ fn finds_the_values_of_parameters(rt: HostRuntime) {
 #[test]
 fn refuses_a_parameter_with_its_first_cause(rt: HostRuntime) {
     let names = NameTable::new(rt.alloc());
-    for (text, cause, token) in REFUSED {
+    for &(text, cause, token) in REFUSED.iter() {
         assert!(rt;
             read_parameter(rt.alloc(), text, &names, &[]) == Outcome::Refused(cause, token),
             "{text}"

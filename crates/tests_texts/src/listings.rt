@@ -59,7 +59,7 @@ fn reads_a_signature_and_two_bigraphs(rt: HostRuntime) -> Result<(), Fail> {
 
 #[test]
 fn writes_what_it_reads(rt: HostRuntime) -> Result<(), Fail> {
-    for text in [SPELLINGS, &TWO_BIGRAPHS[..94]] {
+    for &text in [SPELLINGS, &TWO_BIGRAPHS[..94]].iter() {
         let (signature, big, end) = read_both(rt.alloc(), text.as_bytes())
             .ok()
             .ok_or("both are read")?;
@@ -150,7 +150,7 @@ const REFUSED: [(&str, u8, u32); 30] = [
 
 #[test]
 fn refuses_with_the_code_and_the_line(rt: HostRuntime) {
-    for (text, code, line) in REFUSED {
+    for &(text, code, line) in REFUSED.iter() {
         let refused = match read_both(rt.alloc(), text.as_bytes()) {
             Err(ListingFault::Bad { code, line }) => (code, line),
             Err(ListingFault::OutOfMemory) => (0, 0),
@@ -194,7 +194,7 @@ fn reads_the_longest_label(rt: HostRuntime) -> Result<(), Fail> {
         ("K(3,x", 1),
         ("K(3 )", 1),
     ];
-    for (text, length) in table {
+    for &(text, length) in table.iter() {
         let found = read_label(rt.alloc(), text.as_bytes(), 0)
             .ok()
             .ok_or("there is memory")?;
@@ -206,7 +206,7 @@ fn reads_the_longest_label(rt: HostRuntime) -> Result<(), Fail> {
             .ok_or("the label is written")?;
         assert!(rt; written.as_slice() == &text.as_bytes()[..length as usize]);
     }
-    for text in ["", "k", "3", "'K", "(3)"] {
+    for &text in ["", "k", "3", "'K", "(3)"].iter() {
         let found = read_label(rt.alloc(), text.as_bytes(), 0)
             .ok()
             .ok_or("there is memory")?;
@@ -230,7 +230,7 @@ fn reads_and_writes_numbers(rt: HostRuntime) -> Result<(), Fail> {
         ("4294967296", 4294967295, None),
         ("99999999999999999999999999", 4294967295, None),
     ];
-    for (text, most, found) in table {
+    for &(text, most, found) in table.iter() {
         assert!(rt; read_number(text.as_bytes(), 0, most) == found, "{text}");
     }
     let mut written = Vec::new(rt.alloc());

@@ -42,7 +42,7 @@ fn token((kind, start, end): (TokenKind, u32, u32)) -> Token {
 
 #[test]
 fn cuts_texts(rt: HostRuntime) -> Result<(), Fail> {
-    for (text, [first, second, third]) in CUT {
+    for &(text, [first, second, third]) in CUT.iter() {
         let found = tokens(rt.alloc(), text.as_bytes())
             .ok()
             .ok_or("the text has tokens")?;
@@ -58,7 +58,7 @@ fn cuts_texts(rt: HostRuntime) -> Result<(), Fail> {
 
 #[test]
 fn refuses_with_the_code_and_the_offset(rt: HostRuntime) {
-    for (text, code, offset) in REFUSED {
+    for &(text, code, offset) in REFUSED.iter() {
         let refused = match tokens(rt.alloc(), text.as_bytes()) {
             Err(LexFault::Bad { code, offset }) => (code, offset),
             Err(LexFault::OutOfMemory) => (0, 0),
@@ -70,7 +70,7 @@ fn refuses_with_the_code_and_the_offset(rt: HostRuntime) {
 
 #[test]
 fn tells_lines_and_columns(rt: HostRuntime) {
-    for (offset, line, column) in [(0, 1, 1), (1, 1, 2), (2, 2, 1), (3, 2, 2), (4, 2, 3)] {
+    for &(offset, line, column) in [(0, 1, 1), (1, 1, 2), (2, 2, 1), (3, 2, 2), (4, 2, 3)].iter() {
         assert!(rt; place_of(b"a\nbc", offset) == Position { line, column });
     }
 }

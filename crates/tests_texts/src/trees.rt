@@ -70,14 +70,14 @@ fn nested(
 
 #[test]
 fn reads_models(rt: HostRuntime) {
-    for text in MODELS {
+    for &text in MODELS.iter() {
         assert!(rt; outcome(rt.alloc(), text).0 == 0, "{text}");
     }
 }
 
 #[test]
 fn refuses_other_texts_at_the_first_fault(rt: HostRuntime) {
-    for (text, code, token) in OTHERS {
+    for &(text, code, token) in OTHERS.iter() {
         assert!(rt; outcome(rt.alloc(), text) == (code, token), "{text}");
     }
 }
@@ -93,7 +93,7 @@ const NESTED: [(usize, &str, usize, (u8, u32)); 5] = [
 
 #[test]
 fn takes_255_brackets_and_no_more(rt: HostRuntime) -> Result<(), Fail> {
-    for (opening, middle, closing, found) in NESTED {
+    for &(opening, middle, closing, found) in NESTED.iter() {
         let text = nested(rt.alloc(), opening, middle, closing)?;
         assert!(rt;
             outcome(rt.alloc(), text.as_str()) == found,

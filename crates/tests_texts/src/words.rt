@@ -143,7 +143,7 @@ fn words(rt: HostRuntime) -> Result<(), WordsFault> {
         let told = told(alloc, line)?;
         assert!(rt; told.as_str() == wanted, "{line}");
     }
-    for line in REFUSED {
+    for &line in REFUSED.iter() {
         assert!(rt; asked(alloc, line) == Err(WordsFault::Refused), "{line}");
     }
     assert!(rt; request(alloc, &[]) == Err(WordsFault::Refused));
