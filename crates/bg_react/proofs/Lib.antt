@@ -4,4 +4,3 @@ pub mod CopiedNodes
 pub mod Ranks
 pub mod CopyByCopy
 pub mod Reacted
-pub mod SmallCases

@@ -1,5 +1,5 @@
 use Rattle.std.proofs.Common.{◌≤◌, subst, leb-true}
-use Rattle.bg_react.proofs.SmallCases.{room_for_few}
+use Rattle.tests_matching.proofs.SmallCases.{room_for_few}
 use Rattle.tests_matching.proofs.reactions.are_few.Goals as goal
 
 pub returns-then-map-le10 : goal.returns-then-map-le10

@@ -1,5 +1,5 @@
 use Rattle.std.proofs.Common.{eqb-true}
-use Rattle.bg_react.proofs.SmallCases.{no_number, one_number}
+use Rattle.tests_matching.proofs.SmallCases.{no_number, one_number}
 use Rattle.tests_matching.proofs.reactions.has_first_edge.Goals as goal
 
 pub returns-in-empty : goal.returns-in-empty

@@ -1,6 +1,6 @@
 use Rattle.std.proofs.Common.{ap, sym, ◌∙◌, eqb-true}
 use Rattle.bg_base.specs.declared.big.NodeRow.{NodeRow}
-use Rattle.bg_react.proofs.SmallCases.{no_row, one_row}
+use Rattle.tests_matching.proofs.SmallCases.{no_row, one_row}
 use Rattle.tests_matching.proofs.reactions.has_first_node.Goals as goal
 
 pub returns-in-empty : goal.returns-in-empty
