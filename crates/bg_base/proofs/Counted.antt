@@ -1,5 +1,5 @@
 -- Numbers in a row: which they are, how many, in their order, and one more.
-use Rattle.std.proofs.Common.{◌≡◌, ℕ, zero, suc, ◌+◌, ◌≤◌, ◌<◌, List, [], ◌∷◌, ◌++◌, length, nat_cmp, Less, refl, ap, ◌∙◌, arith}
+use Rattle.std.proofs.Common.{◌≡◌, ℕ, zero, suc, ◌+◌, ◌≤◌, ◌<◌, [], ◌∷◌, ◌++◌, length, nat_cmp, Less, refl, ap, ◌∙◌, arith}
 use Rattle.bg_lists.specs.Lists.{Mem, here, there}
 use Rattle.bg_lists.specs.Orders.{Ascending, asc_nil, asc_cons}
 use Rattle.bg_lists.proofs.Comparisons.{nat_cmp-lt}
