@@ -29,11 +29,11 @@ use Rattle.bg_base.specs.Products.{tensor, link_closed, row_closed, inner_closed
 use Rattle.bg_base.proofs.NameLaws.{same_name_from_test, test_same_name}
 use Rattle.bg_base.proofs.LookUps.{has_edge, node_cmp_total, inner_cmp_total, inner_of-member, member_from_has_outer}
 use Rattle.bg_base.proofs.Composed.{SupportsApart-from_members}
+use Rattle.bg_base.proofs.Counted.{length-counted}
 use Rattle.bg_algebra.specs.Closure.{closure, names_without}
 use Rattle.bg_algebra.specs.Laws.{Apart}
 use Rattle.bg_algebra.proofs.Beside.{apart_names}
 use Rattle.bg_algebra.proofs.Changes.{put_is_sort, edge_is_new}
-use Rattle.bg_algebra.proofs.Nested.{length-counted}
 use Rattle.bg_algebra.proofs.Parts.{valid_from_rows}
 use Rattle.bg_algebra.proofs.Through.{place_same}
 use Rattle.bg_algebra.proofs.CompositionLaws.{same_parts}

@@ -20,7 +20,7 @@ use Rattle.bg_base.specs.Composition.{compose, inner_names, place_through, row_t
 use Rattle.bg_base.specs.Elementary.{counted, row_to_itself, identity}
 use Rattle.bg_base.proofs.LookUps.{node_cmp_total, inner_of-member}
 use Rattle.bg_base.proofs.Composed.{SupportsApart-from_members, nodes_apart, edges_apart, Mem-compose_upper, Mem-compose_lower, Mem-compose_cases, Mem-compose_edge_upper, Mem-compose_edge_lower, Mem-compose_edge_cases, compose_nodes_ascend, compose_edges_ascend, compose_sites, compose_inner, compose_regions, compose_outer}
-use Rattle.bg_algebra.proofs.Nested.{length-counted}
+use Rattle.bg_base.proofs.Counted.{length-counted}
 use Rattle.bg_algebra.proofs.Through.{row_twice, site_twice, inner_twice, row_same, place_same, inner_same}
 
 -- bigraphs with equal parts are equal

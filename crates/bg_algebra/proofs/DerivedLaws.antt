@@ -28,8 +28,9 @@ use Rattle.bg_base.specs.Products.{InnerApart, place_beside, row_beside, paralle
 use Rattle.bg_base.proofs.NameLaws.{same_name}
 use Rattle.bg_base.proofs.LookUps.{node_cmp_total, inner_cmp_total, region_from_has}
 use Rattle.bg_base.proofs.Composed.{SupportsApart-from_members}
+use Rattle.bg_base.proofs.Counted.{length-counted}
+use Rattle.bg_base.proofs.ProductLaws.{place_in_one-beside, row_in_one-beside}
 use Rattle.bg_algebra.proofs.Beside.{parallel_valid}
-use Rattle.bg_algebra.proofs.Nested.{length-counted}
 use Rattle.bg_algebra.proofs.Through.{link_same}
 use Rattle.bg_algebra.proofs.CompositionLaws.{same_parts}
 
@@ -150,13 +151,6 @@ module _ (f g : Big) (f_valid : IsValid f) (g_valid : IsValid g) (inner : InnerA
       (merging_apart (parallel f g) (parallel_valid f g f_valid g_valid apart inner))
 
 -- ---- a barren region beside one region, in one
-
-place_in_one-beside : (width : ℕ) (place : Place) → place_in_one (place_beside width place) ≡ place_in_one place
-place_in_one-beside width (Node node) = refl
-place_in_one-beside width (Region region) = refl
-
-row_in_one-beside : (width : ℕ) (row : NodeRow) → row_in_one (row_beside width row) ≡ row_in_one row
-row_in_one-beside width row = let parent = place_in_one-beside width row.parent in λ t. record row { parent = parent t }
 
 module _ (f : Big) (valid : IsValid f) (one : f.regions ≡ 1) where
   place_one : (place : Place) → has_place f place ≡ true → place_in_one place ≡ place

@@ -1,8 +1,8 @@
 -- Elementary bigraphs are valid; a nesting of valid bigraphs is valid.
-use Rattle.std.proofs.Common.{◌≡◌, ℕ, zero, suc, ◌+◌, ◌<◌, ◌≤◌, true, false, List, [], ◌∷◌, ◌++◌, map, length, refl, sym, ap, subst, ◌∙◌, arith, append-nil, inl, inr, is_some, All, unwrap_or, option_map}
+use Rattle.std.proofs.Common.{◌≡◌, ℕ, ◌+◌, ◌<◌, true, false, List, [], ◌∷◌, ◌++◌, map, length, refl, sym, ap, subst, ◌∙◌, arith, append-nil, inl, inr, is_some, All, unwrap_or, option_map}
 use Rattle.std.specs.List.Sorted.{IsStrictlySortedBy}
 use Rattle.std.proofs.lemmas.List.{length-map, map-id, map-append}
-use Rattle.bg_lists.specs.Lists.{Mem, here, there, sort}
+use Rattle.bg_lists.specs.Lists.{Mem, here, sort}
 use Rattle.bg_lists.specs.Orders.{before, set_of, asc_nil, asc_cons}
 use Rattle.bg_lists.proofs.Members.{Mem-cons_cases, Mem-unmap, map-map}
 use Rattle.bg_lists.proofs.Ascents.{Ascending-from_sorted, sorted_from_Ascending, Ascending-map}
@@ -28,29 +28,11 @@ use Rattle.bg_base.proofs.LookUps.{inner_cmp_total, has_row, has_outer, has_regi
 use Rattle.bg_base.proofs.Climbs.{at_region}
 use Rattle.bg_base.proofs.Composed.{SupportsApart-from_members, nodes_apart, edges_apart}
 use Rattle.bg_base.proofs.ComposedValid.{compose_valid, compose_valid_under}
+use Rattle.bg_base.proofs.Counted.{Mem-counted, length-counted, counted_more}
 use Rattle.bg_algebra.proofs.Beside.{Mem-beside_cases, Mem-beside_edge_cases, parallel_valid, parallel_valid_under}
 use Rattle.bg_algebra.proofs.Parts.{IsSound, Fits, valid_from_rows, valid_under_from_rows}
 
 -- ---- numbers in a row
-
-pub Mem-counted : (first count : ℕ) (n : ℕ) → Mem n (counted first count) → (first ≤ n) × (n < first + count)
-unfolding counted
-Mem-counted first zero n m = elim m [ ]
-Mem-counted first (suc count) n (here e) = (omega arith, omega arith)
-Mem-counted first (suc count) n (there m) = let w = Mem-counted (suc first) count n m in (omega (arith, w.0), omega (arith, w.1))
-
-pub length-counted : (first count : ℕ) → length (counted first count) ≡ count
-unfolding counted
-length-counted first zero = refl
-length-counted first (suc count) = ap suc (length-counted (suc first) count)
-
-pub counted_more : (first count : ℕ) → counted first (count + 1) ≡ counted first count ++ (first + count) ∷ []
-unfolding counted
-counted_more first zero = ap (λ n. n ∷ []) (let e : first ≡ first + 0 = omega arith in e)
-counted_more first (suc count) =
-    let e : suc first + count ≡ first + suc count = omega arith in
-    let more : suc count + 1 ≡ suc (count + 1) = omega arith in
-    ap (counted first) more ∙ ap (λ ns. first ∷ ns) (counted_more (suc first) count ∙ ap (λ n. counted (suc first) count ++ n ∷ []) e)
 
 -- a list that so many values were pushed on, one for each number
 pub pushed_counted : {X : Type 0} (f : ℕ → X) (xs ys : List X) (count : ℕ) (x : X) → xs ≡ map f (counted 0 count) → ys ≡ xs ++ x ∷ [] → x ≡ f count

@@ -1,6 +1,6 @@
 -- A bigraph that is a part of another: its rows stand there, each through a map of places and a map of links. A bigraph
 -- whose rows all come from valid parts is valid.
-use Rattle.std.proofs.Common.{◌≡◌, ℕ, ◌<◌, true, false, List, map, length, IsTrue, Some, unwrap_or, option_map, refl, sym, ap, subst, ◌∙◌}
+use Rattle.std.proofs.Common.{◌≡◌, ℕ, ◌<◌, true, false, List, map, length, IsTrue, refl, sym, ap, subst, ◌∙◌}
 use Rattle.std.specs.List.{list_all}
 use Rattle.std.specs.List.Sorted.{IsStrictlySortedBy}
 use Rattle.std.specs.Ordering.{nat_cmp}
@@ -16,8 +16,8 @@ use Rattle.bg_base.specs.declared.big.InnerRow.{InnerRow}
 use Rattle.bg_base.specs.declared.big.Big.{Big}
 use Rattle.bg_base.specs.declared.signature.Control.{Control}
 use Rattle.bg_base.specs.Order.{name_cmp}
-use Rattle.bg_base.specs.Bigraph.{IsValid, IsValidUnder, node_cmp, inner_cmp, row_of, has_place, has_link, is_atomic, is_atomic_control, arity_of}
-use Rattle.bg_base.proofs.LookUps.{has_row, row_of-member, row_from_row_of, row_from_has, region_from_has}
+use Rattle.bg_base.specs.Bigraph.{IsValid, IsValidUnder, node_cmp, inner_cmp, has_place, has_link, is_atomic, is_atomic_control, arity_of}
+use Rattle.bg_base.proofs.LookUps.{has_row, row_of-member, row_from_row_of, row_from_has, region_from_has, is_atomic-row}
 use Rattle.bg_base.proofs.Climbs.{Climb, at_region, at_node, Climb-from_place, is_rooted-from_climbs}
 
 -- ---- what is owed of each row
@@ -122,19 +122,14 @@ module _ {part whole : Big} {place_in : Place → Place} {link_in : Link → Lin
 
   module _ (signature : List Control) (fits : IsValidUnder signature part)
       (normal_region : (region : ℕ) → region < part.regions → is_atomic signature whole (place_in (Region region)) ≡ false) where
-    is_atomic-row : (big : Big) (node : ℕ) {row : NodeRow} → row_of big.nodes node ≡ Some row
-        → is_atomic signature big (Node node) ≡ is_atomic_control signature row.control
-    is_atomic-row big node e =
-        ap (λ o. unwrap_or (option_map (λ (row : NodeRow). is_atomic_control signature row.control) o) false) e
-
     normal_there : (place : Place) → has_place part place ≡ true → is_atomic signature part place ≡ false
         → is_atomic signature whole (place_in place) ≡ false
     normal_there (Node node) has normal =
         let w = row_from_has part.nodes node has in
         let e : place_in (Node node) ≡ Node (row_in w.0).id = ap (λ n. place_in (Node n)) (sym w.3) ∙ stands.number w.0 w.2 in
         subst (λ p. is_atomic signature whole p ≡ false) (sym e)
-        (is_atomic-row whole (row_in w.0).id (row_of-member whole.nodes whole_up (stands.row_there w.0 w.2) refl)
-        ∙ ap (is_atomic_control signature) (stands.control w.0) ∙ sym (is_atomic-row part node w.1) ∙ normal)
+        (is_atomic-row signature whole (row_in w.0).id (row_of-member whole.nodes whole_up (stands.row_there w.0 w.2) refl)
+        ∙ ap (is_atomic_control signature) (stands.control w.0) ∙ sym (is_atomic-row signature part node w.1) ∙ normal)
     normal_there (Region region) has normal = normal_region region (region_from_has part region has)
 
     pub row_fits : (row : NodeRow) → Mem row part.nodes → Fits signature whole (row_in row)

@@ -23,6 +23,7 @@ use Rattle.bg_base.specs.Elementary.{empty}
 use Rattle.bg_base.specs.Products.{InnerApart, OuterApart, place_beside, row_beside, tensor}
 use Rattle.bg_base.proofs.LookUps.{node_cmp_total, inner_cmp_total, no_inner, no_outer}
 use Rattle.bg_base.proofs.Composed.{SupportsApart-from_members, nodes_apart, edges_apart}
+use Rattle.bg_base.proofs.ProductLaws.{place_beside_none, row_beside_none}
 use Rattle.bg_algebra.specs.Laws.{Apart}
 use Rattle.bg_algebra.proofs.Beside.{inner_apart, outer_apart, Mem-beside_left, Mem-beside_right, Mem-beside_cases, Mem-beside_edge, Mem-beside_edge_cases, Mem-beside_inner_cases, tensor_valid}
 use Rattle.bg_algebra.proofs.CompositionLaws.{same_parts, same_nodes, same_edges}
@@ -227,21 +228,14 @@ module _ (f g h : Big) (fg : Apart f g) (fh : Apart f h) (gh : Apart g h) where
 -- ---- the empty bigraph beside another
 
 module _ (f : Big) (valid : IsValid f) where
-  at_start : (place : Place) → place_beside 0 place ≡ place
-  at_start (Node node) = refl
-  at_start (Region region) = ap Region (let e : 0 + region ≡ region = omega arith in e)
-
-  row_at_start : (row : NodeRow) → row_beside 0 row ≡ row
-  row_at_start row = let parent = at_start row.parent in λ t. record row { parent = parent t }
-
   pub empty_left : tensor empty f ≡ f
   unfolding tensor empty
   empty_left =
       same_parts (tensor empty f) f
-      (ap (sort (before node_cmp)) (map_agree (row_beside 0) (λ row. row) f.nodes (λ row m. row_at_start row) ∙ map-id f.nodes)
+      (ap (sort (before node_cmp)) (map_agree (row_beside 0) (λ row. row) f.nodes (λ row m. row_beside_none row) ∙ map-id f.nodes)
       ∙ sort-ascending node_cmp_total f.nodes (Ascending-from_sorted f.nodes valid.nodes_ascend))
       (sort-ascending nat_cmp_total f.edges (Ascending-from_sorted f.edges valid.edges_ascend))
-      (map_agree (place_beside 0) (λ place. place) f.sites (λ place m. at_start place) ∙ map-id f.sites)
+      (map_agree (place_beside 0) (λ place. place) f.sites (λ place m. place_beside_none place) ∙ map-id f.sites)
       (sort-ascending inner_cmp_total f.inner (Ascending-from_sorted f.inner valid.inner_ascends))
       (let e : 0 + f.regions ≡ f.regions = omega arith in e)
       (sort-ascending name_cmp_total f.outer (Ascending-from_sorted f.outer valid.outer_ascends))

@@ -1,10 +1,11 @@
 -- Climbs: from a place the parents lead up to a region. Where they do so at all, they do so in at most as many moves
 -- as there are rows.
-use Rattle.std.proofs.Common.{◌≡◌, ℕ, zero, suc, ◌<◌, ◌≤◌, ◌==◌, not, Bool, true, false, List, length, filter, nat_lt, Option, Some, None, unwrap_or, option_map, All, IsTrue, refl, sym, ap, subst, ◌∙◌, inl, inr, eqb-true, eq-eqb, ltb-true, lt-ltb, arith, le_refl}
+use Rattle.std.proofs.Common.{◌≡◌, ℕ, zero, suc, ◌<◌, ◌≤◌, ◌==◌, not, Bool, true, false, List, length, filter, nat_lt, Some, unwrap_or, option_map, All, IsTrue, refl, sym, ap, subst, ◌∙◌, inl, inr, eqb-true, eq-eqb, ltb-true, lt-ltb, arith, le_refl}
 use Rattle.std.proofs.lemmas.Bool.{cases_Bool, cases_lt, cases_eq, false_from_ne_true, false≢true, not_from_true, not_from_false}
 use Rattle.bg_lists.specs.Lists.{Mem}
 use Rattle.bg_lists.proofs.Words.{All-member, All-from_members, find-filter, length-filter_drops}
 use Rattle.bg_lists.proofs.Members.{Mem-unfilter}
+use Rattle.bg_lists.proofs.Tests.{some_from_unwrap}
 use Rattle.std.specs.List.Sorted.{IsStrictlySortedBy}
 use Rattle.bg_base.specs.declared.names.Place.{Place}
 use Rattle.bg_base.specs.declared.names.Place.TheVariants.{Node, Region}
@@ -20,11 +21,6 @@ pub data Climb (rows : List NodeRow) (regions : ℕ) : Place → Type 0 where
       → Climb rows regions row.parent → Climb rows regions place
 
 -- ---- one move
-
-some_from_unwrap : (test : NodeRow → Bool) (o : Option NodeRow) → unwrap_or (option_map test o) false ≡ true
-    → (row : NodeRow) × (o ≡ Some row) × (test row ≡ true)
-some_from_unwrap test None e = cc
-some_from_unwrap test (Some row) e = (row, refl, e)
 
 module _ (rows : List NodeRow) (regions : ℕ) where
   pub reaches-region : (moves region : ℕ) → reaches rows regions moves (Region region) ≡ nat_lt region regions

@@ -18,9 +18,9 @@ use Rattle.bg_base.specs.declared.big.NodeRow.{NodeRow}
 use Rattle.bg_base.specs.declared.big.InnerRow.{InnerRow}
 use Rattle.bg_base.specs.declared.big.Big.{Big}
 use Rattle.bg_base.specs.declared.signature.Control.{Control}
-use Rattle.bg_base.specs.Bigraph.{IsValid, IsValidUnder, node_cmp, inner_cmp, row_of, has_place, has_link, is_atomic, is_atomic_control, arity_of}
+use Rattle.bg_base.specs.Bigraph.{IsValid, IsValidUnder, node_cmp, inner_cmp, row_of, has_place, has_link, is_atomic, arity_of}
 use Rattle.bg_base.specs.Composition.{compose, row_through, inner_through, place_through, link_through, FacesAgree, SupportsApart}
-use Rattle.bg_base.proofs.LookUps.{has_row, row_from_has, row_of-member, row_from_row_of, has_edge, member_from_has_edge, member_from_has_outer, has_inner, inner_from_has, has_region, region_from_has}
+use Rattle.bg_base.proofs.LookUps.{has_row, row_from_has, row_of-member, row_from_row_of, has_edge, member_from_has_edge, member_from_has_outer, has_inner, inner_from_has, has_region, region_from_has, is_atomic-row}
 use Rattle.bg_base.proofs.Climbs.{Climb, at_region, at_node, Climb-from_place, is_rooted-from_climbs}
 use Rattle.bg_base.proofs.Composed.{Mem-compose_upper, Mem-compose_lower, Mem-compose_cases, Mem-compose_edge_upper, Mem-compose_edge_lower, compose_nodes_ascend, compose_edges_ascend, compose_sites, compose_inner, compose_regions, compose_outer}
 
@@ -167,17 +167,12 @@ module _ (g f : Big) (faces : FacesAgree g f) (apart : SupportsApart g f) (g_val
   -- ---- under a signature
 
   module _ (signature : List Control) where
-    is_atomic-row : (big : Big) (node : ℕ) {row : NodeRow} → row_of big.nodes node ≡ Some row
-        → is_atomic signature big (Node node) ≡ is_atomic_control signature row.control
-    is_atomic-row big node e =
-        ap (λ o. unwrap_or (option_map (λ (row : NodeRow). is_atomic_control signature row.control) o) false) e
-
     -- a place of G's or F's that was in no atomic node is in none
     upper_atomic : (place : Place) → has_place g place ≡ true → is_atomic signature g place ≡ false
         → is_atomic signature (compose g f) place ≡ false
     upper_atomic (Node node) has normal =
         let w = row_from_has g.nodes node has in
-        is_atomic-row (compose g f) node (upper_row node w.1) ∙ sym (is_atomic-row g node w.1) ∙ normal
+        is_atomic-row signature (compose g f) node (upper_row node w.1) ∙ sym (is_atomic-row signature g node w.1) ∙ normal
     upper_atomic (Region region) has normal = refl
 
     module _ (g_fits : IsValidUnder signature g) (f_fits : IsValidUnder signature f) where
@@ -185,7 +180,7 @@ module _ (g f : Big) (faces : FacesAgree g f) (apart : SupportsApart g f) (g_val
           → is_atomic signature (compose g f) (place_through g place) ≡ false
       lower_atomic (Node node) has normal =
           let w = row_from_has f.nodes node has in
-          is_atomic-row (compose g f) node (lower_row node w.1) ∙ sym (is_atomic-row f node w.1) ∙ normal
+          is_atomic-row signature (compose g f) node (lower_row node w.1) ∙ sym (is_atomic-row signature f node w.1) ∙ normal
       lower_atomic (Region region) has normal =
           let below = region_from_has f region has in
           upper_atomic (place_through g (Region region)) (site_there region below)

@@ -4,7 +4,7 @@ use Rattle.std.specs.Option.{IsNone, is_some}
 use Rattle.std.specs.List.{list_all, AllByRecursion}
 use Rattle.std.specs.Ordering.{is_eq}
 use Rattle.std.specs.Cmp.Lexicographic.{pointwise}
-use Rattle.std.proofs.lemmas.Bool.{and_parts, eqb-true, false≢true}
+use Rattle.std.proofs.lemmas.Bool.{and_parts, eqb-true, false≢true, not-true}
 use Rattle.std.proofs.lemmas.List.Elements.{All-from_recursion, recursion_from_All}
 use Rattle.bg_base.specs.declared.names.Name.{Name}
 use Rattle.bg_base.specs.declared.big.NodeRow.{NodeRow}
@@ -34,14 +34,10 @@ names_same xs ys e =
     names_itself (x ∷ xs) =
         both (is_eq (name_cmp x x)) (pointwise (λ (v w : Name). is_eq (name_cmp v w)) xs xs) (test_same_name x x refl) (names_itself xs)
 
-not_true : (b : Bool) → not b ≡ true → b ≡ false
-not_true true e = absurd (false≢true e)
-not_true false e = refl
-
 fails_from_list : {X : Type 0} (test : X → Bool) (xs : List X) → list_all (λ (x : X). not (test x)) xs ≡ true → AllByRecursion (λ (x : X). test x ≡ false) xs
 fails_from_list test [] e = tt
 fails_from_list test (x ∷ xs) e =
-    let parts = and_parts (not (test x)) (list_all (λ y. not (test y)) xs) e in (not_true (test x) parts.0, fails_from_list test xs parts.1)
+    let parts = and_parts (not (test x)) (list_all (λ y. not (test y)) xs) e in (not-true (test x) parts.0, fails_from_list test xs parts.1)
 
 list_from_fails : {X : Type 0} (test : X → Bool) (xs : List X) → AllByRecursion (λ (x : X). test x ≡ false) xs → list_all (λ (x : X). not (test x)) xs ≡ true
 list_from_fails test [] all = refl

@@ -36,7 +36,7 @@ all_weaker : {X : Type 0} (P Q : X → Type 0) → ((x : X) → P x → Q x) →
 all_weaker P Q weaker [] all = tt
 all_weaker P Q weaker (x ∷ xs) all = (weaker x all.0, all_weaker P Q weaker xs all.1)
 
-clean_head : (code : ℕ) (found : Option (ℕ × ℕ)) (b : Bool) → eqb code 0 ≡ b → cond b (shifted 1 found) (Some (0, code)) ≡ None
+pub clean_head : (code : ℕ) (found : Option (ℕ × ℕ)) (b : Bool) → eqb code 0 ≡ b → cond b (shifted 1 found) (Some (0, code)) ≡ None
     → (code ≡ 0) × (found ≡ None)
 clean_head code None true e none = (eqb-true code 0 e, refl)
 clean_head code (Some fault) true e none = cc
@@ -96,7 +96,7 @@ module _ {K X : Type 0} (cmp : K → K → Ordering) (order : IsTotalOrder cmp) 
   clean_from_ordered last (row ∷ rows) above sorted clear =
       (rw (rise_from_above last row rows above) clear.0, clean_from_ordered (Some (key row)) rows sorted.0 sorted.1 clear.1)
 
-none_parts : (part : Part) (found : Option (ℕ × ℕ)) (later : Option (Part × ℕ × ℕ)) → or_else part found later ≡ None → (found ≡ None) × (later ≡ None)
+pub none_parts : (part : Part) (found : Option (ℕ × ℕ)) (later : Option (Part × ℕ × ℕ)) → or_else part found later ≡ None → (found ≡ None) × (later ≡ None)
 none_parts part None later none = (refl, none)
 none_parts part (Some fault) later none = cc
 

@@ -12,3 +12,6 @@ pub mod Climbs
 pub mod Composed
 pub mod ComposedValid
 pub mod CompositionTests
+pub mod Counted
+pub mod ProductLaws
+pub mod ValueLaws

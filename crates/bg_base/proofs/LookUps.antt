@@ -1,5 +1,5 @@
 -- Laws of look-up: a node, an edge or a name is found exactly where a member has its number or is that name.
-use Rattle.std.proofs.Common.{◌≡◌, ℕ, ◌<◌, ◌==◌, true, false, List, nat_cmp, is_eq, is_some, Some, None, refl, sym, ◌∙◌, eqb-true, eq-eqb, ltb-true, lt-ltb}
+use Rattle.std.proofs.Common.{◌≡◌, ℕ, ◌<◌, ◌==◌, true, false, List, nat_cmp, is_eq, is_some, Some, None, unwrap_or, option_map, refl, sym, ap, ◌∙◌, eqb-true, eq-eqb, ltb-true, lt-ltb}
 use Rattle.std.specs.Cmp.{IsTotalOrder}
 use Rattle.std.specs.List.Sorted.{IsStrictlySortedBy}
 use Rattle.std.proofs.lemmas.Cmp.{on_total, nat_cmp_total}
@@ -13,13 +13,14 @@ use Rattle.bg_lists.proofs.Members.{Mem-same}
 use Rattle.bg_lists.proofs.Ascents.{same_member, Ascending-from_sorted}
 use Rattle.bg_lists.proofs.Words.{member_from_find, is_some_find, found, find-only, find-none}
 use Rattle.bg_base.specs.declared.names.Name.{Name}
-use Rattle.bg_base.specs.declared.names.Place.TheVariants.{Region}
+use Rattle.bg_base.specs.declared.names.Place.TheVariants.{Region, Node}
 use Rattle.bg_base.specs.declared.big.NodeRow.{NodeRow}
 use Rattle.bg_base.specs.declared.big.InnerRow.{InnerRow}
 use Rattle.bg_base.specs.declared.big.Big.{Big}
+use Rattle.bg_base.specs.declared.signature.Control.{Control}
 use Rattle.bg_base.specs.Order.{name_cmp}
 use Rattle.bg_base.specs.OrderLaws.{name_cmp_total}
-use Rattle.bg_base.specs.Bigraph.{node_cmp, inner_cmp, row_of, edge_of, outer_of, inner_of, has_place}
+use Rattle.bg_base.specs.Bigraph.{node_cmp, inner_cmp, row_of, edge_of, outer_of, inner_of, has_place, is_atomic, is_atomic_control}
 use Rattle.bg_base.proofs.NameLaws.{same_name_from_test, test_same_name}
 
 pub node_cmp_total : IsTotalOrder node_cmp
@@ -68,6 +69,12 @@ pub row_of-member : {row : NodeRow} {node : ℕ} (rows : List NodeRow) → IsStr
 row_of-member {row} {node} rows up m e =
     find-only (λ (r : NodeRow). r.id == node) rows m (eq-eqb row.id node e)
     (λ other n pass. same_row rows up n m (eqb-true other.id node pass ∙ sym e))
+
+-- a node is atomic where the control of its row is
+pub is_atomic-row : (signature : List Control) (big : Big) (node : ℕ) {row : NodeRow} → row_of big.nodes node ≡ Some row
+    → is_atomic signature big (Node node) ≡ is_atomic_control signature row.control
+is_atomic-row signature big node e =
+    ap (λ o. unwrap_or (option_map (λ (row : NodeRow). is_atomic_control signature row.control) o) false) e
 
 -- ---- edges
 

@@ -1,8 +1,8 @@
 -- A binary search in a sorted copy tells whether something stands in the list that was copied.
-use Rattle.std.proofs.Common.{◌≡◌, ℕ, Bool, true, false, ◌||◌, Option, Some, Result, Ok, Err, List, [], ◌∷◌, length, get_or, refl, sym, ap, ap₂, ◌∙◌, arith, cond, eqb, inl, inr}
+use Rattle.std.proofs.Common.{◌≡◌, ℕ, Bool, false, ◌||◌, Result, Ok, Err, List, [], ◌∷◌, length, get_or, refl, sym, ap, ap₂, ◌∙◌, arith, eqb, inl, inr}
 use Rattle.std.specs.Option.{is_some}
 use Rattle.std.specs.Result.{is_ok}
-use Rattle.std.specs.List.{find, list_any}
+use Rattle.std.specs.List.{list_any}
 use Rattle.std.specs.List.Sorted.{IsSorted, IsBinarySearchResult, IsSearchInRange}
 use Rattle.std.specs.Ordering.{is_eq, nat_cmp}
 use Rattle.std.specs.Cmp.{IsTotalOrder, unsigned_tied}
@@ -17,15 +17,7 @@ use Rattle.bg_base.specs.Order.{name_cmp}
 use Rattle.bg_base.specs.OrderLaws.{name_cmp_total}
 use Rattle.bg_base.specs.Bigraph.{edge_of, outer_of}
 use Rattle.bg_base.specs.Lookup.{IsSortedCopy}
-
-found_case : {X : Type 0} (x : X) (b r : Bool) (o : Option X) → is_some o ≡ r → is_some (cond b (Some x) o) ≡ (b || r)
-found_case x true r o e = refl
-found_case x false r o e = e
-
--- something is found where some member passes the test
-pub found_any : {X : Type 0} (p : X → Bool) (xs : List X) → is_some (find p xs) ≡ list_any p xs
-found_any p [] = refl
-found_any p (x ∷ xs) = found_case x (p x) (list_any p xs) (find p xs) (found_any p xs)
+use Rattle.bg_lists.proofs.Words.{found_any}
 
 -- two tests that agree find the same
 any_agree : {X : Type 0} (p q : X → Bool) → ((x : X) → p x ≡ q x) → (xs : List X) → list_any p xs ≡ list_any q xs

@@ -27,6 +27,7 @@ use Rattle.bg_base.specs.Elementary.{counted, identity}
 use Rattle.bg_base.specs.Products.{parallel, merge, nest, close, place_beside, row_beside, place_in_one, row_in_one, in_one_region}
 use Rattle.bg_base.proofs.NameLaws.{same_name}
 use Rattle.bg_base.proofs.LookUps.{node_cmp_total, region_from_has}
+use Rattle.bg_base.proofs.ProductLaws.{place_beside_none, row_beside_none, place_in_one-beside, row_in_one-beside}
 use Rattle.bg_algebra.proofs.Nested.{frame, frame_inner}
 use Rattle.bg_algebra.proofs.Through.{link_same}
 use Rattle.bg_builder.specs.Numbers.{follows, lies_behind}
@@ -44,13 +45,6 @@ set_back xs ys =
     [ inl k ↦ Mem-append_right ys xs k | inr k ↦ Mem-append_left ys xs k ])
 
 -- ---- one region
-
-one_place : (width : ℕ) (place : Place) → place_in_one (place_beside width place) ≡ place_in_one place
-one_place width (Node node) = refl
-one_place width (Region region) = refl
-
-one_row : (width : ℕ) (row : NodeRow) → row_in_one (row_beside width row) ≡ row_in_one row
-one_row width row = let place = one_place width row.parent in λ t. record row { parent = place t }
 
 -- of one region, all are region 0 already
 module _ (big : Big) (valid : IsValid big) (one : big.regions ≡ 1) where
@@ -71,15 +65,6 @@ module _ (big : Big) (valid : IsValid big) (one : big.regions ≡ 1) where
       let sites = map_agree place_in_one (λ place. place) big.sites
       (λ place m. place_in_first place (All-member (λ (p : Place). IsTrue (has_place big p)) big.sites valid.sites_there m)) ∙ map-id big.sites in
       λ t. record big { nodes = nodes t; sites = sites t; regions = sym one t }
-
--- ---- beside no regions
-
-place_beside_none : (place : Place) → place_beside 0 place ≡ place
-place_beside_none (Node node) = refl
-place_beside_none (Region region) = ap Region (zero-add region)
-
-row_beside_none : (row : NodeRow) → row_beside 0 row ≡ row
-row_beside_none row = let place = place_beside_none row.parent in λ t. record row { parent = place t }
 
 -- ---- the sites and the inner names of F, taken alone
 
@@ -144,10 +129,10 @@ module _ (f g : Big) (f_valid : IsValid f) (g_valid : IsValid g) (behind : follo
       let nodes = ap (map row_in_one) (nodes_in_order (row_beside f.regions) (λ x y less. less) (λ row. refl))
       ∙ map-append row_in_one f.nodes (map (row_beside f.regions) g.nodes)
       ∙ ap (λ rows. map row_in_one f.nodes ++ rows) (map-map (row_beside f.regions) row_in_one g.nodes
-      ∙ map_agree (λ row. row_in_one (row_beside f.regions row)) row_in_one g.nodes (λ row m. one_row f.regions row)) in
+      ∙ map_agree (λ row. row_in_one (row_beside f.regions row)) row_in_one g.nodes (λ row m. row_in_one-beside f.regions row)) in
       let sites = map-append place_in_one f.sites (map (place_beside f.regions) g.sites)
       ∙ ap (λ places. map place_in_one f.sites ++ places) (map-map (place_beside f.regions) place_in_one g.sites
-      ∙ map_agree (λ place. place_in_one (place_beside f.regions place)) place_in_one g.sites (λ place m. one_place f.regions place)) in
+      ∙ map_agree (λ place. place_in_one (place_beside f.regions place)) place_in_one g.sites (λ place m. place_in_one-beside f.regions place)) in
       λ t. record (appended 1 (in_one_region f) (in_one_region g)) { nodes = nodes t; edges = edges_in_order t; sites = sites t }
 
   pub compose_behind : compose f g ≡ put_under f g

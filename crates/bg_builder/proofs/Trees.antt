@@ -1,7 +1,7 @@
 -- What search trees of names hold, as the lists that a bigraph has: outer names as a set, inner names as rows in order.
-use Rattle.std.proofs.Common.{◌≡◌, ℕ, Ordering, Equal, Greater, Bool, true, false, ◌||◌, List, [], ◌∷◌, ◌++◌, map, filter, not, Less, is_eq, Option, Some, None, is_some, All, IsNone, refl, sym, ap, subst, ◌∙◌, ◌⊎◌, inl, inr, ◌↔◌}
+use Rattle.std.proofs.Common.{◌≡◌, ℕ, Equal, Bool, true, false, ◌||◌, List, [], ◌∷◌, ◌++◌, map, filter, not, Less, is_eq, Option, Some, None, is_some, All, IsNone, refl, sym, ap, subst, ◌∙◌, ◌⊎◌, inl, inr, ◌↔◌}
 use Rattle.std.specs.Option.{option_or}
-use Rattle.std.specs.Ordering.{eq_by_cmp, ordering_then}
+use Rattle.std.specs.Ordering.{eq_by_cmp}
 use Rattle.std.specs.Cmp.Lexicographic.{slice_cmp}
 use Rattle.std.specs.Cmp.{eq_by_cmp_equiv}
 use Rattle.std.specs.List.{list_all, list_any}
@@ -15,7 +15,7 @@ use Rattle.std.proofs.lemmas.Map.Made.{update_all_distinct, update_all_none}
 use Rattle.std.proofs.lemmas.Map.Views.{Contains-from_lookup, lookup-from_Contains, tells_apart}
 use Rattle.bg_lists.specs.Lists.{Mem, here, there, sort}
 use Rattle.bg_lists.specs.Orders.{before, set_of, Ascending, asc_cons}
-use Rattle.bg_lists.proofs.Comparisons.{Less-not_back, Equal-from_is_eq, apart_back}
+use Rattle.bg_lists.proofs.Comparisons.{Less-not_back, Equal-from_is_eq, apart_back, both_equal}
 use Rattle.bg_lists.proofs.Members.{map-map, Mem-same, Mem-map, Mem-unmap, Mem-append_left, Mem-append_right, Mem-append_cases}
 use Rattle.bg_lists.proofs.Ascents.{Ascending-from_sorted, sorted_from_Ascending, Ascending-map, Ascending-unmap, same_ascending}
 use Rattle.bg_lists.proofs.Sorting.{sort-same, IsDistinct-from_Ascending, IsDistinct-append}
@@ -246,11 +246,6 @@ pub without_name : (name : Name) (names : List Name) → IsStrictlySortedBy name
 without_name name names up = without_first name names (Ascending-from_sorted names up)
 
 -- ---- names and rows, compared and changed
-
-both_equal : (o p : Ordering) → ordering_then o p ≡ Equal → (o ≡ Equal) × (p ≡ Equal)
-both_equal Less p e = absurd cc
-both_equal Equal p e = (refl, e)
-both_equal Greater p e = absurd cc
 
 equal_lists : (xs ys : List Name) → slice_cmp name_cmp xs ys ≡ Equal → xs ≡ ys
 equal_lists [] [] e = refl

@@ -1,5 +1,5 @@
 -- A link that is not there has no points.
-use Rattle.std.proofs.Common.{◌≡◌, true, false, List, [], ◌∷◌, map, filter, IsTrue, refl, sym, ap, ◌∙◌, eqb-true}
+use Rattle.std.proofs.Common.{◌≡◌, true, false, List, [], ◌∷◌, map, filter, IsTrue, refl, sym, ap, ◌∙◌}
 use Rattle.std.proofs.lemmas.Bool.{false≢true, false_from_ne_true, cond-false}
 use Rattle.bg_lists.specs.Lists.{Mem, here, there}
 use Rattle.bg_lists.proofs.Words.{All-member}
@@ -8,17 +8,11 @@ use Rattle.bg_base.specs.declared.names.Link.TheVariants.{Edge, Outer}
 use Rattle.bg_base.specs.declared.big.Big.{Big}
 use Rattle.bg_base.specs.Bigraph.{IsValid, has_link}
 use Rattle.bg_base.specs.Products.{same_link}
-use Rattle.bg_base.proofs.NameLaws.{same_name_from_test}
+use Rattle.bg_base.proofs.NameLaws.{same_link_from_test}
 use Rattle.bg_link.specs.declared.graph.Point.{Point}
 use Rattle.bg_link.specs.Links.{links_of, all_points, point_of, points_of}
 use Rattle.bg_link.specs.Rows.{is_there}
 use Rattle.bg_link.proofs.PointLaws.{linked}
-
-same_link-is : (a b : Link) → same_link a b ≡ true → a ≡ b
-same_link-is (Edge d) (Edge e) same = ap Edge (eqb-true d e same)
-same_link-is (Edge d) (Outer y) same = cc
-same_link-is (Outer x) (Edge e) same = cc
-same_link-is (Outer x) (Outer y) same = ap Outer (same_name_from_test x y same)
 
 has_as_there : (big : Big) (link : Link) → has_link big link ≡ is_there big.edges big.outer link
 has_as_there big (Edge edge) = refl
@@ -32,7 +26,7 @@ module _ (big : Big) (link : Link) (absent : has_link big link ≡ false) where
   none_on (tied ∷ points) each =
       ap (map point_of) (cond-false (same_link tied.1 link) _ _
       (false_from_ne_true (same_link tied.1 link)
-      (λ same. false≢true (sym absent ∙ ap (has_link big) (sym (same_link-is tied.1 link same)) ∙ each tied (here refl)))))
+      (λ same. false≢true (sym absent ∙ ap (has_link big) (sym (same_link_from_test tied.1 link same)) ∙ each tied (here refl)))))
       ∙ none_on points (λ other m. each other (there m))
 
 pub no_points : (big : Big) (link : Link) → IsValid big → has_link big link ≡ false → points_of (links_of big) link ≡ []

@@ -1,12 +1,10 @@
 -- Laws of points in groups by their links: the points of one link are a part of the points by the positions of links.
-use Rattle.std.proofs.Common.{◌≡◌, ℕ, ◌+◌, ◌-◌, ◌<◌, ◌≤◌, ◌==◌, Bool, true, false, cond, List, [], ◌∷◌, length, map, filter, take, drop, get_or, refl, sym, ap, subst, ◌∙◌, arith, ltb, leb, is_lt, nat_cmp}
+use Rattle.std.proofs.Common.{◌≡◌, ℕ, ◌+◌, ◌-◌, ◌<◌, ◌≤◌, ◌==◌, Bool, true, false, List, length, map, filter, take, drop, get_or, sym, ap, subst, ◌∙◌, arith, ltb, leb, is_lt, nat_cmp}
 use Rattle.std.specs.List.Sorted.{IsPartitionPoint, IsPartitionedBy, IsNonDecreasingBy, IsStableBy}
-use Rattle.std.proofs.lemmas.Bool.{cond_both, cond-true, cond-false}
 use Rattle.std.proofs.lemmas.List.{length-map, get_or-map, drop-map, take-map}
 use Rattle.std.proofs.lemmas.List.Sorted.{IsPartitionedBy-ltb, IsPartitionedBy-leb, IsNonDecreasingBy-drop, IsNonDecreasingBy-take}
 use Rattle.std.proofs.Math.ListN.{get_or-map as get_or-mapped}
-use Rattle.bg_lists.specs.Lists.{Mem, here, there}
-use Rattle.bg_lists.proofs.Members.{map-map}
+use Rattle.bg_lists.proofs.Members.{map-map, filter_agree_on, filter-map}
 use Rattle.bg_lists.proofs.Places.{At-total}
 use Rattle.bg_lists.proofs.Groups.{stable_group, group_found}
 use Rattle.bg_lists.proofs.Words.{All-member}
@@ -21,22 +19,6 @@ use Rattle.bg_link.specs.Links.{all_points, point_of, points_of}
 use Rattle.bg_link.specs.Rows.{is_there, link_rank, ranked, ranked_points, rank_of, point_alone, IsGrouped, IsLinked, IsWired}
 use Rattle.bg_link.proofs.RankLaws.{same_rank}
 
--- ---- filters
-
-filter_agree_on : {X : Type 0} (p q : X → Bool) (xs : List X) → ((x : X) → Mem x xs → p x ≡ q x) → filter p xs ≡ filter q xs
-filter_agree_on p q [] same = refl
-filter_agree_on p q (x ∷ xs) same =
-    ap (λ b. cond b (x ∷ filter p xs) (filter p xs)) (same x (here refl))
-    ∙ ap (λ ys. cond (q x) (x ∷ ys) ys) (filter_agree_on p q xs (λ y m. same y (there m)))
-
-filter_map_is : {X Y : Type 0} (f : X → Y) (p : Y → Bool) (xs : List X) → filter p (map f xs) ≡ map f (filter (λ x. p (f x)) xs)
-filter_map_is f p [] = refl
-filter_map_is f p (x ∷ xs) =
-    ap (λ ys. cond (p (f x)) (f x ∷ ys) ys) (filter_map_is f p xs)
-    ∙ cond_both (p (f x)) (x ∷ filter (λ y. p (f y)) xs) (filter (λ y. p (f y)) xs)
-    (λ zs. cond (p (f x)) (f x ∷ map f (filter (λ y. p (f y)) xs)) (map f (filter (λ y. p (f y)) xs)) ≡ map f zs)
-    (λ e. cond-true (p (f x)) _ _ e) (λ e. cond-false (p (f x)) _ _ e)
-
 -- ---- the points of one position are those of the link
 
 pub points_of_rank : (links : Links) (link : Link) → IsLinked links
@@ -46,7 +28,7 @@ points_of_rank links link linked =
     let tie = ranked links.edges links.outer in
     let at : Point × Link → Bool = λ tied. place tied.1 == place link in
     let same : Point × Link → Bool = λ tied. same_link tied.1 link in
-    ap (map point_alone) (filter_map_is tie (λ (row : RankedPoint). row.rank == place link) (all_points links))
+    ap (map point_alone) (filter-map tie (λ (row : RankedPoint). row.rank == place link) (all_points links))
     ∙ map-map tie point_alone (filter at (all_points links))
     ∙ ap (map point_of) (filter_agree_on at same (all_points links)
     (λ tied m. sym (same_rank links.edges links.outer tied.1 link

@@ -8,8 +8,8 @@ use Rattle.bg_base.specs.declared.signature.Control.{Control}
 use Rattle.bg_base.specs.Signatures.{same_label, number_of, IsSignature}
 use Rattle.bg_base.specs.Spelling.{is_word_byte}
 use Rattle.bg_base.proofs.SignatureLaws.{one_more_control}
+use Rattle.bg_base.proofs.ValueLaws.{same_label_from_test}
 use Rattle.bg_listing.specs.Limits.{IsControl}
-use Rattle.bg_listing.proofs.Labels.{same_label_is}
 
 -- the names of all labels are shorter
 abbrev AreShorter : ℕ → List Control → Type 0
@@ -39,7 +39,7 @@ apart_if x y false h lt = refl
 not_among : (controls : List Control) (label : Label) → AreShorter (length label.name) controls → number_of controls label ≡ None
 not_among [] label s = refl
 not_among (c ∷ controls) label s =
-    rw (apart_if c.label label (same_label c.label label) (same_label_is c.label label) s.0, not_among controls label s.1) refl
+    rw (apart_if c.label label (same_label c.label label) (same_label_from_test c.label label) s.0, not_among controls label s.1) refl
 
 letters : ℕ → List ℕ
 letters zero = []

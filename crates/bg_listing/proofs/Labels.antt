@@ -1,49 +1,16 @@
 -- Equal labels, and the numbers of labels in a signature.
-use Rattle.std.proofs.Common.{◌≡◌, ℕ, zero, suc, ◌<◌, Bool, true, false, cond, Ordering, Less, Equal, Greater, is_eq, Option, Some, None, List, [], ◌∷◌, ◌++◌, length, refl, sym, ap, subst, ◌∙◌, append_assoc, arith}
+use Rattle.std.proofs.Common.{◌≡◌, ℕ, zero, suc, ◌<◌, Bool, true, false, cond, is_eq, Option, Some, None, List, [], ◌∷◌, ◌++◌, length, refl, sym, ap, subst, append_assoc, arith}
 use Rattle.std.specs.Prelude.{option_map, unwrap_or}
-use Rattle.std.specs.Ordering.{ordering_then}
-use Rattle.std.specs.Cmp.Lexicographic.{slice_cmp}
 use Rattle.std.specs.List.{AllByRecursion, IsDistinct}
-use Rattle.std.proofs.lemmas.Map.Lookups.{exact_signed, exact_bytes}
 use Rattle.std.proofs.lemmas.Cmp.{tied_itself}
-use Rattle.bg_lists.proofs.Comparisons.{Equal-from_is_eq}
-use Rattle.bg_base.specs.declared.labels.Value.{Value}
-use Rattle.bg_base.specs.declared.labels.Value.TheVariants.{Int, Words}
 use Rattle.bg_base.specs.declared.labels.Label.{Label}
 use Rattle.bg_base.specs.declared.signature.Control.{Control}
-use Rattle.bg_base.specs.Order.{bytes_cmp, value_cmp, label_cmp}
 use Rattle.bg_base.specs.LabelLaws.{label_cmp_total}
 use Rattle.bg_base.specs.Signatures.{same_label, number_of}
+use Rattle.bg_base.proofs.ValueLaws.{same_label_from_test}
 use Rattle.bg_listing.specs.Spelling.{label_of}
 use Rattle.bg_listing.specs.Lines.{control_of}
 use Rattle.bg_listing.specs.Verdict.{repeat_among, first_repeat}
-
-both_equal : (o p : Ordering) → ordering_then o p ≡ Equal → (o ≡ Equal) × (p ≡ Equal)
-both_equal Less p e = cc
-both_equal Equal p e = (refl, e)
-both_equal Greater p e = cc
-
-same_value : (x y : Value) → value_cmp x y ≡ Equal → x ≡ y
-same_value (Int x) (Int y) e = ap Int (exact_signed x y e)
-same_value (Int x) (Words t) e = cc
-same_value (Words s) (Int y) e = cc
-same_value (Words s) (Words t) e = ap Words (exact_bytes s t e)
-
-same_values : (xs ys : List Value) → slice_cmp value_cmp xs ys ≡ Equal → xs ≡ ys
-same_values [] [] e = refl
-same_values [] (y ∷ ys) e = cc
-same_values (x ∷ xs) [] e = cc
-same_values (x ∷ xs) (y ∷ ys) e =
-    let parts = both_equal (value_cmp x y) (slice_cmp value_cmp xs ys) e in
-    ap (λ v. v ∷ xs) (same_value x y parts.0) ∙ ap (λ vs. y ∷ vs) (same_values xs ys parts.1)
-
-pub same_label_is : (x y : Label) → same_label x y ≡ true → x ≡ y
-same_label_is x y e =
-    let parts = both_equal (bytes_cmp x.name y.name) (slice_cmp value_cmp x.args y.args) (Equal-from_is_eq (label_cmp x y) e) in
-    let one : Label = record { name = y.name; args = x.args } in
-    let first : x ≡ one = ap (λ n. record { name = n; args = x.args }) (exact_bytes x.name y.name parts.0) in
-    let second : one ≡ y = ap (λ vs. record { name = y.name; args = vs }) (same_values x.args y.args parts.1) in
-    first ∙ second
 
 pub same_label_itself : (x : Label) → same_label x x ≡ true
 same_label_itself x = ap is_eq (tied_itself label_cmp_total x)
@@ -59,7 +26,7 @@ number_back_if c controls label false (Some j) k h t e = let z : k ≡ suc j = c
 
 number_back : (controls : List Control) (label : Label) (k : ℕ) → number_of controls label ≡ Some k → label_of controls k ≡ label
 number_back [] label k e = absurd cc
-number_back (c ∷ controls) label k e = number_back_if c controls label (same_label c.label label) (number_of controls label) k (same_label_is c.label label) (number_back controls label) e
+number_back (c ∷ controls) label k e = number_back_if c controls label (same_label c.label label) (number_of controls label) k (same_label_from_test c.label label) (number_back controls label) e
 
 known_back : (controls : List Control) (label : Label) (number : Option ℕ) → number_of controls label ≡ number → unwrap_or number (length controls) < length controls → label_of controls (unwrap_or number (length controls)) ≡ label
 known_back controls label None e lt = absurd (omega arith)

@@ -15,7 +15,7 @@ use Rattle.bg_base.specs.Order.{name_cmp}
 use Rattle.bg_base.specs.Signatures.{number_of, IsSignature}
 use Rattle.bg_base.specs.Bigraph.{has_place, is_rooted, is_atomic, arity_of}
 use Rattle.bg_base.specs.Faults.{fault_of, codes_from, first_fault, shifted, or_else, sites_fault, inner_fault, outer_fault, edges_fault, nodes_fault, site_code, inner_code, outer_code, edge_code, node_code, rises, is_known}
-use Rattle.bg_base.proofs.FaultLaws.{no_fault}
+use Rattle.bg_base.proofs.FaultLaws.{no_fault, none_parts}
 use Rattle.bg_listing.specs.declared.cursor.Cursor.{Cursor}
 use Rattle.bg_listing.specs.Spelling.{control_line, place_line, inner_line, name_line, edge_line, count_line, section_text, signature_text, big_text}
 use Rattle.bg_listing.specs.Limits.{most_rows, most_controls, IsNumber, IsPlace, IsName, IsInner, AreCounted, IsControl, IsReadableSignature, IsReadableBig}
@@ -223,10 +223,6 @@ edge_test last edge = rises nat_cmp last edge
 abbrev node_test : List Control → Option ℕ → NodeRow → Bool
 node_test signature last row = rises nat_cmp last row.id && eqb (length row.links) (arity_of signature row.control)
 
-or_none : (part : Part) (fault : Option (ℕ × ℕ)) (later : Option (Part × ℕ × ℕ)) → or_else part fault later ≡ None → (fault ≡ None) × (later ≡ None)
-or_none part None later e = (refl, e)
-or_none part (Some f) later e = absurd cc
-
 record IsClean (signature : List Control) (big : Big) : Type 0 where
   inner : Passes (λ (row : InnerRow). row.name) inner_test None (map (λ row. row) big.inner)
   outer : Passes (λ (name : Name). name) outer_test None (map (λ name. name) big.outer)
@@ -236,11 +232,11 @@ record IsClean (signature : List Control) (big : Big) : Type 0 where
 clean_from : (signature : List Control) (big : Big) → fault_of signature big ≡ None → IsClean signature big
 unfolding fault_of inner_fault outer_fault edges_fault nodes_fault
 clean_from signature big none =
-    let first = or_none Sites (sites_fault signature big) _ none in
-    let second = or_none Inner (inner_fault big) _ first.1 in
-    let third = or_none Outer (outer_fault big) _ second.1 in
-    let fourth = or_none Edges (edges_fault big) _ third.1 in
-    let fifth = or_none Nodes (nodes_fault signature big) _ fourth.1 in
+    let first = none_parts Sites (sites_fault signature big) _ none in
+    let second = none_parts Inner (inner_fault big) _ first.1 in
+    let third = none_parts Outer (outer_fault big) _ second.1 in
+    let fourth = none_parts Edges (edges_fault big) _ third.1 in
+    let fifth = none_parts Nodes (nodes_fault signature big) _ fourth.1 in
     record {
       inner = subst (Passes (λ (row : InnerRow). row.name) inner_test None) (sym (map_same big.inner)) (passes_from (λ (row : InnerRow). row.name) (inner_code big) inner_test (λ last row e. order_holds (rises name_cmp last row.name) _ e) None big.inner second.0);
       outer = subst (Passes (λ (name : Name). name) outer_test None) (sym (map_same big.outer)) (passes_from (λ (name : Name). name) outer_code outer_test (λ last name e. order_holds (rises name_cmp last name) 0 e) None big.outer third.0);

@@ -1,10 +1,11 @@
 -- A row that breaks a rule whatever the rows behind it are: no text of rows that keep the rule begins so.
 use Rattle.std.proofs.Common.{◌≡◌, ℕ, ◌+◌, ◌<◌, ◌≤◌, Bool, true, false, not, cond, eqb, Option, Some, None, List, [], ◌∷◌, ◌++◌, length, map, Result, refl, sym, ap, subst, ◌∙◌, append_assoc, arith}
 use Rattle.std.specs.List.{flat_map, AllByRecursion, list_all}
-use Rattle.std.proofs.lemmas.Bool.{and_parts, eqb-true}
+use Rattle.std.proofs.lemmas.Bool.{and_parts}
 use Rattle.std.proofs.lemmas.List.{length-append}
 use Rattle.std.proofs.lemmas.List.Sums.{sum_by-append}
 use Rattle.bg_base.specs.Faults.{codes_from, first_fault, shifted}
+use Rattle.bg_base.proofs.FaultLaws.{clean_head}
 use Rattle.bg_listing.specs.Spelling.{count_line, section_text}
 use Rattle.bg_listing.specs.Limits.{AreCounted}
 use Rattle.bg_listing.specs.Lines.{Bad, count_at}
@@ -109,17 +110,12 @@ unfolding last_key
 passes_at key test last [] x more p = p.0
 passes_at key test last (y ∷ front) x more p = passes_at key test (Some (key y)) front x more p.1
 
-zero_head : (code : ℕ) (later : Option (ℕ × ℕ)) (clean : Bool) → eqb code 0 ≡ clean → cond clean (shifted 1 later) (Some (0, code)) ≡ None → (code ≡ 0) × (later ≡ None)
-zero_head code None true e none = (eqb-true code 0 e, refl)
-zero_head code (Some f) true e none = absurd cc
-zero_head code later false e none = absurd cc
-
 -- rows of which none breaks a rule pass a test that the rules imply
 pub passes_from : {K X : Type 0} (key : X → K) (code : Option K → X → ℕ) (test : Option K → X → Bool) → ((last : Option K) (x : X) → code last x ≡ 0 → test last x ≡ true) → (last : Option K) (xs : List X)
     → first_fault (codes_from key code last xs) ≡ None → Passes key test last xs
 passes_from key code test h last [] none = tt
 passes_from key code test h last (x ∷ xs) none =
-    let t = zero_head (code last x) (first_fault (codes_from key code (Some (key x)) xs)) (eqb (code last x) 0) refl none in
+    let t = clean_head (code last x) (first_fault (codes_from key code (Some (key x)) xs)) (eqb (code last x) 0) refl none in
     (h last x t.0, passes_from key code test h (Some (key x)) xs t.1)
 
 -- the row of a fault, with the rows before it

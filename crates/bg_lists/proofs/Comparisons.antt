@@ -1,6 +1,6 @@
 -- Laws of a total comparison, and of the test `before` that it gives.
 use Rattle.std.proofs.Common.{◌≡◌, ℕ, ◌<◌, ◌==◌, true, false, Ordering, Less, Equal, Greater, sym, ap, ◌∙◌, refl, arith, nat_cmp, is_lt, is_eq}
-use Rattle.std.specs.Ordering.{ordering_reverse, eq_by_cmp}
+use Rattle.std.specs.Ordering.{ordering_reverse, eq_by_cmp, ordering_then}
 use Rattle.std.specs.Cmp.{IsTotalOrder}
 use Rattle.std.proofs.lemmas.Cmp.{tied_itself}
 use Rattle.std.proofs.lemmas.Bool.Decides.{nat_tests}
@@ -15,6 +15,12 @@ pub Equal-from_is_eq : (o : Ordering) → is_eq o ≡ true → o ≡ Equal
 Equal-from_is_eq Less e = cc
 Equal-from_is_eq Equal e = refl
 Equal-from_is_eq Greater e = cc
+
+-- of two comparisons in turn, both say Equal where the whole does
+pub both_equal : (o p : Ordering) → ordering_then o p ≡ Equal → (o ≡ Equal) × (p ≡ Equal)
+both_equal Less p e = cc
+both_equal Equal p e = (refl, e)
+both_equal Greater p e = cc
 
 flipped : (o p : Ordering) → o ≡ ordering_reverse p → is_lt p ≡ false → is_eq p ≡ false → o ≡ Less
 flipped o Less e not_less not_equal = cc

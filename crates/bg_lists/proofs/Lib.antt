@@ -9,3 +9,4 @@ pub mod Searches
 pub mod Sets
 pub mod Groups
 pub mod Merges
+pub mod Tests

@@ -1,6 +1,6 @@
 -- Laws of membership: members of a list that is made of others, there and back.
-use Rattle.std.proofs.Common.{◌≡◌, Bool, true, false, List, [], ◌∷◌, ◌++◌, map, filter, refl, sym, ap, subst, ◌∙◌, ◌⊎◌, inl, inr}
-use Rattle.std.proofs.lemmas.Bool.{cond_both}
+use Rattle.std.proofs.Common.{◌≡◌, Bool, true, false, List, [], ◌∷◌, ◌++◌, map, filter, refl, sym, ap, subst, ◌∙◌, ◌⊎◌, inl, inr, cond}
+use Rattle.std.proofs.lemmas.Bool.{cond_both, cond-true, cond-false}
 use Rattle.bg_lists.specs.Lists.{Mem, here, there, Disjoint}
 
 module _ {X : Type 0} where
@@ -47,6 +47,13 @@ module _ {X : Type 0} where
       (λ pass k. elim (Mem-cons_cases k) [ inl e ↦ (here e, ap test (sym e) ∙ pass) | inr n ↦ (let w = Mem-unfilter test ys n in (there w.0, w.1)) ])
       (λ _ k. let w = Mem-unfilter test ys k in (there w.0, w.1)) m
 
+  -- tests that agree on the members leave the same
+  pub filter_agree_on : (test other : X → Bool) (xs : List X) → ((x : X) → Mem x xs → test x ≡ other x) → filter test xs ≡ filter other xs
+  filter_agree_on test other [] same = refl
+  filter_agree_on test other (x ∷ xs) same =
+      ap (λ b. cond b (x ∷ filter test xs) (filter test xs)) (same x (here refl))
+      ∙ ap (λ ys. cond (other x) (x ∷ ys) ys) (filter_agree_on test other xs (λ y m. same y (there m)))
+
   -- lists with no member in common
   pub Disjoint-back : {xs ys : List X} → Disjoint xs ys → Disjoint ys xs
   Disjoint-back d = record { apart = λ x m n. d.apart x n m }
@@ -80,3 +87,12 @@ module _ {X Y : Type 0} where
 pub map-map : {X Y Z : Type 0} (f : X → Y) (g : Y → Z) (xs : List X) → map g (map f xs) ≡ map (λ x. g (f x)) xs
 map-map f g [] = refl
 map-map f g (x ∷ xs) = ap (λ zs. g (f x) ∷ zs) (map-map f g xs)
+
+-- what is left of a map is the map of what is left
+pub filter-map : {X Y : Type 0} (f : X → Y) (test : Y → Bool) (xs : List X) → filter test (map f xs) ≡ map f (filter (λ x. test (f x)) xs)
+filter-map f test [] = refl
+filter-map f test (x ∷ xs) =
+    ap (λ ys. cond (test (f x)) (f x ∷ ys) ys) (filter-map f test xs)
+    ∙ cond_both (test (f x)) (x ∷ filter (λ y. test (f y)) xs) (filter (λ y. test (f y)) xs)
+    (λ zs. cond (test (f x)) (f x ∷ map f (filter (λ y. test (f y)) xs)) (map f (filter (λ y. test (f y)) xs)) ≡ map f zs)
+    (λ e. cond-true (test (f x)) _ _ e) (λ e. cond-false (test (f x)) _ _ e)

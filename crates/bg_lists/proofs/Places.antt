@@ -1,5 +1,6 @@
 -- Laws of places: what stands at a place of a list that is made of others, there and back.
-use Rattle.std.proofs.Common.{◌≡◌, ℕ, zero, suc, ◌+◌, ◌<◌, List, [], ◌∷◌, ◌++◌, map, length, get_or, slice_get, Some, refl, sym, ap, subst, ◌∙◌, arith, suc-add, zero-add}
+use Rattle.std.proofs.Common.{◌≡◌, ℕ, zero, suc, ◌+◌, ◌<◌, List, [], ◌∷◌, ◌++◌, map, length, get_or, slice_get, Some, refl, sym, ap, subst, ◌∙◌, arith, suc-add, zero-add, slice_set}
+use Rattle.std.proofs.lemmas.List.{length-append}
 use Rattle.bg_lists.specs.Lists.{Mem, here, there, At, at_here, at_there}
 
 module _ {X : Type 0} where
@@ -62,6 +63,30 @@ module _ {X : Type 0} where
   pub At-append_right : {x : X} (i : ℕ) (xs ys : List X) → At x i ys → At x (length xs + i) (xs ++ ys)
   At-append_right {x} i [] ys a = rw zero-add a
   At-append_right {x} i (y ∷ xs) ys a = rw suc-add (at_there (At-append_right i xs ys a))
+
+  -- what stands in a list stands there still where others follow
+  pub slice_get-append_left : (xs ys : List X) (i : ℕ) → i < length xs → slice_get (xs ++ ys) i ≡ slice_get xs i
+  slice_get-append_left [] ys i below = absurd (omega (arith, below))
+  slice_get-append_left (x ∷ xs) ys zero below = refl
+  slice_get-append_left (x ∷ xs) ys (suc i) below = slice_get-append_left xs ys i (omega (arith, below))
+
+  pub length-append_one : (xs : List X) (x : X) → length (xs ++ x ∷ []) ≡ length xs + 1
+  length-append_one xs x = length-append xs (x ∷ [])
+
+  -- an item that is set: it stands at its place, and the others stay
+  pub get-set_same : (xs : List X) (i at : ℕ) (x : X) → i ≡ at → at < length xs → slice_get (slice_set xs at x) i ≡ Some x
+  get-set_same [] i at x same inside = absurd (omega (arith, inside))
+  get-set_same (y ∷ ys) zero zero x same inside = refl
+  get-set_same (y ∷ ys) zero (suc at) x same inside = absurd (omega (arith, same))
+  get-set_same (y ∷ ys) (suc i) zero x same inside = absurd (omega (arith, same))
+  get-set_same (y ∷ ys) (suc i) (suc at) x same inside = get-set_same ys i at x (omega (arith, same)) (omega (arith, inside))
+
+  pub get-set_other : (xs : List X) (i at : ℕ) (x : X) → (i ≡ at → ⊥) → slice_get (slice_set xs at x) i ≡ slice_get xs i
+  get-set_other [] i at x apart = refl
+  get-set_other (y ∷ ys) zero zero x apart = absurd (apart refl)
+  get-set_other (y ∷ ys) zero (suc at) x apart = refl
+  get-set_other (y ∷ ys) (suc i) zero x apart = refl
+  get-set_other (y ∷ ys) (suc i) (suc at) x apart = get-set_other ys i at x (λ e. apart (ap suc e))
 
   -- lists of one length with the same at each place are equal
   pub same_by_places : (xs ys : List X) → length xs ≡ length ys

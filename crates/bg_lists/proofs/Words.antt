@@ -1,5 +1,5 @@
 -- Between membership and std's words: `All`, `Contains`, `list_all`, `find`, `IsPermutation`.
-use Rattle.std.proofs.Common.{filter, ◌≤◌, ◌<◌, cond, length, arith, ◌≡◌, Bool, true, false, List, [], ◌∷◌, get_or, All, Contains, find, is_some, Option, Some, None, IsPermutation, refl, sym, ap, subst, ◌∙◌, inl, inr}
+use Rattle.std.proofs.Common.{filter, ◌≤◌, ◌<◌, cond, length, arith, ◌≡◌, Bool, true, false, List, [], ◌∷◌, get_or, All, Contains, find, is_some, Option, Some, None, IsPermutation, refl, sym, ap, subst, ◌∙◌, inl, inr, ◌||◌}
 use Rattle.std.specs.List.{list_all, list_any}
 use Rattle.std.proofs.lemmas.Bool.{false≢true, false_from_ne_true, cond_both, cond-true, cond-false, cases_Bool, and_parts, and_from, or_cases, or_left, or_right}
 use Rattle.std.proofs.lemmas.List.Sorted.{Contains-permutation, IsPermutation-sym}
@@ -43,6 +43,10 @@ module _ {X : Type 0} where
       elim (or_cases (test x) (list_any test xs) any)
       [ inl e ↦ (x, here refl, e) | inr e ↦ (let w = member_from_list_any test xs e in (w.0, there w.1, w.2)) ]
 
+  pub fails_from_list_any : (test : X → Bool) (xs : List X) → list_any test xs ≡ false → (x : X) → Mem x xs → test x ≡ false
+  fails_from_list_any test xs none x m =
+      false_from_ne_true (test x) (λ pass. false≢true (sym none ∙ list_any-from_member test xs m pass))
+
   -- the first that passes is a member that passes
   pub member_from_find : (test : X → Bool) (xs : List X) (x : X) → find test xs ≡ Some x → Mem x xs × (test x ≡ true)
   member_from_find test [] x e = cc
@@ -79,6 +83,14 @@ module _ {X : Type 0} where
         | inl same ↦ (let clash : true ≡ false = sym pass ∙ ap test (sym same) ∙ fail in cc)
         | inr n ↦ is_some_find test ys n pass
       ])
+
+  found_case : (x : X) (pass any : Bool) (o : Option X) → is_some o ≡ any → is_some (cond pass (Some x) o) ≡ (pass || any)
+  found_case x true any o e = refl
+  found_case x false any o e = e
+
+  pub found_any : (test : X → Bool) (xs : List X) → is_some (find test xs) ≡ list_any test xs
+  found_any test [] = refl
+  found_any test (x ∷ xs) = found_case x (test x) (list_any test xs) (find test xs) (found_any test xs)
 
   found_go : (test : X → Bool) (xs : List X) (o : Option X) → find test xs ≡ o → is_some o ≡ true
       → (x : X) × (find test xs ≡ Some x) × Mem x xs × (test x ≡ true)

@@ -1,5 +1,5 @@
 -- What is not there has no children and no sites; depths count from the regions.
-use Rattle.std.proofs.Common.{◌≡◌, ℕ, zero, suc, ◌+◌, true, false, List, [], ◌∷◌, map, length, Some, unwrap_or, option_map, refl, sym, ap, ◌∙◌, arith, eqb-true, IsTrue}
+use Rattle.std.proofs.Common.{◌≡◌, ℕ, zero, suc, ◌+◌, true, false, List, [], ◌∷◌, map, length, Some, unwrap_or, option_map, refl, sym, ap, ◌∙◌, arith, IsTrue}
 use Rattle.std.proofs.lemmas.Bool.{false≢true, false_from_ne_true, cond-false}
 use Rattle.std.proofs.lemmas.List.{length-map}
 use Rattle.bg_lists.specs.Lists.{Mem, here, there}
@@ -13,14 +13,9 @@ use Rattle.bg_base.specs.Bigraph.{IsValid, has_place}
 use Rattle.bg_place.specs.declared.graph.ParentRow.{ParentRow}
 use Rattle.bg_place.specs.Places.{parent_row, places_of, same_place, number_of, numbers_in, numbered, parent_in, parent_of, children_of, child_sites_of, climb, ancestors_in, depth_of}
 use Rattle.bg_place.proofs.AncestryLaws.{whole_climb}
+use Rattle.bg_place.proofs.RowLaws.{same_place_from_test}
 
 -- ---- places that are not there
-
-same_place-is : (p q : Place) → same_place p q ≡ true → p ≡ q
-same_place-is (Node m) (Node n) e = ap Node (eqb-true m n e)
-same_place-is (Node m) (Region n) e = cc
-same_place-is (Region m) (Node n) e = cc
-same_place-is (Region m) (Region n) e = ap Region (eqb-true m n e)
 
 parent-numbered : (number : ℕ) (places : List Place) {row : ParentRow} → Mem row (numbered number places) → Mem row.parent places
 parent-numbered number [] m = elim m [ ]
@@ -34,7 +29,7 @@ module _ (big : Big) (place : Place) (valid : IsValid big) (absent : has_place b
   none_in (row ∷ rows) each =
       ap (map number_of) (cond-false (same_place row.parent place) _ _
       (false_from_ne_true (same_place row.parent place)
-      (λ same. false≢true (sym absent ∙ ap (has_place big) (sym (same_place-is row.parent place same)) ∙ each row (here refl)))))
+      (λ same. false≢true (sym absent ∙ ap (has_place big) (sym (same_place_from_test row.parent place same)) ∙ each row (here refl)))))
       ∙ none_in rows (λ other m. each other (there m))
 
   pub no_children : children_of (places_of big) place ≡ []

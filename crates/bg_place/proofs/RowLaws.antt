@@ -1,5 +1,5 @@
--- Laws of the rows of places: look-up, order, the rows of two bigraphs.
-use Rattle.std.proofs.Common.{◌≡◌, ℕ, ◌==◌, List, ◌++◌, length, map, get_or, nat_cmp, Some, None, Result, Ok, Err, MatchResult, refl, sym, ap, ◌∙◌}
+-- Laws of places that are the same and of the rows of places: look-up, order, the rows of two bigraphs.
+use Rattle.std.proofs.Common.{◌≡◌, ℕ, ◌==◌, List, ◌++◌, length, map, get_or, nat_cmp, Some, None, Result, Ok, Err, MatchResult, refl, sym, ap, ◌∙◌, true, eqb-true, eq-eqb}
 use Rattle.std.specs.List.Sorted.{IsSearchInRange, IsBinarySearchResult, IsStrictlySortedBy}
 use Rattle.std.proofs.lemmas.Cmp.{nat_cmp_total}
 use Rattle.std.proofs.lemmas.List.{map-append}
@@ -12,6 +12,7 @@ use Rattle.bg_lists.proofs.Comparisons.{eqb-nat_cmp}
 use Rattle.bg_lists.proofs.Places.{At-total, get_or-At, slice_get-At}
 use Rattle.bg_lists.proofs.Ascents.{Ascending-from_sorted, sorted_from_Ascending, Ascending-map}
 use Rattle.bg_base.specs.declared.names.Place.{Place}
+use Rattle.bg_base.specs.declared.names.Place.TheVariants.{Node, Region}
 use Rattle.bg_base.specs.declared.big.NodeRow.{NodeRow}
 use Rattle.bg_base.specs.declared.big.Big.{Big}
 use Rattle.bg_base.specs.Bigraph.{node_cmp}
@@ -19,8 +20,19 @@ use Rattle.bg_base.specs.Composition as through
 use Rattle.bg_base.specs.Composition.{compose}
 use Rattle.bg_base.specs.Products.{row_beside, tensor, parallel}
 use Rattle.bg_place.specs.declared.graph.ParentRow.{ParentRow}
-use Rattle.bg_place.specs.Places.{parent_row, places_of, row_of, moved_row, joined_parents, parents_beside}
+use Rattle.bg_place.specs.Places.{parent_row, places_of, row_of, moved_row, joined_parents, parents_beside, same_place}
 use Rattle.bg_place.specs.Rows.{parent_cmp, IsRowAt}
+
+-- the test that places are the same
+pub same_place_from_test : (p q : Place) → same_place p q ≡ true → p ≡ q
+same_place_from_test (Node m) (Node n) e = ap Node (eqb-true m n e)
+same_place_from_test (Node m) (Region n) e = cc
+same_place_from_test (Region m) (Node n) e = cc
+same_place_from_test (Region m) (Region n) e = ap Region (eqb-true m n e)
+
+pub same_place-itself : (p : Place) → same_place p p ≡ true
+same_place-itself (Node m) = eq-eqb m m refl
+same_place-itself (Region m) = eq-eqb m m refl
 
 -- what a binary search of ascending rows answers
 found_by : (rows : List ParentRow) (node : ℕ) → IsStrictlySortedBy parent_cmp rows → (r : Result ℕ ℕ)

@@ -1,36 +1,17 @@
 -- Laws of the search for the nodes that lie in a node, where no climb needs more moves than there are rows.
-use Rattle.std.proofs.Common.{◌≡◌, ℕ, zero, suc, ◌<◌, ◌==◌, ◌||◌, Bool, Option, Some, None, option_map, unwrap_or, List, [], ◌∷◌, length, slice_get, slice_set, length-set, refl, sym, ap, ◌∙◌, arith, eqb-true, inl, inr}
+use Rattle.std.proofs.Common.{◌≡◌, ℕ, ◌<◌, ◌==◌, ◌||◌, Bool, Option, Some, None, option_map, unwrap_or, List, [], length, slice_get, slice_set, length-set, sym, ap, ◌∙◌, arith, eqb-true, inl, inr}
 use Rattle.std.specs.List.{list_any}
 use Rattle.std.proofs.lemmas.Bool.{false_from_ne_true, cases_eq}
 use Rattle.std.proofs.lemmas.Option.{slice_get_within}
 use Rattle.bg_lists.proofs.Words.{member_from_find}
+use Rattle.bg_lists.proofs.Places.{get-set_other, get-set_same}
+use Rattle.bg_lists.proofs.Tests.{given_mark}
 use Rattle.bg_base.specs.declared.names.Place.{Place}
 use Rattle.bg_base.specs.declared.names.Place.TheVariants.{Node, Region}
 use Rattle.bg_place.specs.declared.graph.ParentRow.{ParentRow}
 use Rattle.bg_place.specs.Places.{climb, is_within, is_above}
 use Rattle.bg_place.specs.Rows.{IsRowOf, IsSettled, AreMarked, lies_in}
 use Rattle.bg_place.proofs.ClimbLaws.{climb_region}
-
--- ---- an item that is set
-
-get-set_other : {X : Type 0} (xs : List X) (k at : ℕ) (x : X) → (k ≡ at → ⊥) → slice_get (slice_set xs at x) k ≡ slice_get xs k
-get-set_other [] k at x apart = refl
-get-set_other (y ∷ ys) zero zero x apart = absurd (apart refl)
-get-set_other (y ∷ ys) zero (suc at) x apart = refl
-get-set_other (y ∷ ys) (suc k) zero x apart = refl
-get-set_other (y ∷ ys) (suc k) (suc at) x apart = get-set_other ys k at x (λ e. apart (ap suc e))
-
-get-set_same : {X : Type 0} (xs : List X) (k at : ℕ) (x : X) → k ≡ at → at < length xs → slice_get (slice_set xs at x) k ≡ Some x
-get-set_same [] k at x same inside = absurd (omega (arith, inside))
-get-set_same (y ∷ ys) zero zero x same inside = refl
-get-set_same (y ∷ ys) zero (suc at) x same inside = absurd (omega (arith, same))
-get-set_same (y ∷ ys) (suc k) zero x same inside = absurd (omega (arith, same))
-get-set_same (y ∷ ys) (suc k) (suc at) x same inside = get-set_same ys k at x (omega (arith, same)) (omega (arith, inside))
-
--- what is known of a row is its mark
-given : (mark : Option (Option Bool)) (inside : Bool) → unwrap_or mark None ≡ Some inside → mark ≡ Some (Some inside)
-given None inside e = cc
-given (Some mark) inside e = ap Some e
 
 -- ---- climbs and marks
 
@@ -76,7 +57,7 @@ module _ (rows : List ParentRow) (upper : ℕ) where
       → unwrap_or (slice_get marks at) None ≡ Some inside → inside ≡ is_within rows upper lower
   climbed_marked lower moves node at row marks inside climbed is marked e =
       sym (climbed.leads ∙ ap (is_within rows upper) (sym (row_number node at row is))
-      ∙ marked.right at row inside is.there (given (slice_get marks at) inside e))
+      ∙ marked.right at row inside is.there (given_mark (slice_get marks at) inside e))
 
   -- the marks stay right where the row of a node that is known is marked
   marked_here : (k at node : ℕ) (row other : ParentRow) (inside mark : Bool) → is_within rows upper node ≡ inside → IsRowOf rows node at row

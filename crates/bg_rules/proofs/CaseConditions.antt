@@ -14,12 +14,12 @@ use Rattle.bg_base.specs.declared.big.NodeRow.{NodeRow}
 use Rattle.bg_base.specs.declared.big.Big.{Big}
 use Rattle.bg_base.specs.Translation.{node_numbers}
 use Rattle.bg_base.specs.Products.{same_link}
-use Rattle.bg_base.proofs.NameLaws.{test_same_name}
+use Rattle.bg_base.proofs.NameLaws.{test_same_name, same_link_from_test}
 use Rattle.bg_place.specs.Places.{same_place}
+use Rattle.bg_place.proofs.RowLaws.{same_place_from_test}
 use Rattle.bg_rules.specs.Solid.{is_node}
 use Rattle.bg_rules.specs.Decomposition.{AreNew}
 use Rattle.bg_rules.specs.LocalConditions.{Meets, at_place, above, image_of, IsImage, IsEdgeImage, MeetsLocally}
-use Rattle.bg_rules.proofs.Patterns.{same_place_from_test, same_link_from_test}
 use Rattle.bg_rules.proofs.CaseTests.{are_new, new-from_test}
 
 same_place-by : (p q : Place) → p ≡ q → same_place p q ≡ true

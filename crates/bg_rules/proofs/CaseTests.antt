@@ -4,7 +4,7 @@ use Rattle.std.proofs.Common.{◌≡◌, ℕ, zero, suc, ◌+◌, ◌≤◌, ◌
 use Rattle.std.specs.Option.{is_some}
 use Rattle.std.specs.Ordering.{eq_by_cmp}
 use Rattle.std.specs.List.{list_all, AllByRecursion, IsDistinct}
-use Rattle.std.proofs.lemmas.Bool.{and_parts, false≢true, cases_Bool}
+use Rattle.std.proofs.lemmas.Bool.{and_parts, false≢true, cases_Bool, not-true}
 use Rattle.std.proofs.lemmas.List.Elements.{All-from_recursion}
 use Rattle.bg_lists.specs.Lists.{Mem, here, there}
 use Rattle.bg_lists.proofs.Words.{All-from_members, list_all-member}
@@ -38,15 +38,11 @@ use Rattle.bg_rules.specs.Decomposition.{port_names, names_of, IsParameter, fram
 pass_each : {X : Type 0} (test : X → Bool) (xs : List X) → list_all test xs ≡ true → All (λ x. test x ≡ true) xs
 pass_each test xs all = All-from_members (λ x. test x ≡ true) xs (λ x m. list_all-member test xs all m)
 
-not_true : (b : Bool) → not b ≡ true → b ≡ false
-not_true true e = absurd (false≢true e)
-not_true false e = refl
-
 fail_each_by_recursion : {X : Type 0} (test : X → Bool) (xs : List X) → list_all (λ x. not (test x)) xs ≡ true → AllByRecursion (λ x. test x ≡ false) xs
 fail_each_by_recursion test [] all = tt
 fail_each_by_recursion test (x ∷ xs) all =
     let parts = and_parts (not (test x)) (list_all (λ y. not (test y)) xs) all in
-    (not_true (test x) parts.0, fail_each_by_recursion test xs parts.1)
+    (not-true (test x) parts.0, fail_each_by_recursion test xs parts.1)
 
 fail_each : {X : Type 0} (test : X → Bool) (xs : List X) → list_all (λ x. not (test x)) xs ≡ true → All (λ x. test x ≡ false) xs
 fail_each test xs all = All-from_recursion (λ x. test x ≡ false) xs (fail_each_by_recursion test xs all)
@@ -252,7 +248,7 @@ pub not_among : (n : ℕ) (ns : List ℕ) → list_all (λ m. not (eqb m n)) ns 
 not_among n [] all m = elim m [ ]
 not_among n (k ∷ ns) all (here e) =
     let parts = and_parts (not (eqb k n)) (list_all (λ m. not (eqb m n)) ns) all in
-    false≢true (sym (not_true (eqb k n) parts.0) ∙ eq-eqb k n e)
+    false≢true (sym (not-true (eqb k n) parts.0) ∙ eq-eqb k n e)
 not_among n (k ∷ ns) all (there m) =
     let parts = and_parts (not (eqb k n)) (list_all (λ m. not (eqb m n)) ns) all in not_among n ns parts.1 m
 

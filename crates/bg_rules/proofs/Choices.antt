@@ -6,7 +6,7 @@ use Rattle.bg_lists.proofs.Members.{Mem-cons_cases}
 use Rattle.bg_lists.proofs.Places.{not_At-nil, At-from_Mem, Mem-from_At, At-below, At-total}
 use Rattle.bg_base.specs.declared.names.Place.{Place}
 use Rattle.bg_place.specs.Places.{same_place}
-use Rattle.bg_rules.proofs.Patterns.{same_place_from_test, same_place-itself}
+use Rattle.bg_place.proofs.RowLaws.{same_place_from_test, same_place-itself}
 
 -- ---- one entry for each entry of another list
 

@@ -21,7 +21,7 @@ use Rattle.bg_base.specs.Composition.{place_through, link_through, inner_names}
 use Rattle.bg_base.specs.Elementary.{counted}
 use Rattle.bg_base.specs.Translation.{along, place_renamed, link_renamed}
 use Rattle.bg_base.proofs.LookUps.{inner_of-member}
-use Rattle.bg_algebra.proofs.Nested.{Mem-counted, length-counted}
+use Rattle.bg_base.proofs.Counted.{Mem-counted, length-counted}
 use Rattle.bg_algebra.proofs.CompositionLaws.{At-counted}
 use Rattle.bg_rules.specs.Solid.{IsPattern}
 use Rattle.bg_rules.specs.Decomposition.{port_names, names_of}

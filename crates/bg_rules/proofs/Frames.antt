@@ -17,15 +17,15 @@ use Rattle.bg_base.specs.Composition.{inner_names}
 use Rattle.bg_base.specs.Elementary.{counted, row_to_itself, identity}
 use Rattle.bg_base.specs.Translation.{place_renamed, row_renamed, inner_renamed, rename}
 use Rattle.bg_base.proofs.Composed.{SupportsApart-from_members}
+use Rattle.bg_base.proofs.Counted.{length-counted, counted_ascends}
 use Rattle.bg_algebra.specs.Frame.{is_plain, is_port, framed}
 use Rattle.bg_algebra.specs.Laws.{Apart}
 use Rattle.bg_algebra.proofs.Renamed.{renamed_numbers, rename_valid, rename_valid_under}
 use Rattle.bg_algebra.proofs.Beside.{tensor_valid, tensor_valid_under}
-use Rattle.bg_algebra.proofs.Nested.{identity_valid, identity_valid_under, length-counted}
+use Rattle.bg_algebra.proofs.Nested.{identity_valid, identity_valid_under}
 use Rattle.bg_algebra.proofs.ProductLaws.{InnerApart-from_members, OuterApart-from_members}
 use Rattle.bg_rules.specs.Decomposition.{port_names, names_of, IsParameter, AreNew, frame}
 use Rattle.bg_algebra.proofs.Framed.{framed_same}
-use Rattle.bg_rules.proofs.PortNames.{counted_ascends}
 
 -- numbers in a row are new
 pub counted_new : (first count : ℕ) → AreNew (counted first count) count

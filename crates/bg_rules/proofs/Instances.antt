@@ -1,6 +1,6 @@
 -- An instance of a parameter is a valid ground bigraph without edges, with the parameter's outer names and a region for
 -- each entry; its numbers are numbers of the parameter, or new.
-use Rattle.std.proofs.Common.{◌≡◌, ℕ, ◌<◌, ◌≤◌, true, false, List, [], length, Some, unwrap_or, option_map, All, refl, sym, ap, subst, ◌∙◌, ◌⊎◌}
+use Rattle.std.proofs.Common.{◌≡◌, ℕ, ◌<◌, ◌≤◌, true, false, List, [], length, All, refl, sym, ap, subst, ◌∙◌, ◌⊎◌}
 use Rattle.std.specs.List.Sorted.{IsStrictlySortedBy}
 use Rattle.bg_lists.specs.Lists.{Mem, At, sort}
 use Rattle.bg_lists.specs.Orders.{before}
@@ -16,9 +16,9 @@ use Rattle.bg_base.specs.declared.big.NodeRow.{NodeRow}
 use Rattle.bg_base.specs.declared.big.Big.{Big}
 use Rattle.bg_base.specs.declared.signature.Control.{Control}
 use Rattle.bg_base.specs.Order.{name_cmp}
-use Rattle.bg_base.specs.Bigraph.{IsValid, IsValidUnder, IsGround, node_cmp, row_of, has_place, has_link, is_atomic, is_atomic_control, arity_of}
+use Rattle.bg_base.specs.Bigraph.{IsValid, IsValidUnder, IsGround, node_cmp, has_place, has_link, is_atomic, arity_of}
 use Rattle.bg_base.specs.Translation.{node_numbers}
-use Rattle.bg_base.proofs.LookUps.{node_cmp_total, row_from_row_of, row_of-member, row_from_has, has_row, has_region, member_from_has_edge}
+use Rattle.bg_base.proofs.LookUps.{node_cmp_total, row_from_row_of, row_of-member, row_from_has, has_row, has_region, member_from_has_edge, is_atomic-row}
 use Rattle.bg_base.proofs.Climbs.{Climb, at_region, at_node, Climb-from_place}
 use Rattle.bg_algebra.proofs.Parts.{IsSound, Fits, valid_from_rows, valid_under_from_rows}
 use Rattle.bg_rules.specs.Decomposition.{IsParameter}
@@ -26,12 +26,6 @@ use Rattle.bg_rules.specs.Instantiation.{part, number_in_copy, place_in_copy, ro
 use Rattle.bg_rules.proofs.Patterns.{number_row, number_mem, parent_there, link_there}
 use Rattle.bg_rules.proofs.ParameterParts.{is_in_part, parent_under, Mem-part, Mem-unpart}
 use Rattle.bg_rules.proofs.Copies.{IsCopy, copy_cases, Mem-copies, copies_distinct, number_below, number_origin}
-
--- a node is atomic where the control of its row is
-pub is_atomic-row : (signature : List Control) (big : Big) (node : ℕ) {row : NodeRow} → row_of big.nodes node ≡ Some row
-    → is_atomic signature big (Node node) ≡ is_atomic_control signature row.control
-is_atomic-row signature big node e =
-    ap (λ o. unwrap_or (option_map (λ (row : NodeRow). is_atomic_control signature row.control) o) false) e
 
 -- each row's number is below, so each number is
 pub number_below_from_all : (parameter : Big) (next : ℕ) → All (λ (row : NodeRow). row.id < next) parameter.nodes

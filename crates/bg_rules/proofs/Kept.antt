@@ -5,6 +5,7 @@ use Rattle.bg_base.specs.declared.big.Big.{Big}
 use Rattle.bg_base.specs.Composition.{compose}
 use Rattle.bg_base.specs.Products.{lean, has_point}
 use Rattle.bg_base.proofs.Composed.{compose_regions, compose_outer}
+use Rattle.bg_base.proofs.ProductLaws.{lean_outer}
 use Rattle.bg_algebra.proofs.Changes.{lean_used}
 use Rattle.bg_rules.specs.Instantiation.{late_nodes}
 use Rattle.bg_rules.specs.Reaction.{HostParts, Reacts}
@@ -14,10 +15,6 @@ use Rattle.bg_rules.proofs.Grounded.{context_regions, context_outer}
 lean_regions : (big : Big) → (lean big).regions ≡ big.regions
 unfolding lean
 lean_regions big = refl
-
-lean_outer : (big : Big) → (lean big).outer ≡ big.outer
-unfolding lean
-lean_outer big = refl
 
 module _ (host : HostParts) (redex reactum : Big) (entries nodes : List ℕ) (after : HostParts) (r : Reacts host redex reactum entries nodes after) where
   abbrev inside : Big

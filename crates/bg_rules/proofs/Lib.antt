@@ -11,6 +11,7 @@ pub mod Images
 pub mod Parameters
 pub mod Contexts
 pub mod Construct
+pub mod TupleLaws
 pub mod Occurrences
 pub mod SolidLaws
 pub mod Counters

@@ -1,11 +1,12 @@
 -- The parts of a parameter under its regions: each node is in one of them, with all that lies in it.
-use Rattle.std.proofs.Common.{◌≡◌, ℕ, zero, suc, ◌<◌, Bool, true, false, List, filter, length, Option, Some, None, unwrap_or, option_map, refl, sym, ap, subst, ◌∙◌, eqb-true, eq-eqb}
+use Rattle.std.proofs.Common.{◌≡◌, ℕ, zero, suc, ◌<◌, Bool, true, false, List, filter, length, Some, unwrap_or, option_map, refl, sym, ap, subst, ◌∙◌, eqb-true, eq-eqb}
 use Rattle.std.specs.List.{IsDistinct}
 use Rattle.std.specs.Ordering.{eq_by_cmp}
 use Rattle.bg_lists.specs.Lists.{Mem}
 use Rattle.bg_lists.proofs.Members.{Mem-filter, Mem-unfilter}
 use Rattle.bg_lists.proofs.Ascents.{Ascending-from_sorted, Ascending-filter}
 use Rattle.bg_lists.proofs.Sorting.{IsDistinct-from_Ascending}
+use Rattle.bg_lists.proofs.Tests.{some_from_unwrap}
 use Rattle.bg_base.specs.declared.names.Place.{Place}
 use Rattle.bg_base.specs.declared.names.Place.TheVariants.{Node, Region}
 use Rattle.bg_base.specs.declared.big.NodeRow.{NodeRow}
@@ -19,11 +20,6 @@ use Rattle.bg_base.proofs.Climbs.{row_from_reaches, reaches-Climb, Climb-from_pl
 use Rattle.bg_rules.proofs.Patterns.{node_place}
 
 -- ---- from a place one region is reached
-
-some_from_unwrap : (test : NodeRow → Bool) (o : Option NodeRow) → unwrap_or (option_map test o) false ≡ true
-    → (row : NodeRow) × (o ≡ Some row) × (test row ≡ true)
-some_from_unwrap test None e = cc
-some_from_unwrap test (Some row) e = (row, refl, e)
 
 module _ (rows : List NodeRow) where
   pub row_from_under : (region moves node : ℕ) → is_under rows region (suc moves) (Node node) ≡ true

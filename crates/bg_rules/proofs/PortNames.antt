@@ -1,11 +1,10 @@
 -- The names of ports: they ascend, and each tells its node and its port.
-use Rattle.std.proofs.Common.{◌≡◌, ℕ, zero, suc, ◌+◌, ◌<◌, true, false, List, [], ◌∷◌, length, nat_cmp, Less, refl, sym, ap, subst, ◌∙◌, inl, inr, arith, Ordering}
+use Rattle.std.proofs.Common.{◌≡◌, ℕ, ◌+◌, ◌<◌, true, false, List, [], ◌∷◌, length, nat_cmp, Less, refl, sym, ap, subst, ◌∙◌, inl, inr, arith, Ordering}
 use Rattle.std.specs.Ordering.{ordering_then}
 use Rattle.std.proofs.lemmas.Cmp.{tied_itself, nat_cmp_total}
 use Rattle.std.proofs.lemmas.List.{length-map}
 use Rattle.bg_lists.specs.Lists.{Mem, here, there, At}
 use Rattle.bg_lists.specs.Orders.{Ascending, asc_nil, asc_cons}
-use Rattle.bg_lists.proofs.Comparisons.{nat_cmp-lt}
 use Rattle.bg_lists.proofs.Members.{Mem-same, Mem-append_left, Mem-append_right, Mem-append_cases, Mem-unmap}
 use Rattle.bg_lists.proofs.Places.{Mem-from_At, At-total, At-unmap}
 use Rattle.bg_lists.proofs.Ascents.{Ascending-append, Ascending-map}
@@ -15,16 +14,10 @@ use Rattle.bg_base.specs.declared.big.NodeRow.{NodeRow}
 use Rattle.bg_base.specs.Order.{name_cmp}
 use Rattle.bg_base.specs.Bigraph.{node_cmp}
 use Rattle.bg_base.specs.Elementary.{counted}
+use Rattle.bg_base.proofs.Counted.{Mem-counted, length-counted, counted_ascends}
 use Rattle.bg_algebra.specs.Frame.{is_plain}
-use Rattle.bg_algebra.proofs.Nested.{Mem-counted, length-counted}
 use Rattle.bg_algebra.proofs.CompositionLaws.{At-counted}
 use Rattle.bg_rules.specs.Decomposition.{port_names, names_of}
-
-pub counted_ascends : (first count : ℕ) → Ascending (λ x y. nat_cmp x y ≡ Less) (counted first count)
-unfolding counted
-counted_ascends first zero = asc_nil
-counted_ascends first (suc count) =
-    asc_cons (λ y m. let w = Mem-counted (suc first) count y m in nat_cmp-lt first y (omega (arith, w.0))) (counted_ascends (suc first) count)
 
 -- ---- the ports of a node
 

@@ -14,9 +14,9 @@ use Rattle.bg_base.specs.Translation.{node_numbers}
 use Rattle.bg_base.specs.Products.{lean, has_point}
 use Rattle.bg_base.proofs.Composed.{SupportsApart-from_members, Mem-compose_cases, Mem-compose_edge_cases, compose_sites, compose_inner, compose_regions, compose_outer}
 use Rattle.bg_base.proofs.ComposedValid.{compose_valid}
+use Rattle.bg_base.proofs.Counted.{Mem-counted}
 use Rattle.bg_algebra.specs.Frame.{is_plain}
 use Rattle.bg_algebra.proofs.Changes.{lean_valid}
-use Rattle.bg_algebra.proofs.Nested.{Mem-counted}
 use Rattle.bg_rules.specs.Decomposition.{AreNew, Decomposes, Occurs}
 use Rattle.bg_rules.specs.Instantiation.{next_after}
 use Rattle.bg_rules.specs.Reaction.{HostParts, IsNumbered, AreSides, recomposed, Reacts}

@@ -14,7 +14,7 @@ use Rattle.bg_base.specs.Bigraph.{IsValidUnder, IsGround, has_place, is_atomic, 
 use Rattle.bg_base.specs.Composition.{link_through, place_through, compose}
 use Rattle.bg_base.specs.Elementary.{counted}
 use Rattle.bg_base.specs.Translation.{place_renamed}
-use Rattle.bg_base.proofs.LookUps.{row_of-member, row_from_has}
+use Rattle.bg_base.proofs.LookUps.{row_of-member, row_from_has, is_atomic-row}
 use Rattle.bg_base.proofs.ComposedValid.{compose_valid_under}
 use Rattle.bg_algebra.proofs.Changes.{lean_valid_under}
 use Rattle.bg_algebra.proofs.Parts.{valid_under_from_rows}
@@ -26,7 +26,7 @@ use Rattle.bg_rules.proofs.Glued.{Glued, pattern_row, parameter_row}
 use Rattle.bg_rules.proofs.Patterns.{parent_there, site_there, full_region}
 use Rattle.bg_rules.proofs.Occurrences.{glued_of}
 use Rattle.bg_rules.proofs.Frames.{counted_new, frame_valid_under}
-use Rattle.bg_rules.proofs.Instances.{is_atomic-row, instance_valid_under}
+use Rattle.bg_rules.proofs.Instances.{instance_valid_under}
 use Rattle.bg_rules.proofs.Reactions.{reactum_side, next_below, recomposable, frame_of_next, instance_of_next, inside_valid, whole_valid}
 
 module _ (signature : List Control) where

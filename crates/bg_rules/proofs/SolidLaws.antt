@@ -6,7 +6,7 @@ use Rattle.std.proofs.lemmas.Bool.{false≢true, cases_Bool, and_parts, and_from
 use Rattle.bg_lists.specs.Lists.{Mem}
 use Rattle.bg_lists.proofs.Ascents.{all_of_members}
 use Rattle.bg_lists.proofs.Sorting.{IsDistinct-members}
-use Rattle.bg_lists.proofs.Words.{All-member, All-from_members, list_all-member, list_all-from_members, list_any-from_member, member_from_list_any}
+use Rattle.bg_lists.proofs.Words.{All-member, All-from_members, list_all-member, list_all-from_members, member_from_list_any, fails_from_list_any}
 use Rattle.bg_base.specs.declared.names.Name.{Name}
 use Rattle.bg_base.specs.declared.names.Place.{Place}
 use Rattle.bg_base.specs.declared.names.Place.TheVariants.{Region}
@@ -41,10 +41,6 @@ not_filled big count region below none =
 
 -- ---- no two sites have one parent
 
-none_passes : {X : Type 0} (test : X → Bool) (xs : List X) → list_any test xs ≡ false → (x : X) → Mem x xs → test x ≡ false
-none_passes test xs none x m =
-    false_from_ne_true (test x) (λ pass. false≢true (sym none ∙ list_any-from_member test xs m pass))
-
 none_from_each : {X : Type 0} (test : X → Bool) (xs : List X) → ((x : X) → Mem x xs → test x ≡ false) → list_any test xs ≡ false
 none_from_each test xs each =
     false_from_ne_true (list_any test xs) (λ any. let w = member_from_list_any test xs any in false≢true (sym (each w.0 w.1) ∙ w.2))
@@ -55,7 +51,7 @@ distinct_from_apart [] apart = tt
 distinct_from_apart (place ∷ places) apart =
     let w = and_parts (not (list_any (same_place place) places)) (are_apart places) apart in (
       all_of_members (λ other. same_place place other ≡ false) places
-          (none_passes (same_place place) places (not-true (list_any (same_place place) places) w.0)),
+          (fails_from_list_any (same_place place) places (not-true (list_any (same_place place) places) w.0)),
       distinct_from_apart places w.1,
     )
 

@@ -11,8 +11,8 @@ use Rattle.bg_base.specs.Bigraph.{IsValid, has_place}
 use Rattle.bg_base.specs.Elementary.{counted}
 use Rattle.bg_base.specs.Translation.{node_numbers}
 use Rattle.bg_base.proofs.LookUps.{row_from_has}
+use Rattle.bg_base.proofs.Counted.{length-counted}
 use Rattle.bg_algebra.proofs.CompositionLaws.{At-counted, same_parts, same_nodes}
-use Rattle.bg_algebra.proofs.Nested.{length-counted}
 use Rattle.bg_rules.specs.Decomposition.{IsParameter}
 use Rattle.bg_rules.specs.Instantiation.{part, number_in_copy, place_in_copy, row_in_copy, instantiate}
 use Rattle.bg_rules.proofs.Patterns.{number_mem, parent_there}

@@ -9,3 +9,4 @@ pub mod Rules
 pub mod Hosts
 pub mod Faults
 pub mod Systems
+pub mod Tuples

@@ -7,6 +7,7 @@ use Rattle.bg_lists.specs.Lists.{Mem, here, there}
 use Rattle.bg_lists.specs.Orders.{set_of}
 use Rattle.bg_lists.proofs.Members.{Mem-append_left, Mem-append_right, Mem-append_cases}
 use Rattle.bg_lists.proofs.Words.{All-member}
+use Rattle.bg_lists.proofs.Places.{slice_get-append_left}
 use Rattle.bg_base.specs.declared.names.Name.{Name}
 use Rattle.bg_base.specs.declared.names.Name.TheVariants.{Plain}
 use Rattle.bg_base.specs.declared.names.Place.{Place}
@@ -33,7 +34,7 @@ use Rattle.bg_algebra.proofs.Merged.{merge_valid_under}
 use Rattle.bg_algebra.proofs.Nested.{identity_valid_under, idle_valid_under, merger_valid_under, barren_valid_under, empty_valid_under, ion_valid_under, atom_valid_under, nest_valid_under}
 use Rattle.bg_values.specs.declared.refusal.Refusal.{Refusal}
 use Rattle.bg_values.proofs.Bindings.{ok_same}
-use Rattle.bg_values.proofs.Items.{member_at, same_before, last_item}
+use Rattle.bg_values.proofs.Items.{member_at, last_item}
 use Rattle.bg_terms.specs.Arities.{HaveArities, AreOneByLabel}
 use Rattle.bg_terms.specs.declared.shape.Product.{Product}
 use Rattle.bg_terms.specs.declared.shape.Product.TheVariants.{Composition, Tensor, Parallel, Merge}
@@ -51,12 +52,12 @@ use Rattle.bg_terms.proofs.Valid.{apart_values, inner_apart, outer_apart, nests,
 
 same_arity : (signature more : List Control) (number : ℕ) → number < length signature → arity_of (signature ++ more) number ≡ arity_of signature number
 same_arity signature more number below =
-    ap (λ o. unwrap_or (option_map (λ (found : Control). found.arity) o) 0) (same_before signature more number below)
+    ap (λ o. unwrap_or (option_map (λ (found : Control). found.arity) o) 0) (slice_get-append_left signature more number below)
 
 same_kind : (signature more : List Control) (number : ℕ) → number < length signature
     → is_atomic_control (signature ++ more) number ≡ is_atomic_control signature number
 same_kind signature more number below =
-    ap (λ o. unwrap_or (option_map (λ (found : Control). is_atomic_kind found.kind) o) false) (same_before signature more number below)
+    ap (λ o. unwrap_or (option_map (λ (found : Control). is_atomic_kind found.kind) o) false) (slice_get-append_left signature more number below)
 
 same_atomic : (signature more : List Control) (big : Big) → IsValidUnder signature big → (place : Place)
     → is_atomic (signature ++ more) big place ≡ is_atomic signature big place

@@ -4,7 +4,7 @@ use Rattle.std.specs.Prelude.{IfOk, option_map}
 use Rattle.std.proofs.lemmas.List.{append_assoc, append-nil, length-append}
 use Rattle.std.proofs.lemmas.Option.{slice_get_within}
 use Rattle.bg_lists.specs.Lists.{Mem, here, there}
-use Rattle.bg_lists.proofs.Places.{At-slice_get, slice_get-At, At-append_left, At-total}
+use Rattle.bg_lists.proofs.Places.{At-slice_get, slice_get-At, At-append_left, slice_get-append_left}
 use Rattle.bg_base.specs.declared.labels.Value.{Value}
 use Rattle.bg_syntax.specs.declared.tree.expressions.SynE.{SynE}
 use Rattle.bg_values.specs.Names.{Entry, number_of, look_up}
@@ -64,15 +64,12 @@ more_controls shapes others definitions all_have env e has =
 
 -- ---- more definitions
 
-front : {A : Type 0} (xs ys : List A) (k : ℕ) → k < length xs → slice_get (xs ++ ys) k ≡ slice_get xs k
-front xs ys k below = let w = At-total xs k below in slice_get-At (xs ++ ys) (At-append_left xs ys w.1) ∙ sym (slice_get-At xs w.1)
-
 module _ (shapes : List Shape) where
   expand_meanings : (meanings others : List Meaning) (env : List Value) (e : Expression) → RefersBelow (length meanings) e
       → expand shapes (meanings ++ others) env e ≡ expand shapes meanings env e
   expand_meanings meanings others env (node at number args ports) below = refl
   expand_meanings meanings others env (reference at number args) below =
-      ap (λ o. with_values at (values env args) (λ vs. terms.counted at (meant at o vs))) (front meanings others number below)
+      ap (λ o. with_values at (values env args) (λ vs. terms.counted at (meant at o vs))) (slice_get-append_left meanings others number below)
   expand_meanings meanings others env (names at words) below = refl
   expand_meanings meanings others env (identity_of at width words) below = refl
   expand_meanings meanings others env (merger_of at width) below = refl

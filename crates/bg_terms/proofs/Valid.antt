@@ -1,13 +1,11 @@
 -- What a term comes to is a valid bigraph.
 use Rattle.std.proofs.Common.{◌≡◌, ◌+◌, ◌<◌, ◌≤◌, ◌∷◌, [], ◌||◌, ◌==◌, ℕ, zero, suc, Bool, true, false, not, List, length, Ok, Err, refl, sym, ap, subst, ◌∙◌, arith, eqb-true}
 use Rattle.std.specs.Prelude.{nat_lt, is_some, if◌then◌else◌}
-use Rattle.std.specs.List.{list_any}
-use Rattle.std.proofs.lemmas.Bool.{false_from_ne_true, false≢true}
 use Rattle.std.specs.List.Sorted.{IsStrictlySortedBy}
 use Rattle.bg_lists.specs.Lists.{Mem, here, there}
 use Rattle.bg_lists.specs.Orders.{set_of}
 use Rattle.bg_lists.proofs.Members.{Mem-map}
-use Rattle.bg_lists.proofs.Words.{All-from_members, list_any-from_member}
+use Rattle.bg_lists.proofs.Words.{All-from_members, fails_from_list_any}
 use Rattle.bg_lists.proofs.Ascents.{sorted_from_Ascending}
 use Rattle.bg_lists.proofs.Sets.{Ascending-set_of}
 use Rattle.bg_base.specs.declared.names.Name.{Name}
@@ -45,21 +43,18 @@ use Rattle.bg_terms.proofs.Closures.{within_closures}
 
 -- ---- tests and what they say
 
-no_any : {A : Type 0} (test : A → Bool) (xs : List A) → list_any test xs ≡ false → (x : A) → Mem x xs → test x ≡ false
-no_any test xs none x m = false_from_ne_true (test x) (λ pass. false≢true (sym none ∙ list_any-from_member test xs m pass))
-
 pub inner_apart : (f g : Big) → inner_meets f g ≡ false → InnerApart f g
 inner_apart f g none =
     record {
       inner_apart = All-from_members (λ (row : InnerRow). is_some (inner_of f.inner row.name) ≡ false) g.inner
-          (no_any (λ (row : InnerRow). is_some (inner_of f.inner row.name)) g.inner none);
+          (fails_from_list_any (λ (row : InnerRow). is_some (inner_of f.inner row.name)) g.inner none);
     }
 
 pub outer_apart : (f g : Big) → outer_meets f g ≡ false → OuterApart f g
 outer_apart f g none =
     record {
       outer_apart = All-from_members (λ (name : Name). is_some (outer_of f.outer name) ≡ false) g.outer
-          (no_any (λ (name : Name). is_some (outer_of f.outer name)) g.outer none);
+          (fails_from_list_any (λ (name : Name). is_some (outer_of f.outer name)) g.outer none);
     }
 
 pub set_up : (names : List Name) → IsStrictlySortedBy name_cmp (set_of name_cmp names)

@@ -5,15 +5,8 @@ use Rattle.std.proofs.lemmas.List.{map-append}
 use Rattle.std.proofs.lemmas.Nat.{div-add-mod'}
 use Rattle.std.proofs.lemmas.Int.{ints, to_z-of_z, fits_signed_mul, unsigned_abs-mul}
 use Rattle.bg_base.specs.Elementary.{counted}
+use Rattle.bg_base.proofs.Counted.{counted_more}
 use Rattle.bg_values.specs.Parameters.{is_empty, steps, count}
-
-counted_more : (first number : ℕ) → counted first (number + 1) ≡ counted first number ++ (first + number) ∷ []
-unfolding counted
-counted_more first zero = ap (λ n. n ∷ []) (let e : first ≡ first + 0 = omega arith in e)
-counted_more first (suc number) =
-    let e : suc first + number ≡ first + suc number = omega arith in
-    let more : suc number + 1 ≡ suc (number + 1) = omega arith in
-    ap (counted first) more ∙ ap (λ ns. first ∷ ns) (counted_more (suc first) number ∙ ap (λ n. counted (suc first) number ++ n ∷ []) e)
 
 pub none_made : {X : Type 0} (f : ℕ → X) (made : List X) → made ≡ [] → made ≡ map f (counted 0 0)
 unfolding counted
