@@ -1,53 +1,11 @@
 //! Each public call with ample memory, and what the check answers to bigraphs that break a rule.
+use crate::made::{label, node, places, three_controls};
 use bg_base::{
-    Big, CheckFault, Entry, Ident, InnerRow, Kind, Label, Link, Name, NodeRow, Part, Place,
-    PortLinks, Signature, SignatureFault, Step, Text, Value,
+    CheckFault, Entry, Ident, InnerRow, Kind, Link, Name, Part, Place, SignatureFault, Step, Text,
+    Value,
 };
-use bg_lists::{Duplicate, OutOfMemory, Rows};
-use smallvec::SmallVec;
-use std::alloc::{AllocError, Global};
+use bg_lists::{Duplicate, Rows};
 use std::test::Fail;
-
-fn label(alloc: Global, text: &str) -> Result<Label, OutOfMemory> {
-    match Ident::new(alloc, text)? {
-        Some(name) => Ok(Label {
-            name,
-            args: Rows::from_vec(Vec::new(alloc)),
-        }),
-        None => Err(OutOfMemory),
-    }
-}
-
-/// A normal, B atomic, C normal with two ports.
-fn three_controls(alloc: Global) -> Result<Signature, SignatureFault> {
-    let mut signature = Signature::new(alloc);
-    signature.add(alloc, label(alloc, "A")?, 0, Kind::Normal)?;
-    signature.add(alloc, label(alloc, "B")?, 0, Kind::Atomic)?;
-    signature.add(alloc, label(alloc, "C")?, 2, Kind::Normal)?;
-    Ok(signature)
-}
-
-/// A node without ports.
-fn node(alloc: Global, id: u32, control: u32, parent: Place) -> NodeRow {
-    NodeRow {
-        id,
-        control,
-        parent,
-        links: PortLinks::from_small_vec(SmallVec::new(alloc)),
-    }
-}
-
-/// One region, and nothing but these nodes and sites.
-fn places(alloc: Global, nodes: Vec<NodeRow>, sites: &[Place]) -> Result<Big, OutOfMemory> {
-    Ok(Big {
-        nodes: Rows::try_from_vec(nodes)?,
-        edges: Rows::from_vec(Vec::new(alloc)),
-        sites: Rows::try_from_vec(Vec::from_slice(alloc, sites)?)?,
-        inner: Rows::from_vec(Vec::new(alloc)),
-        regions: 1,
-        outer: Rows::from_vec(Vec::new(alloc)),
-    })
-}
 
 fn malformed(code: u8, part: Part, row: u32) -> Result<(), CheckFault> {
     Err(CheckFault::Malformed { code, part, row })

@@ -4,13 +4,14 @@ ghost use Rattle.std.specs.Prelude.{◌≡◌, ◌↔◌, ◌+◌, ◌<◌, ◌^
 ghost use Rattle.bg_base.specs.Bigraph.{IsValid};
 ghost use Rattle.bg_builder.specs.Numbers.{follows as numbers_follow};
 
+use crate::made::plain_name;
 use bg_algebra::{
     AlgebraFault, atom, barren, close, compose, empty, identity, idle, ion, merge, merger, nest,
     parallel, tensor,
 };
-use bg_base::{Big, Ident, InnerRow, Name, NodeRow};
+use bg_base::{Big, InnerRow, NodeRow};
 use bg_builder::Builder;
-use bg_lists::{Mem, OutOfMemory};
+use bg_lists::Mem;
 use std::alloc::Global;
 use std::test::*;
 
@@ -37,18 +38,11 @@ enum Then {
 /// How many samples there are.
 const SAMPLES: u32 = 14;
 
-fn name(alloc: Global, text: &str) -> Mem<Name> {
-    match Ident::new(alloc, text)? {
-        Some(word) => Ok(Name::Plain(word)),
-        None => Err(OutOfMemory),
-    }
-}
-
 /// Node `node`, its ports tied to y and x.
 fn tied(alloc: Global, node: u32) -> Mem<Big>
     ensures { IfOk result IsValid }
 {
-    let names = [name(alloc, "y")?, name(alloc, "x")?];
+    let names = [plain_name(alloc, "y")?, plain_name(alloc, "x")?];
     let big = atom(alloc, 2, node, &names)?;
     Ok(big)
 }
@@ -57,7 +51,7 @@ fn tied(alloc: Global, node: u32) -> Mem<Big>
 fn holder(alloc: Global, node: u32) -> Mem<Big>
     ensures { IfOk result IsValid }
 {
-    let names = [name(alloc, "x")?];
+    let names = [plain_name(alloc, "x")?];
     let big = ion(alloc, 1, node, &names)?;
     Ok(big)
 }
@@ -74,7 +68,7 @@ fn plain(alloc: Global, node: u32) -> Mem<Big>
 fn wire(alloc: Global, text: &str) -> Mem<Big>
     ensures { IfOk result IsValid }
 {
-    let names = [name(alloc, text)?];
+    let names = [plain_name(alloc, text)?];
     let big = identity(alloc, 1, &names)?;
     Ok(big)
 }
@@ -83,7 +77,7 @@ fn wire(alloc: Global, text: &str) -> Mem<Big>
 fn loose(alloc: Global) -> Mem<Big>
     ensures { IfOk result IsValid }
 {
-    let names = [name(alloc, "z")?];
+    let names = [plain_name(alloc, "z")?];
     let big = idle(alloc, &names)?;
     Ok(big)
 }
@@ -126,7 +120,7 @@ fn closed(alloc: Global, f: &Big, edge: u32) -> Result<Big, AlgebraFault>
     requires valid { IsValid f.now }
     ensures { IfOk result IsValid }
 {
-    let word = name(alloc, "x")?;
+    let word = plain_name(alloc, "x")?;
     close(alloc, f, &word, edge)
 }
 
@@ -286,7 +280,7 @@ fn built_closed(alloc: Global, f: Builder, edge: u32) -> Result<Builder, Algebra
     if !f.lies_behind(edge) {
         return Err(AlgebraFault::OutOfMemory);
     }
-    let word = name(alloc, "x")?;
+    let word = plain_name(alloc, "x")?;
     let there = f.has_outer(&word);
     let come = f.close(alloc, &word, edge);
     if there == come.is_ok() {

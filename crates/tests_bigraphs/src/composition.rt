@@ -1,10 +1,10 @@
 //! Composition on small bigraphs, the two refusals, and one composition of many nodes.
 ghost use Rattle.std.specs.Prelude.{◌+◌, ◌<◌, ◌^◌};
 
+use crate::made::{node, places, plain_name, three_controls};
 use bg_algebra::{AlgebraFault, compose};
 use bg_base::{
-    Big, Ident, InnerRow, Kind, Label, Link, Name, NodeRow, Place, PortLinks, Signature,
-    SignatureFault, find_inner, find_node, has_edge,
+    Big, InnerRow, Link, NodeRow, Place, PortLinks, Signature, find_inner, find_node, has_edge,
 };
 use bg_lists::{OutOfMemory, Rows};
 use smallvec::SmallVec;
@@ -12,57 +12,8 @@ use std::alloc::Global;
 use std::process::Abort;
 use std::test::Fail;
 
-fn ident(alloc: Global, text: &str) -> Result<Ident, OutOfMemory> {
-    match Ident::new(alloc, text)? {
-        Some(word) => Ok(word),
-        None => Err(OutOfMemory),
-    }
-}
-
-fn label(alloc: Global, text: &str) -> Result<Label, OutOfMemory> {
-    Ok(Label {
-        name: ident(alloc, text)?,
-        args: Rows::from_vec(Vec::new(alloc)),
-    })
-}
-
-/// A normal, B atomic, C normal with two ports.
-fn three_controls(alloc: Global) -> Result<Signature, SignatureFault> {
-    let mut signature = Signature::new(alloc);
-    signature.add(alloc, label(alloc, "A")?, 0, Kind::Normal)?;
-    signature.add(alloc, label(alloc, "B")?, 0, Kind::Atomic)?;
-    signature.add(alloc, label(alloc, "C")?, 2, Kind::Normal)?;
-    Ok(signature)
-}
-
-fn plain(alloc: Global, text: &str) -> Result<Name, OutOfMemory> {
-    Ok(Name::Plain(ident(alloc, text)?))
-}
-
 fn outer(alloc: Global, text: &str) -> Result<Link, OutOfMemory> {
-    Ok(Link::Outer(plain(alloc, text)?))
-}
-
-/// A node without ports.
-fn node(alloc: Global, id: u32, control: u32, parent: Place) -> NodeRow {
-    NodeRow {
-        id,
-        control,
-        parent,
-        links: PortLinks::from_small_vec(SmallVec::new(alloc)),
-    }
-}
-
-/// One region, and nothing but these nodes and sites.
-fn places(alloc: Global, nodes: Vec<NodeRow>, sites: &[Place]) -> Result<Big, OutOfMemory> {
-    Ok(Big {
-        nodes: Rows::try_from_vec(nodes)?,
-        edges: Rows::from_vec(Vec::new(alloc)),
-        sites: Rows::try_from_vec(Vec::from_slice(alloc, sites)?)?,
-        inner: Rows::from_vec(Vec::new(alloc)),
-        regions: 1,
-        outer: Rows::from_vec(Vec::new(alloc)),
-    })
+    Ok(Link::Outer(plain_name(alloc, text)?))
 }
 
 /// Node 0 of control A, with one site in it.
@@ -87,15 +38,15 @@ fn wiring(alloc: Global) -> Result<Big, OutOfMemory> {
     sites.push(Place::Region(0))?;
     let mut inner = Vec::new(alloc);
     inner.push(InnerRow {
-        name: plain(alloc, "x")?,
+        name: plain_name(alloc, "x")?,
         link: Link::Edge(0),
     })?;
     inner.push(InnerRow {
-        name: plain(alloc, "y")?,
+        name: plain_name(alloc, "y")?,
         link: outer(alloc, "z")?,
     })?;
     let mut names = Vec::new(alloc);
-    names.push(plain(alloc, "z")?)?;
+    names.push(plain_name(alloc, "z")?)?;
     Ok(Big {
         nodes: Rows::from_vec(Vec::new(alloc)),
         edges: Rows::try_from_vec(edges)?,
@@ -122,12 +73,12 @@ fn wired(alloc: Global) -> Result<Big, OutOfMemory> {
     edges.push(7)?;
     let mut inner = Vec::new(alloc);
     inner.push(InnerRow {
-        name: plain(alloc, "w")?,
+        name: plain_name(alloc, "w")?,
         link: outer(alloc, "y")?,
     })?;
     let mut names = Vec::new(alloc);
-    names.push(plain(alloc, "x")?)?;
-    names.push(plain(alloc, "y")?)?;
+    names.push(plain_name(alloc, "x")?)?;
+    names.push(plain_name(alloc, "y")?)?;
     Ok(Big {
         nodes: Rows::try_from_vec(nodes)?,
         edges: Rows::try_from_vec(edges)?,

@@ -13,6 +13,8 @@ mod links;
 #[cfg(test)]
 mod lists;
 #[cfg(test)]
+mod made;
+#[cfg(test)]
 mod places;
 #[cfg(test)]
 mod products;

@@ -6,9 +6,10 @@ ghost use Rattle.bg_base.specs.Bigraph.{IsValid, row_of, edge_of};
 ghost use Rattle.bg_base.specs.Composition.{SupportsApart, inner_names};
 ghost use Rattle.bg_base.specs.Products.{InnerApart, OuterApart};
 
+use crate::made::{label, plain_name};
 use bg_base::{
-    Big, Ident, InnerRow, Kind, Label, Link, Name, NodeRow, Place, PortLinks, Signature,
-    SignatureFault, find_inner, find_node, has_edge, has_outer,
+    Big, InnerRow, Kind, Link, Name, NodeRow, Place, PortLinks, Signature, SignatureFault,
+    find_inner, find_node, has_edge, has_outer,
 };
 use bg_link::{
     Links, Point, Wiring, compose_links, is_closed, links_of, share_links, tensor_links,
@@ -19,29 +20,14 @@ use std::alloc::Global;
 use std::process::Abort;
 use std::test::Fail;
 
-fn ident(alloc: Global, text: &str) -> Result<Ident, OutOfMemory> {
-    match Ident::new(alloc, text)? {
-        Some(word) => Ok(word),
-        None => Err(OutOfMemory),
-    }
-}
-
-fn plain(alloc: Global, text: &str) -> Result<Name, OutOfMemory> {
-    Ok(Name::Plain(ident(alloc, text)?))
-}
-
 fn open(alloc: Global, text: &str) -> Result<Link, OutOfMemory> {
-    Ok(Link::Outer(plain(alloc, text)?))
+    Ok(Link::Outer(plain_name(alloc, text)?))
 }
 
 /// One control, A, with two ports.
 fn one_control(alloc: Global) -> Result<Signature, SignatureFault> {
     let mut signature = Signature::new(alloc);
-    let label = Label {
-        name: ident(alloc, "A")?,
-        args: Rows::from_vec(Vec::new(alloc)),
-    };
-    signature.add(alloc, label, 2, Kind::Normal)?;
+    signature.add(alloc, label(alloc, "A")?, 2, Kind::Normal)?;
     Ok(signature)
 }
 
@@ -61,7 +47,7 @@ fn node(alloc: Global, id: u32, edge: u32, word: &str) -> Result<NodeRow, OutOfM
 /// An inner name that is tied to the edge.
 fn closed(alloc: Global, word: &str, edge: u32) -> Result<InnerRow, OutOfMemory> {
     Ok(InnerRow {
-        name: plain(alloc, word)?,
+        name: plain_name(alloc, word)?,
         link: Link::Edge(edge),
     })
 }
@@ -70,7 +56,7 @@ fn closed(alloc: Global, word: &str, edge: u32) -> Result<InnerRow, OutOfMemory>
 fn names(alloc: Global, words: &[&str]) -> Result<Rows<Name>, OutOfMemory> {
     let mut made = Vec::new(alloc);
     for word in words {
-        made.push(plain(alloc, word)?)?;
+        made.push(plain_name(alloc, word)?)?;
     }
     Rows::try_from_vec(made)
 }

@@ -3,11 +3,12 @@
 ghost use Rattle.std.specs.Prelude.{◌≡◌, ◌↔◌, ◌<◌, IsTrue, IfOk, length};
 ghost use Rattle.bg_base.specs.Bigraph.{IsValid};
 
+use crate::made::plain_name;
 use bg_algebra::{
     AlgebraFault, atom, close, compose, compose_by_rows, empty, identity, idle, ion, lean, merge,
     merger, nest, parallel, rename, tensor,
 };
-use bg_base::{Big, Ident, Name, Place};
+use bg_base::{Big, Place};
 use bg_lists::OutOfMemory;
 use std::alloc::Global;
 use std::process::Abort;
@@ -18,18 +19,11 @@ const A: u32 = 0;
 
 const K: u32 = 2;
 
-fn plain(alloc: Global, text: &str) -> Result<Name, OutOfMemory> {
-    match Ident::new(alloc, text)? {
-        Some(word) => Ok(Name::Plain(word)),
-        None => Err(OutOfMemory),
-    }
-}
-
 /// Node `node` of control K, its port tied to the name.
 fn tied(alloc: Global, node: u32, name: &str) -> Result<Big, OutOfMemory>
     ensures { IfOk result IsValid }
 {
-    let names = [plain(alloc, name)?];
+    let names = [plain_name(alloc, name)?];
     let big = atom(alloc, K, node, names.as_slice())?;
     Ok(big)
 }
@@ -38,7 +32,7 @@ fn tied(alloc: Global, node: u32, name: &str) -> Result<Big, OutOfMemory>
 fn wire(alloc: Global) -> Result<Big, OutOfMemory>
     ensures { IfOk result IsValid }
 {
-    let names = [plain(alloc, "x")?];
+    let names = [plain_name(alloc, "x")?];
     let big = identity(alloc, 0, &names)?;
     Ok(big)
 }
@@ -207,9 +201,9 @@ fn nest_refuses_inner_names_and_widths(rt: HostRuntime) -> Result<(), Fail> {
 fn a_closed_name_is_an_edge(rt: HostRuntime) -> Result<(), Fail> {
     let alloc = rt.alloc();
     let node = tied(alloc, 3, "x")?;
-    let unknown = close(alloc, &node, &plain(alloc, "y")?, 0).err();
+    let unknown = close(alloc, &node, &plain_name(alloc, "y")?, 0).err();
     assert!(rt; unknown == Some(AlgebraFault::NoSuchName));
-    let closed = close(alloc, &node, &plain(alloc, "x")?, 7)?;
+    let closed = close(alloc, &node, &plain_name(alloc, "x")?, 7)?;
     expect_counts(&rt, &closed, 1, 0, 1, 0);
     let kept = lean(alloc, &closed)?;
     assert!(rt; kept.edges.as_slice() == [7].as_slice());
@@ -219,9 +213,9 @@ fn a_closed_name_is_an_edge(rt: HostRuntime) -> Result<(), Fail> {
 #[test]
 fn an_idle_edge_is_dropped(rt: HostRuntime) -> Result<(), Fail> {
     let alloc = rt.alloc();
-    let name = [plain(alloc, "x")?];
+    let name = [plain_name(alloc, "x")?];
     let open = idle(alloc, &name)?;
-    let closed = close(alloc, &open, &plain(alloc, "x")?, 7)?;
+    let closed = close(alloc, &open, &plain_name(alloc, "x")?, 7)?;
     let dropped = lean(alloc, &closed)?;
     assert!(rt; dropped.edges.len() == 0);
     Ok(())
@@ -284,7 +278,7 @@ fn closed_wire(alloc: Global) -> Result<Big, AlgebraFault>
     ensures { IfOk result IsValid }
 {
     let open = wire(alloc)?;
-    let name = plain(alloc, "x")?;
+    let name = plain_name(alloc, "x")?;
     let closed = close(alloc, &open, &name, 7)?;
     Ok(closed)
 }

@@ -3,8 +3,9 @@ ghost use Rattle.std.specs.Prelude.{◌≡◌, [], IfOk};
 ghost use Rattle.bg_base.specs.Bigraph.{IsValid};
 ghost use Rattle.bg_rules.specs.Rules.{IsNumberedFromZero};
 
+use crate::made::{label, plain_name};
 use bg_algebra::{AlgebraFault, atom, barren, compose, empty, idle, ion, merge, merger};
-use bg_base::{Big, Ident, Label, Name, Signature};
+use bg_base::{Big, Name, Signature};
 use bg_lists::{Duplicate, Mem, OutOfMemory, Rows};
 use bg_rules::{Host, Pattern, Rule, RuleFault, System, first_unsolid};
 use std::alloc::Global;
@@ -15,13 +16,6 @@ use std::test::Fail;
 const A: u32 = 0;
 
 const K: u32 = 1;
-
-fn word(alloc: Global, text: &str) -> Mem<Ident> {
-    match Ident::new(alloc, text)? {
-        Some(word) => Ok(word),
-        None => Err(OutOfMemory),
-    }
-}
 
 /// The merge of two bigraphs of at most one region and one site each.
 fn merged(alloc: Global, f: &Big, g: &Big) -> Result<Big, AlgebraFault>
@@ -39,7 +33,7 @@ fn merged(alloc: Global, f: &Big, g: &Big) -> Result<Big, AlgebraFault>
 fn idle_name(alloc: Global) -> Mem<Big>
     ensures { IfOk result IsValid }
 {
-    let names = [Name::Plain(word(alloc, "x")?)];
+    let names = [plain_name(alloc, "x")?];
     let big = idle(alloc, &names)?;
     Ok(big)
 }
@@ -123,7 +117,7 @@ fn tied(alloc: Global) -> Mem<Big>
     ensures valid { IfOk result IsValid }
     ensures numbered { IfOk result IsNumberedFromZero }
 {
-    let names = [Name::Plain(word(alloc, "x")?)];
+    let names = [plain_name(alloc, "x")?];
     let big = atom(alloc, K, 0, names.as_slice())?;
     Ok(big)
 }
@@ -149,10 +143,7 @@ fn rule_of(alloc: Global, reactum: Big, map: Vec<u32>) -> Mem<Result<Rule, RuleF
     requires valid { IsValid reactum }
     requires numbered { IsNumberedFromZero reactum }
 {
-    let label = Label {
-        name: word(alloc, "r")?,
-        args: Rows::from_vec(Vec::new(alloc)),
-    };
+    let label = label(alloc, "r")?;
     let entries = Rows::try_from_vec(map)?;
     let conditions = Rows::from_vec(Vec::new(alloc));
     match Pattern::new(room(alloc)?) {

@@ -7,6 +7,8 @@ mod decompositions;
 #[cfg(test)]
 mod embeddings;
 #[cfg(test)]
+mod listed;
+#[cfg(test)]
 mod matches;
 #[cfg(test)]
 mod reactions;
