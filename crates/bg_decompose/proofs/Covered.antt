@@ -1,11 +1,13 @@
 -- Which nodes are images or lie below one: what the climb from a node and the marks say of it.
-use Rattle.std.proofs.Common.{◌≡◌, ℕ, zero, suc, ◌<◌, ◌-◌, ◌||◌, ◌&&◌, not, filter, ◌==◌, Bool, true, false, Option, Some, None, is_some, is_ok, unwrap_or, option_map, Result, find, List, ◌∷◌, [], length, slice_get, slice_set, length-set, get_or, refl, sym, ap, subst, ◌∙◌, arith, cond, inl, inr, IsPermutation}
-use Rattle.std.specs.List.{list_any}
+use Rattle.std.proofs.Common.{◌≡◌, ℕ, zero, suc, ◌<◌, ◌-◌, ◌||◌, ◌&&◌, not, filter, ◌==◌, Bool, true, false, Option, Some, None, is_some, is_ok, unwrap_or, option_map, Result, List, length, slice_get, slice_set, length-set, refl, sym, ap, subst, ◌∙◌, arith, inl, inr, IsPermutation}
 use Rattle.std.specs.List.Sorted.{IsSorted, IsSearchInRange, IsBinarySearchResult}
 use Rattle.std.specs.Ordering.{nat_cmp}
-use Rattle.std.proofs.lemmas.Bool.{cases_eq, cases_Bool, false≢true, false_from_ne_true}
+use Rattle.std.proofs.lemmas.Bool.{cases_eq}
 use Rattle.std.proofs.lemmas.Option.{slice_get_within}
 use Rattle.bg_lists.specs.Lists.{Mem}
+use Rattle.bg_lists.proofs.Words.{found_any}
+use Rattle.bg_lists.proofs.Places.{get-set_other, get-set_same}
+use Rattle.bg_lists.proofs.Tests.{same_test, given_mark}
 use Rattle.bg_base.specs.declared.names.Place.{Place}
 use Rattle.bg_base.specs.declared.names.Place.TheVariants.{Node, Region}
 use Rattle.bg_base.specs.declared.big.NodeRow.{NodeRow}
@@ -15,23 +17,17 @@ use Rattle.bg_base.specs.Lookup.{IsFirstRow, IsSortedCopy}
 use Rattle.std.proofs.lemmas.List.Sorted.{list_any-IsPermutation, IsPermutation-refl}
 use Rattle.bg_base.proofs.SearchLaws.{edge_searched}
 use Rattle.bg_rules.proofs.Patterns.{parent_there}
-use Rattle.bg_base.proofs.LookUps.{row_from_row_of, row_from_has, has_row}
+use Rattle.bg_base.proofs.LookUps.{row_from_row_of, has_row}
 use Rattle.bg_base.proofs.Climbs.{row_from_reaches, reaches-Climb, Climb-from_place}
 use Rattle.bg_rules.specs.Instantiation.{is_among}
-use Rattle.bg_rules.proofs.Upwards.{is_below, IsMet, IsMet-here, IsMet-above, IsMet-parent, meets_some, IsMet-from_meets_some, meets_some-IsMet, member_from_is_among, not_among, is_among-none}
+use Rattle.bg_rules.proofs.Upwards.{IsMet, IsMet-here, IsMet-above, IsMet-parent, meets_some, IsMet-from_meets_some, meets_some-IsMet, member_from_is_among, not_among}
 use Rattle.bg_match.specs.ImagePlaces.{is_met}
 use Rattle.bg_match.proofs.Climbing.{met_outside}
+use Rattle.bg_match.proofs.PlaceLaws.{met_is_below}
 use Rattle.bg_decompose.specs.Marks.{is_covered, is_outside, is_inside, AreMarked}
 use Rattle.bg_decompose.specs.Parts.{edges_left}
 
 -- ---- the two tests are one
-
-met_is_below : (rows : List NodeRow) (nodes : List ℕ) (moves : ℕ) (place : Place) → is_met rows nodes moves place ≡ is_below rows nodes moves place
-unfolding is_met is_below
-met_is_below rows nodes zero place = refl
-met_is_below rows nodes (suc moves) (Region region) = refl
-met_is_below rows nodes (suc moves) (Node node) =
-    λ t. is_among node nodes || unwrap_or (option_map (λ (row : NodeRow). met_is_below rows nodes moves row.parent t) (row_of rows node)) false
 
 -- an image is met going up from the place
 abbrev pub covers : Big → List ℕ → Place → Bool
@@ -75,36 +71,11 @@ module _ (host : Big) (xs ys : List ℕ) (copy : IsSortedCopy nat_cmp xs ys) whe
 
 -- ---- a search
 
-found_case : {X : Type 0} (x : X) (b r : Bool) (o : Option X) → is_some o ≡ r → is_some (cond b (Some x) o) ≡ (b || r)
-found_case x true r o e = refl
-found_case x false r o e = e
-
--- something is found where some member passes the test
-found_any : {X : Type 0} (p : X → Bool) (xs : List X) → is_some (find p xs) ≡ list_any p xs
-found_any p [] = refl
-found_any p (x ∷ xs) = found_case x (p x) (list_any p xs) (find p xs) (found_any p xs)
-
 pub has_searched : (sorted : List ℕ) (number : ℕ) (r : Result ℕ ℕ) → IsSorted nat_cmp sorted
     → IsSearchInRange r (length sorted) → IsBinarySearchResult (λ y. nat_cmp y number) sorted r → is_ok r ≡ is_among number sorted
 has_searched sorted number r up range at =
     edge_searched sorted sorted number r (record { same = IsPermutation-refl sorted; sorted = up }) range at
     ∙ found_any (λ other. other == number) sorted
-
--- ---- an item that is set
-
-get-set_other : {X : Type 0} (xs : List X) (k at : ℕ) (x : X) → (k ≡ at → ⊥) → slice_get (slice_set xs at x) k ≡ slice_get xs k
-get-set_other [] k at x apart = refl
-get-set_other (y ∷ ys) zero zero x apart = absurd (apart refl)
-get-set_other (y ∷ ys) zero (suc at) x apart = refl
-get-set_other (y ∷ ys) (suc k) zero x apart = refl
-get-set_other (y ∷ ys) (suc k) (suc at) x apart = get-set_other ys k at x (λ e. apart (ap suc e))
-
-get-set_same : {X : Type 0} (xs : List X) (k at : ℕ) (x : X) → k ≡ at → at < length xs → slice_get (slice_set xs at x) k ≡ Some x
-get-set_same [] k at x same inside = absurd (omega (arith, inside))
-get-set_same (y ∷ ys) zero zero x same inside = refl
-get-set_same (y ∷ ys) zero (suc at) x same inside = absurd (omega (arith, same))
-get-set_same (y ∷ ys) (suc k) zero x same inside = absurd (omega (arith, same))
-get-set_same (y ∷ ys) (suc k) (suc at) x same inside = get-set_same ys k at x (omega (arith, same)) (omega (arith, inside))
 
 -- ---- one move
 
@@ -119,11 +90,6 @@ module _ (host : Big) (images : List ℕ) (valid : IsValid host) where
   pub covers_image : {row : NodeRow} → Mem row host.nodes → is_among row.id images ≡ true → covers host images (Node row.id) ≡ true
   covers_image {row} m among =
       covers_from (has_row host.nodes m refl) (IsMet-here host.nodes images (member_from_is_among images row.id among) refl)
-
-  same_test : (a b : Bool) → (a ≡ true → b ≡ true) → (b ≡ true → a ≡ true) → a ≡ b
-  same_test true b to from = sym (to refl)
-  same_test false true to from = from refl
-  same_test false false to from = refl
 
   -- what is no image is covered where its parent is
   pub covers_parent : {row : NodeRow} → Mem row host.nodes → is_among row.id images ≡ false → has_place host row.parent ≡ true
@@ -180,16 +146,12 @@ module _ (host : Big) (images : List ℕ) (valid : IsValid host) where
       sym (climbed.same ∙ subst (λ n. covers host images (Node n) ≡ true) found.1
       (covers_image host images valid found.0 (subst (λ n. is_among n images ≡ true) (sym found.1) among)))
 
-  given : (mark : Option (Option Bool)) (covered : Bool) → unwrap_or mark None ≡ Some covered → mark ≡ Some (Some covered)
-  given None covered e = cc
-  given (Some mark) covered e = ap Some e
-
   pub climb_marked : (start moves node at : ℕ) (row : NodeRow) (marks : List (Option Bool)) (covered : Bool) → Climbed host images start moves (Node node)
       → IsFirstRow host.nodes node at row → AreMarked host images marks → unwrap_or (slice_get marks at) None ≡ Some covered → covered ≡ is_covered host images start
   climb_marked start moves node at row marks covered climbed is marked e =
       let found = row_from_row_of host.nodes node is.first in
       sym (climbed.same ∙ ap (λ n. covers host images (Node n)) (sym found.1) ∙ sym (covered_is host images row.id)
-      ∙ marked.right at row covered is.there (given (slice_get marks at) covered e))
+      ∙ marked.right at row covered is.there (given_mark (slice_get marks at) covered e))
 
   covers_next : (node at : ℕ) (row : NodeRow) → IsFirstRow host.nodes node at row → is_among node images ≡ false
       → covers host images (Node node) ≡ covers host images row.parent

@@ -22,15 +22,16 @@ use Rattle.bg_base.specs.Composition.{inner_names}
 use Rattle.bg_base.specs.Elementary.{counted}
 use Rattle.bg_base.specs.Translation.{along, place_renamed}
 use Rattle.bg_base.proofs.LookUps.{row_of-member}
+use Rattle.bg_base.proofs.Counted.{length-counted}
 use Rattle.bg_place.specs.Places.{same_place}
-use Rattle.bg_algebra.proofs.Nested.{length-counted}
+use Rattle.bg_place.proofs.RowLaws.{same_place_from_test, same_place-itself}
 use Rattle.bg_algebra.proofs.CompositionLaws.{At-counted}
 use Rattle.bg_rules.specs.Solid.{IsPattern}
 use Rattle.bg_rules.specs.Decomposition.{port_names, names_of, Decomposes}
 use Rattle.bg_rules.specs.Instantiation.{is_among}
 use Rattle.bg_rules.specs.LocalConditions.{image_of, IsEdgeImage, MeetsLocally}
 use Rattle.bg_rules.proofs.Glued.{Glued}
-use Rattle.bg_rules.proofs.Patterns.{same_place_from_test, same_place-itself, full_region, used_name, used_edge, one_site, site_node, image_mem, image_injective, along_at_place}
+use Rattle.bg_rules.proofs.Patterns.{full_region, used_name, used_edge, one_site, site_node, image_mem, image_injective, along_at_place}
 use Rattle.bg_rules.proofs.Upwards.{among_cases, not_among, meets_some, IsMet-from_meets_some}
 use Rattle.bg_rules.proofs.Choices.{position, At-position}
 use Rattle.bg_rules.proofs.Images.{pattern_edges_differ}

@@ -8,14 +8,15 @@ use Rattle.bg_code.specs.declared.operation.Operation.{Operation}
 use Rattle.bg_machine.specs.States.{State}
 use Rattle.bg_machine.specs.Machine.{Running, called, run, running_after, running_of}
 use Rattle.bg_terms.specs.declared.shape.Shape.{Shape}
-use Rattle.bg_values.proofs.Items.{same_before, last_item}
+use Rattle.bg_values.proofs.Items.{last_item}
+use Rattle.bg_lists.proofs.Places.{slice_get-append_left}
 
 module _ (shapes : List Shape) where
   kept : (codes : List (List Operation)) (ms : List Running) (k : ℕ) → k < length ms → slice_get (running_after shapes ms codes) k ≡ slice_get ms k
   kept [] ms k less = refl
   kept (code ∷ codes) ms k less =
       kept codes (ms ++ (λ args s. run shapes ms args code s) ∷ []) k (omega (arith, less, length-append ms ((λ args s. run shapes ms args code s) ∷ [])))
-      ∙ same_before ms _ k less
+      ∙ slice_get-append_left ms _ k less
 
   -- what the code of the definition does, where those before it may be called
   abbrev meaning_at : List Running → List (List Operation) → ℕ → List Operation → Running

@@ -1,36 +1,29 @@
 -- Whole expressions: the numbers of nodes, and numbers in a row, differ; no edge is idle.
-use Rattle.std.proofs.Common.{◌≡◌, ◌||◌, ◌⊎◌, inl, inr, ℕ, zero, suc, Bool, true, false, List, length, map, All, IsTrue, refl, sym, ap, subst, ◌∙◌, arith, eqb-true, Less}
+use Rattle.std.proofs.Common.{◌≡◌, ◌||◌, ◌⊎◌, inl, inr, ℕ, Bool, true, false, List, length, map, All, IsTrue, refl, sym, ap, subst, ◌∙◌, Less}
 use Rattle.std.proofs.lemmas.Cmp.{nat_cmp_total}
 use Rattle.std.proofs.lemmas.List.{length-map}
 use Rattle.std.specs.List.{IsDistinct, list_any}
 use Rattle.std.specs.Ordering.{nat_cmp, eq_by_cmp}
 use Rattle.bg_algebra.proofs.Changes.{lean_valid, lean_used, port_is_point, inner_is_point}
-use Rattle.bg_algebra.proofs.Nested.{Mem-counted, length-counted}
 use Rattle.bg_algebra.proofs.Renamed.{renamed_numbers, map-along}
 use Rattle.bg_base.specs.declared.big.Big.{Big}
 use Rattle.bg_base.specs.declared.big.NodeRow.{NodeRow}
 use Rattle.bg_base.specs.declared.big.InnerRow.{InnerRow}
-use Rattle.bg_base.specs.declared.names.Link.{Link}
-use Rattle.bg_base.specs.declared.names.Link.TheVariants.{Edge, Outer}
+use Rattle.bg_base.specs.declared.names.Link.TheVariants.{Edge}
 use Rattle.bg_base.specs.Bigraph.{IsValid, node_cmp}
 use Rattle.bg_base.specs.Products.{lean, has_point, same_link}
 use Rattle.bg_base.proofs.LookUps.{node_cmp_total}
+use Rattle.bg_base.proofs.Counted.{length-counted, counted_ascends}
+use Rattle.bg_base.proofs.NameLaws.{same_link_from_test}
 use Rattle.bg_base.specs.Elementary.{counted}
 use Rattle.bg_base.specs.Translation.{along, node_numbers, rename, row_renamed, link_renamed, inner_renamed}
 use Rattle.bg_lists.specs.Lists.{Mem}
-use Rattle.bg_lists.specs.Orders.{before, Ascending, asc_nil, asc_cons}
+use Rattle.bg_lists.specs.Orders.{before, Ascending}
 use Rattle.bg_lists.proofs.Ascents.{Ascending-from_sorted, Ascending-map, Ascending-unmap}
-use Rattle.bg_lists.proofs.Comparisons.{nat_cmp-lt}
 use Rattle.bg_lists.proofs.Members.{Mem-map, Mem-unmap}
 use Rattle.bg_lists.proofs.Sorting.{IsDistinct-from_Ascending, Mem-sort, sort-ascending}
 use Rattle.bg_lists.proofs.Words.{All-member, All-from_members, member_from_list_any}
 use Rattle.bg_machine.specs.Whole.{whole}
-
-pub counted_ascends : (first count : ℕ) → Ascending (λ x y. nat_cmp x y ≡ Less) (counted first count)
-unfolding counted
-counted_ascends first zero = asc_nil
-counted_ascends first (suc count) =
-    asc_cons (λ n m. let k = Mem-counted (suc first) count n m in nat_cmp-lt first n (omega (arith, k.0))) (counted_ascends (suc first) count)
 
 pub edges_differ : (count : ℕ) → IsDistinct (eq_by_cmp nat_cmp) (counted 0 count)
 edges_differ count = IsDistinct-from_Ascending (counted 0 count) (counted_ascends 0 count)
@@ -76,10 +69,6 @@ whole_edges big = counted_edges (lean big) (length (lean big).edges) (node_numbe
 
 -- ---- no edge is idle
 
-edge_from_same : (link : Link) (edge : ℕ) → same_link link (Edge edge) ≡ true → link ≡ Edge edge
-edge_from_same (Edge other) edge is = ap Edge (eqb-true other edge is)
-edge_from_same (Outer name) edge is = absurd cc
-
 either_holds : (a b : Bool) → (a || b) ≡ true → (a ≡ true) ⊎ (b ≡ true)
 either_holds true b e = inl refl
 either_holds false b e = inr e
@@ -92,12 +81,12 @@ renamed_point big nodes edges edge used =
     elim (either_holds _ _ used) [
       | inl ports ↦ (let w = member_from_list_any (λ (r : NodeRow). list_any (λ other. same_link other (Edge edge)) r.links) big.nodes ports in
           let v = member_from_list_any (λ other. same_link other (Edge edge)) w.0.links w.2 in
-          let is = edge_from_same v.0 edge v.2 in
+          let is = same_link_from_test v.0 (Edge edge) v.2 in
           port_is_point (rename big nodes edges) (row_renamed big nodes edges w.0) (Edge (along big.edges edges edge))
           (Mem-sort (before node_cmp) (map (row_renamed big nodes edges) big.nodes) (Mem-map (row_renamed big nodes edges) w.1))
           (subst (λ l. Mem l (map (link_renamed big edges) w.0.links)) (ap (link_renamed big edges) is) (Mem-map (link_renamed big edges) v.1)))
       | inr inner ↦ (let w = member_from_list_any (λ (r : InnerRow). same_link r.link (Edge edge)) big.inner inner in
-          let is = edge_from_same w.0.link edge w.2 in
+          let is = same_link_from_test w.0.link (Edge edge) w.2 in
           subst (λ l. has_point (rename big nodes edges) l ≡ true) (ap (link_renamed big edges) is)
           (inner_is_point (rename big nodes edges) (inner_renamed big edges w.0) (Mem-map (inner_renamed big edges) w.1)))
     ]

@@ -50,7 +50,7 @@ fn numbers_of(alloc: Global, rows: &[NodeRow]) -> Mem<Vec<u32>>
 }
 
 /// 0, 1, 2 and so on, so many. Costs time and memory in proportion to their number.
-#[tactic(auto, using(bg_algebra::proofs::Nested::counted_more))]
+#[tactic(auto, using(bg_base::proofs::Counted::counted_more))]
 pub fn numbers_below(alloc: Global, count: u32) -> Mem<Vec<u32>>
     ensures { IfOk result (λ numbers. numbers.items ≡ counted 0 count) }
 {

@@ -1,14 +1,14 @@
 -- The rows of a parameter in groups by their regions: the part under a region is a part of the list.
-use Rattle.std.proofs.Common.{◌≡◌, ℕ, ◌+◌, ◌-◌, ◌<◌, ◌≤◌, ◌==◌, Bool, true, false, cond, List, [], ◌∷◌, length, map, filter, take, drop, get_or, refl, sym, ap, subst, ◌∙◌, arith, ltb, leb, is_lt, nat_cmp, eqb-true, eq-eqb}
+use Rattle.std.proofs.Common.{◌≡◌, ℕ, ◌+◌, ◌-◌, ◌<◌, ◌≤◌, ◌==◌, Bool, true, false, List, [], length, map, filter, take, drop, get_or, refl, sym, ap, subst, ◌∙◌, arith, ltb, leb, is_lt, nat_cmp, eqb-true, eq-eqb}
 use Rattle.std.specs.List.Sorted.{IsPartitionPoint, IsPartitionedBy, IsNonDecreasingBy, IsStableBy}
-use Rattle.std.proofs.lemmas.Bool.{cond_both, cond-true, cond-false}
 use Rattle.std.proofs.lemmas.List.{length-map, get_or-map, drop-map, take-map}
 use Rattle.std.proofs.lemmas.List.Sorted.{IsPartitionedBy-ltb, IsPartitionedBy-leb, IsNonDecreasingBy-drop, IsNonDecreasingBy-take}
 use Rattle.std.proofs.Math.ListN.{get_or-map as get_or-mapped}
-use Rattle.bg_lists.specs.Lists.{Mem, here, there}
 use Rattle.bg_lists.proofs.Places.{At-total}
 use Rattle.bg_lists.proofs.Groups.{stable_group, group_found}
 use Rattle.bg_lists.proofs.Words.{All-member}
+use Rattle.bg_lists.proofs.Members.{filter_agree_on, filter-map}
+use Rattle.bg_lists.proofs.Tests.{same_test}
 use Rattle.bg_base.specs.declared.names.Place.TheVariants.{Node, Region}
 use Rattle.bg_base.specs.declared.big.NodeRow.{NodeRow}
 use Rattle.bg_base.specs.declared.big.Big.{Big}
@@ -16,27 +16,6 @@ use Rattle.bg_rules.specs.Instantiation.{part}
 use Rattle.bg_react.specs.declared.parts.Member.{Member}
 use Rattle.bg_react.specs.Parts.{lies_under, member_region, member_row, AreMembers, AreParts}
 use Rattle.bg_react.proofs.Regions.{under_one}
-
--- ---- filters
-
-filter_agree_on : {X : Type 0} (p q : X → Bool) (xs : List X) → ((x : X) → Mem x xs → p x ≡ q x) → filter p xs ≡ filter q xs
-filter_agree_on p q [] same = refl
-filter_agree_on p q (x ∷ xs) same =
-    ap (λ b. cond b (x ∷ filter p xs) (filter p xs)) (same x (here refl))
-    ∙ ap (λ ys. cond (q x) (x ∷ ys) ys) (filter_agree_on p q xs (λ y m. same y (there m)))
-
-filter_map_is : {X Y : Type 0} (f : X → Y) (p : Y → Bool) (xs : List X) → filter p (map f xs) ≡ map f (filter (λ x. p (f x)) xs)
-filter_map_is f p [] = refl
-filter_map_is f p (x ∷ xs) =
-    ap (λ ys. cond (p (f x)) (f x ∷ ys) ys) (filter_map_is f p xs)
-    ∙ cond_both (p (f x)) (x ∷ filter (λ y. p (f y)) xs) (filter (λ y. p (f y)) xs)
-    (λ zs. cond (p (f x)) (f x ∷ map f (filter (λ y. p (f y)) xs)) (map f (filter (λ y. p (f y)) xs)) ≡ map f zs)
-    (λ e. cond-true (p (f x)) _ _ e) (λ e. cond-false (p (f x)) _ _ e)
-
-same_test : (a b : Bool) → (a ≡ true → b ≡ true) → (b ≡ true → a ≡ true) → a ≡ b
-same_test true b to from = sym (to refl)
-same_test false true to from = from refl
-same_test false false to from = refl
 
 -- ---- members
 
@@ -57,7 +36,7 @@ pub members_of_region : (parameter : Big) (members : List Member) → AreMembers
 members_of_region parameter members are region =
     let under : NodeRow → Bool = λ row. lies_under parameter region (Node row.id) in
     let at : Member → Bool = λ member. member.region == region in
-    sym (part_is parameter region ∙ ap (filter under) (sym are.rows_are) ∙ filter_map_is member_row under members
+    sym (part_is parameter region ∙ ap (filter under) (sym are.rows_are) ∙ filter-map member_row under members
     ∙ ap (map member_row) (sym (filter_agree_on at (λ (member : Member). under member.row) members
     (λ member m. member_test parameter region member
     (All-member (λ (other : Member). lies_under parameter other.region (Node other.row.id) ≡ true) members are.right m)))))

@@ -1,5 +1,5 @@
 -- The region that a row of a parameter lies under: what a climb and the marks say of it.
-use Rattle.std.proofs.Common.{◌≡◌, ℕ, zero, suc, ◌+◌, ◌<◌, true, Option, Some, None, is_some, unwrap_or, option_map, List, length, slice_get, slice_set, length-set, refl, sym, ap, subst, ◌∙◌, [], ◌∷◌, arith, eq-eqb, lt-ltb, inl, inr}
+use Rattle.std.proofs.Common.{◌≡◌, ℕ, zero, suc, ◌+◌, ◌<◌, true, Option, Some, None, is_some, unwrap_or, option_map, List, length, slice_get, slice_set, length-set, refl, sym, ap, subst, ◌∙◌, arith, eq-eqb, lt-ltb, inl, inr}
 use Rattle.std.proofs.lemmas.Bool.{cases_eq}
 use Rattle.std.proofs.lemmas.Option.{slice_get_within}
 use Rattle.bg_base.specs.declared.names.Place.{Place}
@@ -14,6 +14,8 @@ use Rattle.bg_rules.specs.Instantiation.{is_under}
 use Rattle.bg_rules.proofs.Patterns.{parent_there}
 use Rattle.bg_rules.proofs.ParameterParts.{one_region, parent_under, region_from_under, in_some_part, Mem-unpart}
 use Rattle.bg_react.specs.Parts.{lies_under, met_above, height, LeadsUp, AreMarked}
+use Rattle.bg_lists.proofs.Places.{get-set_other, get-set_same}
+use Rattle.bg_lists.proofs.Tests.{given_mark}
 
 -- ---- the region
 
@@ -143,32 +145,12 @@ module _ (parameter : Big) (valid : IsValid parameter) where
 
   -- ---- marks
 
-  given : (mark : Option (Option ℕ)) (region : ℕ) → unwrap_or mark None ≡ Some region → mark ≡ Some (Some region)
-  given None region e = cc
-  given (Some mark) region e = ap Some e
-
   pub leads_to_mark : (node at region : ℕ) (row : NodeRow) (marks : List (Option ℕ)) → IsFirstRow parameter.nodes node at row → AreMarked parameter marks
       → unwrap_or (slice_get marks at) None ≡ Some region → LeadsUp parameter (Node node) (Region region)
   leads_to_mark node at region row marks is marked e =
       let number = (row_from_row_of parameter.nodes node is.first).1 in
       leads_to_region node region is.first
-      (subst (λ n. lies_under parameter region (Node n) ≡ true) number (marked.right at row region is.there (given (slice_get marks at) region e)))
-
--- ---- an item that is set
-
-get-set_other : {X : Type 0} (xs : List X) (k at : ℕ) (x : X) → (k ≡ at → ⊥) → slice_get (slice_set xs at x) k ≡ slice_get xs k
-get-set_other [] k at x apart = refl
-get-set_other (y ∷ ys) zero zero x apart = absurd (apart refl)
-get-set_other (y ∷ ys) zero (suc at) x apart = refl
-get-set_other (y ∷ ys) (suc k) zero x apart = refl
-get-set_other (y ∷ ys) (suc k) (suc at) x apart = get-set_other ys k at x (λ e. apart (ap suc e))
-
-get-set_same : {X : Type 0} (xs : List X) (k at : ℕ) (x : X) → k ≡ at → at < length xs → slice_get (slice_set xs at x) k ≡ Some x
-get-set_same [] k at x same inside = absurd (omega (arith, inside))
-get-set_same (y ∷ ys) zero zero x same inside = refl
-get-set_same (y ∷ ys) zero (suc at) x same inside = absurd (omega (arith, same))
-get-set_same (y ∷ ys) (suc k) zero x same inside = absurd (omega (arith, same))
-get-set_same (y ∷ ys) (suc k) (suc at) x same inside = get-set_same ys k at x (omega (arith, same)) (omega (arith, inside))
+      (subst (λ n. lies_under parameter region (Node n) ≡ true) number (marked.right at row region is.there (given_mark (slice_get marks at) region e)))
 
 module _ (parameter : Big) where
   marked_here : (k at node region mark : ℕ) (row other : NodeRow) → lies_under parameter region (Node node) ≡ true → IsFirstRow parameter.nodes node at row

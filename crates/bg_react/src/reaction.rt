@@ -227,7 +227,7 @@ fn with_reactum(alloc: Global, host: &Host, reactum: &Big, context: Big, instanc
 }
 
 /// So many numbers in a row, from the first on.
-#[tactic(auto, using(bg_algebra::proofs::Nested::counted_more))]
+#[tactic(auto, using(bg_base::proofs::Counted::counted_more))]
 fn numbers_from(alloc: Global, first: u32, count: u32) -> Mem<Rows<u32>>
     requires { first + count < 2 ^ 32 }
     ensures { IfOk result (λ numbers. numbers ≡ counted first count) }

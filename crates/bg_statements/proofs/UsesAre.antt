@@ -2,7 +2,6 @@
 use Rattle.std.proofs.Common.{◌≡◌, ◌+◌, ◌<◌, ◌≤◌, ◌++◌, ◌∷◌, [], ℕ, true, List, length, Result, Ok, All, refl, sym, ap, subst, ◌∙◌, arith}
 use Rattle.std.specs.Prelude.{slice_get, eqb}
 use Rattle.std.proofs.lemmas.Bool.{and_parts}
-use Rattle.bg_algebra.proofs.Nested.{Mem-counted}
 use Rattle.bg_base.specs.declared.big.Big.{Big}
 use Rattle.bg_base.specs.declared.big.NodeRow.{NodeRow}
 use Rattle.bg_base.specs.declared.labels.Label.{Label}
@@ -11,6 +10,7 @@ use Rattle.bg_base.specs.declared.signature.Control.{Control}
 use Rattle.bg_base.specs.Bigraph.{IsValid}
 use Rattle.bg_base.specs.Elementary.{counted}
 use Rattle.bg_base.specs.Translation.{node_numbers}
+use Rattle.bg_base.proofs.Counted.{Mem-counted}
 use Rattle.bg_lists.specs.Lists.{Mem}
 use Rattle.bg_lists.proofs.Members.{Mem-map}
 use Rattle.bg_lists.proofs.Words.{All-from_members}

@@ -10,8 +10,9 @@ use Rattle.bg_base.specs.Bigraph.{IsValid}
 use Rattle.bg_base.specs.Elementary.{counted}
 use Rattle.bg_base.specs.Products.{lean, has_point}
 use Rattle.bg_base.specs.Translation.{rename, node_numbers}
+use Rattle.bg_base.proofs.ProductLaws.{lean_outer}
+use Rattle.bg_base.proofs.Counted.{length-counted}
 use Rattle.bg_algebra.proofs.Changes.{lean_valid}
-use Rattle.bg_algebra.proofs.Nested.{length-counted}
 use Rattle.bg_algebra.proofs.Renamed.{rename_valid}
 use Rattle.bg_algebra.specs.Frame.{is_plain}
 use Rattle.bg_machine.specs.declared.met.Met.{Met}
@@ -40,10 +41,6 @@ rows_as_long rows count is =
     as_long (node_numbers rows) count is ∙ ap (λ n. counted 0 n) (length-map rows (λ (row : NodeRow). row.id))
 
 -- ---- the end of a whole expression
-
-lean_outer : (big : Big) → (lean big).outer ≡ big.outer
-unfolding lean
-lean_outer big = refl
 
 rename_outer : (big : Big) (nodes edges : List ℕ) → (rename big nodes edges).outer ≡ big.outer
 unfolding rename
