@@ -17,4 +17,17 @@ mod SaidFormulas
 mod SaidExpressions
 mod SaidStatements
 mod SaidModels
+mod Spelled
+mod Leaves
+mod TokensSpelled
+mod Expected
+mod ExpectedTerms
+mod ExpectedUses
+mod Fine
+mod FineFormulas
+mod FineExpressions
+mod FineStatements
+mod FineModels
+mod FineTrees
+mod OnlyGrammar
 pub mod Readings

@@ -158,10 +158,10 @@ abbrev x_said : Meaning
 x_said zero (formula first ∷ formula_items more ∷ []) = formula (first.0, λ scope. first.1 scope >>= formula_along more scope first.0)
 x_said i parts = unread
 
-abbrev operand_by : FormulaReading → ScopeParts → Result Operand Refusal
+abbrev pub operand_by : FormulaReading → ScopeParts → Result Operand Refusal
 operand_by x scope = x.1 scope >>= λ f. Ok (x.0, f)
 
-abbrev operands_by : FormulaReading → Operands → ScopeParts → Result (List Operand) Refusal
+abbrev pub operands_by : FormulaReading → Operands → ScopeParts → Result (List Operand) Refusal
 operands_by x more scope = operand_by x scope >>= λ f. more.1 scope >>= λ fs. Ok (f ∷ fs)
 
 abbrev more_x_said : Meaning
@@ -181,7 +181,7 @@ abbrev ref_said : Meaning
 ref_said zero (at_token at ∷ arguments args ∷ []) = referred (at, args)
 ref_said i parts = unread
 
-abbrev width_by : Visible → ℕ → Result ℕ Refusal
+abbrev pub width_by : Visible → ℕ → Result ℕ Refusal
 width_by visible number = number_at visible.scope number >>= λ z. Ok (nat_abs z)
 
 abbrev id_tail_said : Meaning
@@ -191,22 +191,22 @@ id_tail_said (suc zero) (at_token bracket ∷ tokens list ∷ at_token end ∷ [
 id_tail_said (suc (suc zero)) [] = identity (λ at visible. Ok (identity_of at 1 []))
 id_tail_said i parts = unread
 
-abbrev node_of : Visible → ℕ → Operands → List ℕ → ℕ × ControlEntry → Result Expression Refusal
+abbrev pub node_of : Visible → ℕ → Operands → List ℕ → ℕ × ControlEntry → Result Expression Refusal
 node_of visible at args ports found =
     if not (args.0 == found.1.formals) then refused WrongArguments at else (
     if not (length ports == found.1.shape.arity) then refused WrongPorts at else
     (args.1 visible.scope >>= λ fs. words_at visible ports >>= λ words. Ok (node at found.0 fs words)))
 
-abbrev node_by : ℕ → Operands → List ℕ → Visible → Result Expression Refusal
+abbrev pub node_by : ℕ → Operands → List ℕ → Visible → Result Expression Refusal
 node_by at args ports visible =
     there_or UnknownName at (look_up (spelling visible.scope at) visible.controls) >>= node_of visible at args ports
 
-abbrev definition_of : Visible → ℕ → Operands → ℕ × ℕ → Result Expression Refusal
+abbrev pub definition_of : Visible → ℕ → Operands → ℕ × ℕ → Result Expression Refusal
 definition_of visible at args found =
     if not (args.0 == found.1) then refused WrongArguments at else
     (args.1 visible.scope >>= λ fs. Ok (reference at found.0 fs))
 
-abbrev definition_by : ℕ → Operands → Visible → Result Expression Refusal
+abbrev pub definition_by : ℕ → Operands → Visible → Result Expression Refusal
 definition_by at args visible =
     there_or UnknownName at (look_up (spelling visible.scope at) visible.bigraphs) >>= definition_of visible at args
 
@@ -270,7 +270,7 @@ bigraph_said zero (at_token name ∷ formals fs ∷ at_token equals ∷ reading 
     with_expression word (length formals) e d)
 bigraph_said i parts = unread
 
-abbrev entry_by : ScopeParts → ℕ → List ℕ → Result (List ℕ) Refusal
+abbrev pub entry_by : ScopeParts → ℕ → List ℕ → Result (List ℕ) Refusal
 entry_by text token done = (number_at text token >>= λ z. Ok (min (nat_abs z) 4294967295)) >>= λ entry. Ok (done ++ entry ∷ [])
 
 abbrev more_num_said : Meaning
@@ -399,7 +399,7 @@ stmts_said i parts = unread
 
 -- ---- models
 
-abbrev reference_of : Referred → ScopeParts → List (Entry (List Value)) → ℕ × ℕ → Result Reference Refusal
+abbrev pub reference_of : Referred → ScopeParts → List (Entry (List Value)) → ℕ × ℕ → Result Reference Refusal
 reference_of r text parameters found =
     if not (r.1.0.0 == found.1) then refused WrongArguments r.0 else
     (let o = with_tokens text parameters r.1.1 (record { names = []; lists = [] }) in
@@ -407,7 +407,7 @@ reference_of r text parameters found =
     r.1.0.1 (record text { names = o.names }) >>= λ fs.
     Ok (record { at = r.0; name = name; number = found.0; arguments = fs; lists = o.lists }))
 
-abbrev reference_by : Referred → ScopeParts → List (Entry (List Value)) → List (Entry ℕ) → Result Reference Refusal
+abbrev pub reference_by : Referred → ScopeParts → List (Entry (List Value)) → List (Entry ℕ) → Result Reference Refusal
 reference_by r text parameters names = there_or UnknownName r.0 (look_up (spelling text r.0) names) >>= reference_of r text parameters
 
 abbrev listed_by : Referred → ScopeParts → NameSpacesParts → ℕ → List Listed → Result (List Listed) Refusal
@@ -457,7 +457,7 @@ preds_said zero (at_token word ∷ at_token equals ∷ at_token bracket ∷ refe
 preds_said (suc zero) [] = predicates (λ text spaces. Ok [])
 preds_said i parts = unread
 
-abbrev block_by : Referred → (ScopeParts → NameSpacesParts → List Listed × ℕ → Result (List Listed × ℕ) Refusal)
+abbrev pub block_by : Referred → (ScopeParts → NameSpacesParts → List Listed × ℕ → Result (List Listed × ℕ) Refusal)
     → (ScopeParts → NameSpacesParts → Result (List Reference) Refusal) → ScopeParts → NameSpacesParts → Result Block Refusal
 block_by init found preds text spaces =
     reference_by init text [] spaces.bigraphs >>= λ first. found text spaces ([], 0) >>= λ rules.

@@ -5,3 +5,4 @@ pub mod Systems
 pub mod Calls
 pub mod Elaboration
 pub mod Reading
+pub mod Spellings
