@@ -19,9 +19,9 @@ next_instance host reactum entries parameter = instantiate parameter entries (ho
 abbrev pub IsRecomposable : HostParts → Big → List ℕ → Big → Big → Type 0
 IsRecomposable host reactum entries context parameter =
     FitTogether
-      reactum
-      (counted host.next_node (length reactum.nodes))
-      context
-      (counted host.next_edge (length reactum.edges))
-      parameter.outer
-      (next_instance host reactum entries parameter)
+    reactum
+    (counted host.next_node (length reactum.nodes))
+    context
+    (counted host.next_edge (length reactum.edges))
+    parameter.outer
+    (next_instance host reactum entries parameter)
