@@ -303,8 +303,7 @@ fn the_first_parameter_varies_slowest(rt: HostRuntime) {
         "ctrl D = 0; big s = D.1; fun react r(x, y) = D --> D; begin brs int n = {1, 2}; int m = {3, 4}; \
         init s; rules = [ {r(n, m)}, {r(m, n)}, {r(n + n, 0), r(5, 6)} ]; end";
     let found = model(rt.alloc(), text.as_bytes());
-    for &(place, digits) in [13, 14, 23, 24, 131, 132, 141, 142, 220, 240, 256]
-        .iter()
+    for (place, digits) in [13, 14, 23, 24, 131, 132, 141, 142, 220, 240, 256]
         .iter()
         .enumerate()
     {
