@@ -12,7 +12,6 @@ use bg_base::{Big, Place};
 use bg_lists::OutOfMemory;
 use std::alloc::Global;
 use std::process::Abort;
-use std::test::Fail;
 
 /// The controls of these cases by number: A without ports, K with one.
 const A: u32 = 0;
@@ -112,7 +111,7 @@ fn two_regions(alloc: Global) -> Result<Big, AlgebraFault>
 }
 
 #[test]
-fn a_node_is_nested_in_a_node(rt: HostRuntime) -> Result<(), Fail> {
+fn a_node_is_nested_in_a_node(rt: HostRuntime) -> Result<(), AlgebraFault> {
     let alloc = rt.alloc();
     let above = ion(alloc, A, 0, &[])?;
     let below = atom(alloc, A, 1, &[])?;
@@ -123,7 +122,7 @@ fn a_node_is_nested_in_a_node(rt: HostRuntime) -> Result<(), Fail> {
 }
 
 #[test]
-fn a_merger_makes_one_region(rt: HostRuntime) -> Result<(), Fail> {
+fn a_merger_makes_one_region(rt: HostRuntime) -> Result<(), AlgebraFault> {
     let alloc = rt.alloc();
     let apart = two_regions(alloc)?;
     expect_parent(&rt, &apart, 1, Place::Region(1));
@@ -134,7 +133,7 @@ fn a_merger_makes_one_region(rt: HostRuntime) -> Result<(), Fail> {
 }
 
 #[test]
-fn a_name_is_shared(rt: HostRuntime) -> Result<(), Fail> {
+fn a_name_is_shared(rt: HostRuntime) -> Result<(), AlgebraFault> {
     let alloc = rt.alloc();
     let first = tied(alloc, 0, "x")?;
     let second = tied(alloc, 1, "x")?;
@@ -144,7 +143,7 @@ fn a_name_is_shared(rt: HostRuntime) -> Result<(), Fail> {
 }
 
 #[test]
-fn nothing_merges_to_a_region(rt: HostRuntime) -> Result<(), Fail> {
+fn nothing_merges_to_a_region(rt: HostRuntime) -> Result<(), AlgebraFault> {
     let alloc = rt.alloc();
     let merged = small_merge(alloc, &empty(alloc), &empty(alloc))?;
     expect_counts(&rt, &merged, 0, 0, 1, 0);
@@ -166,7 +165,7 @@ fn tensor_refusal(
 }
 
 #[test]
-fn tensor_refuses_names_before_nodes(rt: HostRuntime) -> Result<(), Fail> {
+fn tensor_refuses_names_before_nodes(rt: HostRuntime) -> Result<(), AlgebraFault> {
     let alloc = rt.alloc();
     let names = tensor_refusal(alloc, 0, "x", 0, "x")?;
     assert!(rt; names == Some(AlgebraFault::NamesMeet));
@@ -176,7 +175,7 @@ fn tensor_refuses_names_before_nodes(rt: HostRuntime) -> Result<(), Fail> {
 }
 
 #[test]
-fn products_refuse_inner_names_in_both(rt: HostRuntime) -> Result<(), Fail> {
+fn products_refuse_inner_names_in_both(rt: HostRuntime) -> Result<(), AlgebraFault> {
     let alloc = rt.alloc();
     let wire = wire(alloc)?;
     let parallel = small_parallel(alloc, &wire, &wire).err();
@@ -187,7 +186,7 @@ fn products_refuse_inner_names_in_both(rt: HostRuntime) -> Result<(), Fail> {
 }
 
 #[test]
-fn nest_refuses_inner_names_and_widths(rt: HostRuntime) -> Result<(), Fail> {
+fn nest_refuses_inner_names_and_widths(rt: HostRuntime) -> Result<(), AlgebraFault> {
     let alloc = rt.alloc();
     let node = atom(alloc, A, 0, &[])?;
     let named = small_nest(alloc, &wire(alloc)?, &node).err();
@@ -198,7 +197,7 @@ fn nest_refuses_inner_names_and_widths(rt: HostRuntime) -> Result<(), Fail> {
 }
 
 #[test]
-fn a_closed_name_is_an_edge(rt: HostRuntime) -> Result<(), Fail> {
+fn a_closed_name_is_an_edge(rt: HostRuntime) -> Result<(), AlgebraFault> {
     let alloc = rt.alloc();
     let node = tied(alloc, 3, "x")?;
     let unknown = close(alloc, &node, &plain_name(alloc, "y")?, 0).err();
@@ -211,7 +210,7 @@ fn a_closed_name_is_an_edge(rt: HostRuntime) -> Result<(), Fail> {
 }
 
 #[test]
-fn an_idle_edge_is_dropped(rt: HostRuntime) -> Result<(), Fail> {
+fn an_idle_edge_is_dropped(rt: HostRuntime) -> Result<(), AlgebraFault> {
     let alloc = rt.alloc();
     let name = [plain_name(alloc, "x")?];
     let open = idle(alloc, &name)?;
@@ -222,7 +221,7 @@ fn an_idle_edge_is_dropped(rt: HostRuntime) -> Result<(), Fail> {
 }
 
 #[test]
-fn a_node_is_numbered_anew(rt: HostRuntime) -> Result<(), Fail> {
+fn a_node_is_numbered_anew(rt: HostRuntime) -> Result<(), AlgebraFault> {
     let alloc = rt.alloc();
     let node = atom(alloc, A, 3, &[])?;
     if node.nodes.len() == 1 && node.edges.len() == 0 {
@@ -314,7 +313,7 @@ fn expect_socket(rt: &impl Abort, alloc: Global, count: u32) -> Result<(), Algeb
 }
 
 #[test]
-fn both_programs_compose_alike(rt: HostRuntime) -> Result<(), Fail> {
+fn both_programs_compose_alike(rt: HostRuntime) -> Result<(), AlgebraFault> {
     let alloc = rt.alloc();
     for count in 1..12 {
         expect_socket(&rt, alloc, count)?;

@@ -10,7 +10,6 @@ use bg_lists::{Duplicate, Mem, OutOfMemory, Rows};
 use bg_rules::{Host, Pattern, Rule, RuleFault, System, first_unsolid};
 use std::alloc::Global;
 use std::process::Abort;
-use std::test::Fail;
 
 /// The controls of these cases by number: A without ports, K with one.
 const A: u32 = 0;
@@ -39,26 +38,26 @@ fn idle_name(alloc: Global) -> Mem<Big>
 }
 
 #[test]
-fn a_node_with_a_site_is_solid(rt: HostRuntime) -> Result<(), Fail> {
+fn a_node_with_a_site_is_solid(rt: HostRuntime) -> Mem<()> {
     let room = ion(rt.alloc(), A, 0, &[])?;
     assert!(rt; first_unsolid(&room) == None);
     Ok(())
 }
 
 #[test]
-fn a_region_wants_a_node(rt: HostRuntime) -> Result<(), Fail> {
+fn a_region_wants_a_node(rt: HostRuntime) -> Mem<()> {
     assert!(rt; first_unsolid(&barren(rt.alloc())) == Some(1));
     Ok(())
 }
 
 #[test]
-fn nothing_has_no_node(rt: HostRuntime) -> Result<(), Fail> {
+fn nothing_has_no_node(rt: HostRuntime) -> Mem<()> {
     assert!(rt; first_unsolid(&empty(rt.alloc())) == Some(5));
     Ok(())
 }
 
 #[test]
-fn a_site_lies_in_no_region(rt: HostRuntime) -> Result<(), Fail> {
+fn a_site_lies_in_no_region(rt: HostRuntime) -> Result<(), AlgebraFault> {
     let alloc = rt.alloc();
     let beside_a_site = merged(alloc, &atom(alloc, A, 0, &[])?, &merger(alloc, 1)?)?;
     assert!(rt; first_unsolid(&beside_a_site) == Some(4));
@@ -66,7 +65,7 @@ fn a_site_lies_in_no_region(rt: HostRuntime) -> Result<(), Fail> {
 }
 
 #[test]
-fn sites_lie_apart(rt: HostRuntime) -> Result<(), Fail> {
+fn sites_lie_apart(rt: HostRuntime) -> Result<(), AlgebraFault> {
     let alloc = rt.alloc();
     let two_sites = compose(alloc, &ion(alloc, A, 0, &[])?, &merger(alloc, 2)?)?;
     assert!(rt; first_unsolid(&two_sites) == Some(3));
@@ -74,7 +73,7 @@ fn sites_lie_apart(rt: HostRuntime) -> Result<(), Fail> {
 }
 
 #[test]
-fn a_name_wants_a_point(rt: HostRuntime) -> Result<(), Fail> {
+fn a_name_wants_a_point(rt: HostRuntime) -> Result<(), AlgebraFault> {
     let alloc = rt.alloc();
     let beside_a_name = merged(alloc, &idle_name(alloc)?, &atom(alloc, A, 0, &[])?)?;
     assert!(rt; first_unsolid(&beside_a_name) == Some(2));
@@ -82,7 +81,7 @@ fn a_name_wants_a_point(rt: HostRuntime) -> Result<(), Fail> {
 }
 
 #[test]
-fn names_are_plain(rt: HostRuntime) -> Result<(), Fail> {
+fn names_are_plain(rt: HostRuntime) -> Mem<()> {
     let alloc = rt.alloc();
     let names = [Name::Opened(3)];
     let tied = atom(alloc, K, 0, names.as_slice())?;
@@ -91,7 +90,7 @@ fn names_are_plain(rt: HostRuntime) -> Result<(), Fail> {
 }
 
 #[test]
-fn the_least_clause_is_named(rt: HostRuntime) -> Result<(), Fail> {
+fn the_least_clause_is_named(rt: HostRuntime) -> Result<(), AlgebraFault> {
     let alloc = rt.alloc();
     let site = merger(alloc, 1)?;
     assert!(rt; first_unsolid(&site) == Some(1));
@@ -131,7 +130,7 @@ fn room_pattern(alloc: Global) -> Mem<Pattern> {
 }
 
 #[test]
-fn the_copy_of_a_pattern_is_a_pattern(rt: HostRuntime) -> Result<(), Fail> {
+fn the_copy_of_a_pattern_is_a_pattern(rt: HostRuntime) -> Mem<()> {
     let copy = room_pattern(rt.alloc())?.copy(rt.alloc())?;
     assert!(rt; copy.big().nodes.len() == 1);
     assert!(rt; copy.big().sites.len() == 1);
@@ -163,7 +162,7 @@ fn expect_rooms(rt: &impl Abort, rule: &Rule) {
 }
 
 #[test]
-fn a_rule_keeps_its_parts(rt: HostRuntime) -> Result<(), Fail> {
+fn a_rule_keeps_its_parts(rt: HostRuntime) -> Mem<()> {
     let alloc = rt.alloc();
     match rule_of(alloc, room(alloc)?, vec![in alloc; 0]?)? {
         Ok(rule) => expect_rooms(&rt, &rule),
@@ -173,7 +172,7 @@ fn a_rule_keeps_its_parts(rt: HostRuntime) -> Result<(), Fail> {
 }
 
 #[test]
-fn sides_have_the_same_names(rt: HostRuntime) -> Result<(), Fail> {
+fn sides_have_the_same_names(rt: HostRuntime) -> Mem<()> {
     let alloc = rt.alloc();
     let rule = rule_of(alloc, tied(alloc)?, Vec::new(alloc))?;
     assert!(rt; rule.err().map(|fault| fault.number()) == Some(47));
@@ -181,7 +180,7 @@ fn sides_have_the_same_names(rt: HostRuntime) -> Result<(), Fail> {
 }
 
 #[test]
-fn a_map_leads_to_sites(rt: HostRuntime) -> Result<(), Fail> {
+fn a_map_leads_to_sites(rt: HostRuntime) -> Mem<()> {
     let alloc = rt.alloc();
     let beyond = rule_of(alloc, room(alloc)?, vec![in alloc; 1]?)?;
     assert!(rt; beyond.err() == Some(RuleFault::BadMap));
@@ -201,7 +200,7 @@ fn host_of(alloc: Global, node: u32) -> Mem<Host> {
 }
 
 #[test]
-fn counters_are_past_the_numbers(rt: HostRuntime) -> Result<(), Fail> {
+fn counters_are_past_the_numbers(rt: HostRuntime) -> Mem<()> {
     let host = host_of(rt.alloc(), 7)?.copy(rt.alloc())?;
     assert!(rt; host.next_node() == 8);
     assert!(rt; host.next_edge() == 0);
@@ -222,7 +221,7 @@ fn bare_system(alloc: Global, classes: u32) -> System {
 }
 
 #[test]
-fn a_system_keeps_its_parts(rt: HostRuntime) -> Result<(), Fail> {
+fn a_system_keeps_its_parts(rt: HostRuntime) -> Mem<()> {
     let system = bare_system(rt.alloc(), 3);
     assert!(rt; system.classes() == 3);
     assert!(rt; system.init().next_edge() == 6);
