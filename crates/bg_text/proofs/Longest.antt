@@ -1,5 +1,5 @@
 -- The longest token by its first byte.
-use Rattle.std.proofs.Common.{◌≡◌, ℕ, zero, suc, ◌<◌, ◌≤◌, Bool, true, false, ◌&&◌, cond, eqb, List, [], ◌∷◌, Option, Some, None, length, get_or, take, refl, sym, ap, ◌∙◌, arith}
+use Rattle.std.proofs.Common.{◌≡◌, ℕ, zero, suc, ◌<◌, ◌≤◌, Bool, true, false, ◌&&◌, cond, eqb, eqb-true, List, [], ◌∷◌, Option, Some, None, length, get_or, take, refl, sym, ap, ◌∙◌, arith}
 use Rattle.std.specs.List.{prefix_len, list_all}
 use Rattle.std.specs.Char.{is_ascii_digit, is_ascii_lowercase, is_ascii_uppercase}
 use Rattle.std.proofs.lemmas.List.Sums.{prefix_len-le-length}
@@ -198,11 +198,8 @@ mark_longest (a ∷ bytes) kind l e h k s = record {
   longest = mark_longer (a ∷ bytes) e h k;
 }
 
-eqb_is : (b n : ℕ) → eqb b n ≡ true → b ≡ n
-eqb_is b n e = grind arith
-
 mark_not : (b n : ℕ) (v : Bool) → eqb b n ≡ v → (b ≡ n → mark b ≡ None → ⊥) → mark b ≡ None → eqb b n ≡ false
-mark_not b n true e h k = absurd (h (eqb_is b n e) k)
+mark_not b n true e h k = absurd (h (eqb-true b n e) k)
 mark_not b n false e h k = e
 
 bar_is_mark : (b : ℕ) → b ≡ 124 → mark b ≡ None → ⊥

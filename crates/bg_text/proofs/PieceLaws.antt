@@ -1,5 +1,5 @@
 -- What stands in front, by the first byte.
-use Rattle.std.proofs.Common.{◌≡◌, ℕ, zero, suc, ◌+◌, ◌<◌, ◌≤◌, Bool, true, false, cond, eqb, leb, ltb, List, [], ◌∷◌, Some, None, length, get_or, take, drop, refl, sym, ap, subst, ◌∙◌, arith}
+use Rattle.std.proofs.Common.{◌≡◌, ℕ, zero, suc, ◌+◌, ◌<◌, ◌≤◌, Bool, true, false, cond, eqb, eqb-true, leb, ltb, List, [], ◌∷◌, Some, None, length, get_or, take, drop, refl, sym, ap, subst, ◌∙◌, arith}
 use Rattle.std.specs.List.{prefix_len}
 use Rattle.std.specs.Char.{is_ascii_digit, is_ascii_lowercase, is_ascii_uppercase}
 use Rattle.std.specs.Str.Parse.{digits_value}
@@ -108,9 +108,6 @@ number_is bytes digits behind kind count size e c d b t h k s = record {
 not_quote : (b : ℕ) → eqb b 34 ≡ false → b ≡ 34 → ⊥
 not_quote b e f = grind arith
 
-quote_is : (b : ℕ) → eqb b 34 ≡ true → b ≡ 34
-quote_is b e = grind arith
-
 pub open_refused : (bytes rest : List ℕ) (inside : ℕ) → get_or bytes 0 0 ≡ 34 → rest ≡ drop 1 bytes → inside ≡ prefix_len is_inside rest → eqb (get_or rest inside 0) 34 ≡ false → Refuses bytes 22 0
 open_refused [] rest inside e r i q = absurd (omega arith)
 open_refused (b ∷ bytes) rest inside e r i q =
@@ -124,7 +121,7 @@ bad_text_refused (b ∷ bytes) rest inside good apart e r i q g l a =
     let g1 : good ≡ prefix_len is_text_byte bytes = g ∙ ap (prefix_len is_text_byte) r in
     let a1 : apart ≡ suc (prefix_len is_text_byte bytes) = omega arith in
     let l1 : prefix_len is_text_byte bytes < prefix_len is_inside bytes = omega arith in
-    rw a1 (bad_in_text {b = b} {bytes = bytes} e (quote_is (get_or bytes (prefix_len is_inside bytes) 0) (ap (λ n. eqb (get_or bytes n 0) 34) (sym i1) ∙ ap (λ y. eqb (get_or y inside 0) 34) (sym r) ∙ q)) l1)
+    rw a1 (bad_in_text {b = b} {bytes = bytes} e (eqb-true (get_or bytes (prefix_len is_inside bytes) 0) 34 (ap (λ n. eqb (get_or bytes n 0) 34) (sym i1) ∙ ap (λ y. eqb (get_or y inside 0) 34) (sym r) ∙ q)) l1)
 
 pub text_is : (bytes rest : List ℕ) (inside good size : ℕ) → get_or bytes 0 0 ≡ 34 → rest ≡ drop 1 bytes → inside ≡ prefix_len is_inside rest → eqb (get_or rest inside 0) 34 ≡ true
     → good ≡ prefix_len is_text_byte rest → inside ≤ good → size ≡ good + 2 → IsToken bytes Text size
@@ -137,7 +134,7 @@ text_is (b ∷ bytes) rest inside good size e r i q g l s =
     let s1 : size ≡ suc (suc (prefix_len is_text_byte bytes)) = omega arith in
     record {
       is_longest = same_longest (b ∷ bytes) Text Text (suc (suc (prefix_len is_text_byte bytes))) size refl s1
-          (text_longest b bytes e (quote_is (get_or bytes (prefix_len is_text_byte bytes) 0) (ap (λ n. eqb (get_or bytes n 0) 34) (sym n) ∙ ap (λ y. eqb (get_or y inside 0) 34) (sym r) ∙ q)));
+          (text_longest b bytes e (eqb-true (get_or bytes (prefix_len is_text_byte bytes) 0) 34 (ap (λ n. eqb (get_or bytes n 0) 34) (sym n) ∙ ap (λ y. eqb (get_or y inside 0) 34) (sym r) ∙ q)));
       number = no_digit_no_fault (b ∷ bytes) (quote_no_digit b e);
     }
 

@@ -1,5 +1,5 @@
 -- The laws of runs: the bytes in front that pass a test.
-use Rattle.std.proofs.Common.{◌≡◌, ℕ, zero, suc, ◌+◌, ◌<◌, ◌≤◌, Bool, true, false, ◌&&◌, cond, eqb, List, [], ◌∷◌, length, get_or, take, refl, sym, ap, ◌∙◌, arith}
+use Rattle.std.proofs.Common.{◌≡◌, ℕ, zero, suc, ◌+◌, ◌<◌, ◌≤◌, Bool, true, false, ◌&&◌, cond, eqb, eqb-true, List, [], ◌∷◌, length, get_or, take, refl, sym, ap, ◌∙◌, arith}
 use Rattle.std.specs.List.{prefix_len, list_all}
 use Rattle.std.proofs.lemmas.Bool.{and_parts}
 use Rattle.bg_text.specs.Spelling.{is_text_byte, is_closed}
@@ -29,9 +29,6 @@ run_fails p (b ∷ bytes) (suc m) lt le = fails_if p b bytes m (p b) refl lt (λ
 quote_is_no_text_byte : (b : ℕ) → eqb b 34 ≡ true → is_text_byte b ≡ false
 quote_is_no_text_byte b e = grind arith
 
-quote_is : (b : ℕ) → eqb b 34 ≡ true → b ≡ 34
-quote_is b e = grind arith
-
 is_quote : (b : ℕ) → b ≡ 34 → eqb b 34 ≡ true
 is_quote b e = grind arith
 
@@ -58,7 +55,7 @@ closed_is [] (suc m) le e = absurd (omega arith)
 closed_is (b ∷ bytes) zero le e = absurd cc
 closed_is (b ∷ bytes) (suc zero) le e =
     let n : prefix_len is_text_byte (b ∷ bytes) ≡ 0 = ap (λ v. cond v (1 + prefix_len is_text_byte bytes) 0) (quote_is_no_text_byte b e) in
-    record { size = ap suc (sym n); quote = ap (λ k. get_or (b ∷ bytes) k 0) n ∙ quote_is b e }
+    record { size = ap suc (sym n); quote = ap (λ k. get_or (b ∷ bytes) k 0) n ∙ eqb-true b 34 e }
 closed_is (b ∷ []) (suc (suc m)) le e = absurd (omega arith)
 closed_is (b ∷ c ∷ bytes) (suc (suc m)) le e =
     let t = and_parts (is_text_byte b) (is_closed (c ∷ take m bytes)) e in

@@ -1,5 +1,5 @@
 -- A text is cut in one way, and where it is refused in none.
-use Rattle.std.proofs.Common.{◌≡◌, ℕ, zero, suc, ◌+◌, ◌<◌, ◌≤◌, Bool, true, false, cond, eqb, List, [], ◌∷◌, Option, Some, None, get_or, take, drop, refl, sym, ap, subst, ◌∙◌, arith}
+use Rattle.std.proofs.Common.{◌≡◌, ℕ, zero, suc, ◌+◌, ◌<◌, ◌≤◌, Bool, true, false, cond, eqb, eqb-true, List, [], ◌∷◌, Option, Some, None, get_or, take, drop, refl, sym, ap, subst, ◌∙◌, arith}
 use Rattle.std.specs.List.{prefix_len}
 use Rattle.std.specs.Char.{is_ascii_digit}
 use Rattle.bg_text.specs.declared.token.TokenKind.{TokenKind}
@@ -76,16 +76,13 @@ hash_spells (a ∷ b ∷ c ∷ w) = refl
 at_byte : (b n : ℕ) (w : List ℕ) → b ≡ n → kind_of (n ∷ w) ≡ None → kind_of (b ∷ w) ≡ None
 at_byte b n w e h = ap (λ x. kind_of (x ∷ w)) e ∙ h
 
-eqb_is : (b n : ℕ) → eqb b n ≡ true → b ≡ n
-eqb_is b n e = grind arith
-
 last_space : (b : ℕ) → is_space b ≡ true → eqb b 32 ≡ false → eqb b 9 ≡ false → eqb b 13 ≡ false → b ≡ 10
 last_space b e f g h = grind arith
 
 space_spells : (b : ℕ) (w : List ℕ) (u v x : Bool) → is_space b ≡ true → eqb b 32 ≡ u → eqb b 9 ≡ v → eqb b 13 ≡ x → kind_of (b ∷ w) ≡ None
-space_spells b w true v x e f g h = at_byte b 32 w (eqb_is b 32 f) (blank_spells w)
-space_spells b w false true x e f g h = at_byte b 9 w (eqb_is b 9 g) (tab_spells w)
-space_spells b w false false true e f g h = at_byte b 13 w (eqb_is b 13 h) (return_spells w)
+space_spells b w true v x e f g h = at_byte b 32 w (eqb-true b 32 f) (blank_spells w)
+space_spells b w false true x e f g h = at_byte b 9 w (eqb-true b 9 g) (tab_spells w)
+space_spells b w false false true e f g h = at_byte b 13 w (eqb-true b 13 h) (return_spells w)
 space_spells b w false false false e f g h = at_byte b 10 w (last_space b e f g h) (feed_spells w)
 
 gap_spells : (bytes : List ℕ) (n size : ℕ) (kind : TokenKind) → IsGap bytes n → 0 < size → kind_of (take size bytes) ≡ Some kind → ⊥
