@@ -19,26 +19,18 @@ use Rattle.bg_base.proofs.SearchLaws.{edge_searched}
 use Rattle.bg_rules.proofs.Patterns.{parent_there}
 use Rattle.bg_base.proofs.LookUps.{row_from_row_of, has_row}
 use Rattle.bg_base.proofs.Climbs.{row_from_reaches, reaches-Climb, Climb-from_place}
+use Rattle.bg_rules.specs.Climbs.{is_met}
 use Rattle.bg_rules.specs.Instantiation.{is_among}
 use Rattle.bg_rules.proofs.Upwards.{IsMet, IsMet-here, IsMet-above, IsMet-parent, meets_some, IsMet-from_meets_some, meets_some-IsMet, member_from_is_among, not_among}
-use Rattle.bg_match.specs.ImagePlaces.{is_met}
-use Rattle.bg_match.proofs.Climbing.{met_outside}
-use Rattle.bg_match.proofs.PlaceLaws.{met_is_below}
+use Rattle.bg_rules.proofs.Climbing.{met_outside}
 use Rattle.bg_decompose.specs.Marks.{is_covered, is_outside, is_inside, AreMarked}
 use Rattle.bg_decompose.specs.Parts.{edges_left}
 
--- ---- the two tests are one
+-- ---- the test
 
--- an image is met going up from the place
-abbrev pub covers : Big → List ℕ → Place → Bool
-covers host images place = is_met host.nodes images (length host.nodes) place
-
-pub covered_is : (host : Big) (images : List ℕ) (node : ℕ) → is_covered host images node ≡ covers host images (Node node)
+pub covered_is : (host : Big) (images : List ℕ) (node : ℕ) → is_covered host images node ≡ meets_some host images (Node node)
 unfolding is_covered
 covered_is host images node = refl
-
-pub covers_is : (host : Big) (images : List ℕ) (place : Place) → covers host images place ≡ meets_some host images place
-covers_is host images place = met_is_below host.nodes images (length host.nodes) place
 
 -- the same images in another order
 pub among_same : (xs ys : List ℕ) → IsPermutation xs ys → (number : ℕ) → is_among number ys ≡ is_among number xs
@@ -80,22 +72,22 @@ has_searched sorted number r up range at =
 -- ---- one move
 
 module _ (host : Big) (images : List ℕ) (valid : IsValid host) where
-  covers_from : {place : Place} → has_place host place ≡ true → IsMet host.nodes images place → covers host images place ≡ true
-  covers_from {place} has met = covers_is host images place ∙ meets_some-IsMet host images valid has met
+  covers_from : {place : Place} → has_place host place ≡ true → IsMet host.nodes images place → meets_some host images place ≡ true
+  covers_from {place} has met = meets_some-IsMet host images valid has met
 
-  met_from : (place : Place) → covers host images place ≡ true → IsMet host.nodes images place
-  met_from place e = IsMet-from_meets_some host images place (sym (covers_is host images place) ∙ e)
+  met_from : (place : Place) → meets_some host images place ≡ true → IsMet host.nodes images place
+  met_from place e = IsMet-from_meets_some host images place e
 
   -- an image is covered
-  pub covers_image : {row : NodeRow} → Mem row host.nodes → is_among row.id images ≡ true → covers host images (Node row.id) ≡ true
+  pub covers_image : {row : NodeRow} → Mem row host.nodes → is_among row.id images ≡ true → meets_some host images (Node row.id) ≡ true
   covers_image {row} m among =
       covers_from (has_row host.nodes m refl) (IsMet-here host.nodes images (member_from_is_among images row.id among) refl)
 
   -- what is no image is covered where its parent is
   pub covers_parent : {row : NodeRow} → Mem row host.nodes → is_among row.id images ≡ false → has_place host row.parent ≡ true
-      → covers host images (Node row.id) ≡ covers host images row.parent
+      → meets_some host images (Node row.id) ≡ meets_some host images row.parent
   covers_parent {row} m other has =
-      same_test (covers host images (Node row.id)) (covers host images row.parent)
+      same_test (meets_some host images (Node row.id)) (meets_some host images row.parent)
       (λ e. covers_from has (IsMet-parent host.nodes images valid.nodes_ascend m (not_among images other) (met_from (Node row.id) e)))
       (λ e. covers_from (has_row host.nodes m refl) (IsMet-above host.nodes images m (met_from row.parent e)))
 
@@ -104,7 +96,7 @@ module _ (host : Big) (images : List ℕ) (valid : IsValid host) where
 -- where a climb stands: a region is reached from there, and an image is met from the start where one is from there
 pub record Climbed (host : Big) (images : List ℕ) (start moves : ℕ) (place : Place) : Type 0 where
   pub left : reaches host.nodes host.regions moves place ≡ true
-  pub same : is_covered host images start ≡ covers host images place
+  pub same : is_covered host images start ≡ meets_some host images place
 
 rooted_row : (rows : List NodeRow) (regions moves node : ℕ) (row : NodeRow) → 0 < moves → reaches rows regions moves (Node node) ≡ true
     → row_of rows node ≡ Some row → reaches rows regions (moves - 1) row.parent ≡ true
@@ -143,21 +135,21 @@ module _ (host : Big) (images : List ℕ) (valid : IsValid host) where
       → is_among node images ≡ true → true ≡ is_covered host images start
   climb_found start moves node at row climbed is among =
       let found = row_from_row_of host.nodes node is.first in
-      sym (climbed.same ∙ subst (λ n. covers host images (Node n) ≡ true) found.1
+      sym (climbed.same ∙ subst (λ n. meets_some host images (Node n) ≡ true) found.1
       (covers_image host images valid found.0 (subst (λ n. is_among n images ≡ true) (sym found.1) among)))
 
   pub climb_marked : (start moves node at : ℕ) (row : NodeRow) (marks : List (Option Bool)) (covered : Bool) → Climbed host images start moves (Node node)
       → IsFirstRow host.nodes node at row → AreMarked host images marks → unwrap_or (slice_get marks at) None ≡ Some covered → covered ≡ is_covered host images start
   climb_marked start moves node at row marks covered climbed is marked e =
       let found = row_from_row_of host.nodes node is.first in
-      sym (climbed.same ∙ ap (λ n. covers host images (Node n)) (sym found.1) ∙ sym (covered_is host images row.id)
+      sym (climbed.same ∙ ap (λ n. meets_some host images (Node n)) (sym found.1) ∙ sym (covered_is host images row.id)
       ∙ marked.right at row covered is.there (given_mark (slice_get marks at) covered e))
 
   covers_next : (node at : ℕ) (row : NodeRow) → IsFirstRow host.nodes node at row → is_among node images ≡ false
-      → covers host images (Node node) ≡ covers host images row.parent
+      → meets_some host images (Node node) ≡ meets_some host images row.parent
   covers_next node at row is other =
       let found = row_from_row_of host.nodes node is.first in
-      ap (λ n. covers host images (Node n)) (sym found.1)
+      ap (λ n. meets_some host images (Node n)) (sym found.1)
       ∙ covers_parent host images valid found.0 (subst (λ n. is_among n images ≡ false) (sym found.1) other) (parent_there host valid found.0)
 
   pub climb_next : (start moves node at : ℕ) (row : NodeRow) → 0 < moves → Climbed host images start moves (Node node) → IsFirstRow host.nodes node at row
@@ -172,21 +164,21 @@ module _ (host : Big) (images : List ℕ) (valid : IsValid host) where
 
   -- ---- marks
 
-  pub known_next : (node at : ℕ) (row : NodeRow) (covered : Bool) → covered ≡ covers host images (Node node) → IsFirstRow host.nodes node at row
-      → is_among node images ≡ false → covered ≡ covers host images row.parent
+  pub known_next : (node at : ℕ) (row : NodeRow) (covered : Bool) → covered ≡ meets_some host images (Node node) → IsFirstRow host.nodes node at row
+      → is_among node images ≡ false → covered ≡ meets_some host images row.parent
   known_next node at row covered known is other = known ∙ covers_next node at row is other
 
-  marked_here : (k at node : ℕ) (row other : NodeRow) (covered mark : Bool) → covered ≡ covers host images (Node node) → IsFirstRow host.nodes node at row
+  marked_here : (k at node : ℕ) (row other : NodeRow) (covered mark : Bool) → covered ≡ meets_some host images (Node node) → IsFirstRow host.nodes node at row
       → k ≡ at → slice_get host.nodes k ≡ Some other → covered ≡ mark → is_covered host images other.id ≡ mark
   marked_here k at node row other covered mark known is same here e =
       let both : Some row ≡ Some other = sym is.there ∙ ap (slice_get host.nodes) (sym same) ∙ here in
       let one : row ≡ other = cc in
       let found = row_from_row_of host.nodes node is.first in
-      covered_is host images other.id ∙ ap (λ (r : NodeRow). covers host images (Node r.id)) (sym one)
-      ∙ ap (λ n. covers host images (Node n)) found.1 ∙ sym known ∙ e
+      covered_is host images other.id ∙ ap (λ (r : NodeRow). meets_some host images (Node r.id)) (sym one)
+      ∙ ap (λ n. meets_some host images (Node n)) found.1 ∙ sym known ∙ e
 
   pub marked_more : (marks : List (Option Bool)) (node at : ℕ) (row : NodeRow) (covered : Bool) → AreMarked host images marks
-      → covered ≡ covers host images (Node node) → IsFirstRow host.nodes node at row → AreMarked host images (slice_set marks at (Some covered))
+      → covered ≡ meets_some host images (Node node) → IsFirstRow host.nodes node at row → AreMarked host images (slice_set marks at (Some covered))
   marked_more marks node at row covered marked known is =
       record {
         count = length-set marks at (Some covered) ∙ marked.count;

@@ -5,12 +5,12 @@ use Rattle.bg_base.specs.declared.signature.Control.{Control}
 use Rattle.bg_base.specs.Bigraph.{IsValid, IsValidUnder, IsGround}
 use Rattle.bg_rules.specs.Solid.{IsPattern}
 use Rattle.bg_rules.specs.Decomposition.{Decomposes, Occurs}
+use Rattle.bg_rules.specs.Images.{AreListed}
 use Rattle.bg_rules.specs.LocalConditions.{MeetsLocally}
 use Rattle.bg_rules.proofs.Glued.{Glued}
 use Rattle.bg_rules.proofs.Grounded.{host_ground}
 use Rattle.bg_rules.proofs.Occurrences.{occurs_locally, decomposed}
 use Rattle.bg_rules.proofs.Signed.{context_valid_under, parameter_valid_under}
-use Rattle.bg_match.specs.Images.{AreListed}
 use Rattle.bg_decompose.specs.Joining.{IsJoinable}
 use Rattle.bg_decompose.specs.Cuts.{IsCut}
 use Rattle.bg_decompose.proofs.Whole.{cut_glued}

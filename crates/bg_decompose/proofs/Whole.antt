@@ -34,20 +34,18 @@ use Rattle.bg_rules.proofs.Glued.{Glued}
 use Rattle.bg_rules.proofs.Patterns.{full_region, used_name, used_edge, one_site, site_node, image_mem, image_injective, along_at_place}
 use Rattle.bg_rules.proofs.Upwards.{among_cases, not_among, meets_some, IsMet-from_meets_some}
 use Rattle.bg_rules.proofs.Choices.{position, At-position}
-use Rattle.bg_rules.proofs.Images.{pattern_edges_differ}
+use Rattle.bg_rules.proofs.ImageRows.{pattern_edges_differ}
 use Rattle.bg_rules.proofs.Parameters.{IsInside, sites_in, site_above, cut_length, cut_image, cut_other, parameter_rows, parameter_of}
 use Rattle.bg_rules.proofs.Parameters as rule
 use Rattle.bg_rules.proofs.Contexts.{context_of, IsSiteOf, Carries, by_pattern, by_parameter, FitsHost}
 use Rattle.bg_rules.proofs.Contexts as above
 use Rattle.bg_rules.proofs.Construct.{glued_from_fits}
 use Rattle.bg_rules.proofs.Occurrences.{decomposed}
-use Rattle.bg_match.specs.ImageLinks.{image_link}
-use Rattle.bg_match.specs.ImagePlaces.{first_child}
-use Rattle.bg_match.proofs.LinkLaws.{link_there}
+use Rattle.bg_rules.proofs.LinkImages.{link_there}
 use Rattle.bg_decompose.specs.Marks.{is_covered, is_outside, is_inside}
 use Rattle.bg_decompose.specs.Parts.{edge_in, image_edge, place_at, site_place, outer_row, port_rows, all_port_rows, IsSiteTable, cut_place, cut_row}
 use Rattle.bg_decompose.specs.Cuts.{edge_images, context, parameter, IsCut}
-use Rattle.bg_decompose.proofs.Covered.{covered_is, covers_is}
+use Rattle.bg_decompose.proofs.Covered.{covered_is}
 
 -- ---- the rows of names of ports
 
@@ -90,14 +88,11 @@ module _ (pattern : Big) (nodes : List ℕ) where
 
 -- ---- the nodes inside and outside
 
-covered_meets : (host : Big) (nodes : List ℕ) (node : ℕ) → is_covered host nodes node ≡ meets_some host nodes (Node node)
-covered_meets host nodes node = covered_is host nodes node ∙ covers_is host nodes (Node node)
-
 inside_same : (host : Big) (nodes : List ℕ) → filter (is_inside host nodes) host.nodes ≡ filter (rule.is_inside host nodes) host.nodes
-inside_same host nodes = λ t. filter (λ (row : NodeRow). not (is_among row.id nodes) && covered_meets host nodes row.id t) host.nodes
+inside_same host nodes = λ t. filter (λ (row : NodeRow). not (is_among row.id nodes) && covered_is host nodes row.id t) host.nodes
 
 outside_same : (host : Big) (nodes : List ℕ) → filter (is_outside host nodes) host.nodes ≡ filter (above.is_outside host nodes) host.nodes
-outside_same host nodes = λ t. filter (λ (row : NodeRow). not (covered_meets host nodes row.id t)) host.nodes
+outside_same host nodes = λ t. filter (λ (row : NodeRow). not (covered_is host nodes row.id t)) host.nodes
 
 inside_row : (host : Big) (nodes : List ℕ) {row : NodeRow} → Mem row (filter (rule.is_inside host nodes) host.nodes) → IsInside host nodes row
 inside_row host nodes {row} m =
@@ -116,7 +111,7 @@ module _ (host pattern : Big) (nodes : List ℕ) (is : IsPattern pattern) (host_
   edge_is edge m =
       let w = local.closed edge m in
       let u = used_edge pattern is m in
-      let t = link_there host pattern nodes host_valid is local.nodes_new local.images u.2 u.3 in
+      let t = link_there host pattern nodes host_valid local.images u.2 u.3 in
       let link : t.0 ≡ Edge w.0 = w.1.onto t.2 t.3 t.4 t.0 t.5 t.6 t.7 in
       let image : image_edge host pattern nodes edge ≡ w.0 = ap (edge_in edge) (t.1 ∙ ap Some link) in
       let a = At-from_Mem m in
@@ -168,7 +163,7 @@ module _ (host pattern : Big) (nodes : List ℕ) (is : IsPattern pattern) (host_
   carries_name : (name : Name) → Mem name pattern.outer → Carries host pattern nodes name (outer_row host pattern nodes name).link
   carries_name name m =
       let u = used_name pattern is m in
-      let t = link_there host pattern nodes host_valid is local.nodes_new local.images u.2 u.3 in
+      let t = link_there host pattern nodes host_valid local.images u.2 u.3 in
       let link : t.0 ≡ (outer_row host pattern nodes name).link = sym (ap (λ o. unwrap_or o (Outer name)) t.1) in
       subst (Carries host pattern nodes name) link (by_pattern t.5 t.6 t.7)
 

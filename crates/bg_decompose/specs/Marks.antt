@@ -3,8 +3,8 @@ use Rattle.std.specs.Prelude.{◌≡◌, ℕ, Bool, not, ◌&&◌, Option, Some,
 use Rattle.bg_base.specs.declared.names.Place.TheVariants.{Node}
 use Rattle.bg_base.specs.declared.big.NodeRow.{NodeRow}
 use Rattle.bg_base.specs.declared.big.Big.{Big}
+use Rattle.bg_rules.specs.Climbs.{is_met}
 use Rattle.bg_rules.specs.Instantiation.{is_among}
-use Rattle.bg_match.specs.ImagePlaces.{is_met}
 
 -- the node is an image, or an image is met going up from it
 unfoldable pub is_covered : Big → List ℕ → ℕ → Bool

@@ -15,10 +15,9 @@ use Rattle.bg_base.specs.declared.big.Big.{Big}
 use Rattle.bg_base.specs.Bigraph.{row_of}
 use Rattle.bg_base.specs.Elementary.{counted}
 use Rattle.bg_rules.specs.Decomposition.{port_names}
+use Rattle.bg_rules.specs.Images.{first_child, image_link}
 use Rattle.bg_rules.specs.Instantiation.{is_among}
 use Rattle.bg_rules.specs.LocalConditions.{image_of}
-use Rattle.bg_match.specs.ImageLinks.{image_link}
-use Rattle.bg_match.specs.ImagePlaces.{first_child}
 
 -- ---- the edges
 

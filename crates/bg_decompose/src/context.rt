@@ -6,15 +6,15 @@ ghost use Rattle.bg_base.specs.declared.names.Place.TheVariants.{Region};
 ghost use Rattle.bg_base.specs.declared.big.NodeRow.{NodeRow as RowOfNode};
 ghost use Rattle.bg_base.specs.Bigraph.{IsValid, node_cmp};
 ghost use Rattle.bg_base.specs.Elementary.{counted};
+ghost use Rattle.bg_rules.specs.Images as image;
+ghost use Rattle.bg_rules.specs.Images.{AreListed};
 ghost use Rattle.bg_rules.specs.LocalConditions as local;
-ghost use Rattle.bg_match.specs.Images.{AreListed};
-ghost use Rattle.bg_match.specs.ImagePlaces as image;
 ghost use Rattle.bg_decompose.specs.Parts as part;
 
 use crate::marks::{has, in_order};
 use bg_base::{Big, InnerRow, Link, Name, NodeRow, Place, find_node};
 use bg_lists::{Duplicate, Mem, Rows};
-use bg_match::{first_child, image_link, image_of};
+use bg_rules::images::{first_child, image_link, image_of};
 use std::alloc::Global;
 
 /// The image of the pattern's edge: the edge that a port has whose node is the image of one with a port on the edge.

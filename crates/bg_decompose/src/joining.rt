@@ -1,11 +1,13 @@
 //! What a decomposition makes.
-ghost use Rattle.std.specs.Prelude.{◌≡◌, [], IfOk};
+ghost use Rattle.std.specs.Prelude.{◌≡◌, [], length, IfOk};
 ghost use Rattle.bg_base.specs.Bigraph.{IsValid};
 ghost use Rattle.bg_base.specs.Composition.{FacesAgree, SupportsApart};
 ghost use Rattle.bg_base.specs.Composition as composition;
+ghost use Rattle.bg_base.specs.Elementary as elementary;
 ghost use Rattle.bg_base.specs.Products as product;
+ghost use Rattle.bg_base.specs.Translation as renaming;
 ghost use Rattle.bg_algebra.specs.Laws.{Apart};
-ghost use Rattle.bg_rules.specs.Decomposition.{frame};
+ghost use Rattle.bg_rules.specs.Decomposition.{AreNew, frame};
 ghost use Rattle.bg_decompose.specs.Joining.{IsJoinable, joined};
 
 use crate::Decomposition;
@@ -23,34 +25,51 @@ pub fn join(alloc: Global, parts: &Decomposition, pattern: &Pattern) -> Mem<Big>
     ensures value { IfOk result (λ whole. whole ≡ joined pattern.now parts.now.map parts.now.context parts.now.images parts.now.parameter) }
     ensures valid { IfOk result IsValid }
 {
-    let whole = recompose(alloc, parts, pattern.big())?;
+    let whole = recompose(
+        alloc,
+        &parts.context,
+        pattern.big(),
+        &parts.map,
+        &parts.images,
+        &parts.parameter,
+    )?;
     Ok(whole)
 }
 
-/// The same with any valid bigraph in the pattern's place, such as the reactum of a rule: it stands at the nodes of the
-/// map and at the edges of the images. It refuses only for want of memory. Costs time n log n in the size of the three,
-/// and memory in proportion to it.
-pub fn recompose(alloc: Global, parts: &Decomposition, middle: &Big) -> Mem<Big>
+/// The same with any valid bigraph in the pattern's place, such as the reactum of a rule: the context, with the middle at
+/// these nodes and edges in it, with the parameter in the middle. It refuses only for want of memory. Costs time n log n
+/// in the size of the three, and memory in proportion to it.
+pub fn recompose(
+    alloc: Global,
+    context: &Big,
+    middle: &Big,
+    nodes: &[u32],
+    edges: &[u32],
+    parameter: &Big,
+) -> Mem<Big>
     requires middle_valid { IsValid middle.now }
-    requires joinable { IsJoinable middle.now parts.now.map parts.now.context parts.now.images parts.now.parameter }
-    ensures value { IfOk result (λ whole. whole ≡ joined middle.now parts.now.map parts.now.context parts.now.images parts.now.parameter) }
+    requires joinable { IsJoinable middle.now nodes.now context.now edges.now parameter.now }
+    ensures value { IfOk result (λ whole. whole ≡ joined middle.now nodes.now context.now edges.now parameter.now) }
     ensures valid { IfOk result IsValid }
 {
-    let frame = frame_of(alloc, parts, middle)?;
-    let inside = composed(alloc, &frame, &parts.parameter)?;
-    let whole = composed(alloc, &parts.context, &inside)?;
+    let frame = frame_of(alloc, middle, nodes, edges, parameter)?;
+    let inside = composed(alloc, &frame, parameter)?;
+    let whole = composed(alloc, context, &inside)?;
     Ok(whole)
 }
 
-/// The bigraph at the nodes of the map and the edges of the images, beside the identity on the parameter's names.
-fn frame_of(alloc: Global, parts: &Decomposition, middle: &Big) -> Mem<Big>
+/// The bigraph at these nodes and edges, beside the identity on the parameter's names.
+fn frame_of(alloc: Global, middle: &Big, nodes: &[u32], edges: &[u32], parameter: &Big) -> Mem<Big>
     requires middle_valid { IsValid middle.now }
-    requires joinable { IsJoinable middle.now parts.now.map parts.now.context parts.now.images parts.now.parameter }
-    ensures value { IfOk result (λ made. made ≡ frame middle.now parts.now.map parts.now.images parts.now.parameter.outer) }
+    requires parameter_valid { IsValid parameter.now }
+    requires nodes_new { AreNew nodes.now (length middle.now.nodes) }
+    requires edges_new { AreNew edges.now (length middle.now.edges) }
+    requires apart { Apart (renaming.rename middle.now nodes.now edges.now) (elementary.identity 0 parameter.now.outer) }
+    ensures value { IfOk result (λ made. made ≡ frame middle.now nodes.now edges.now parameter.now.outer) }
     ensures valid { IfOk result IsValid }
 {
-    let renamed = rename(alloc, middle, &parts.map, &parts.images)?;
-    let names = identity(alloc, 0, parts.parameter.outer.as_slice())?;
+    let renamed = rename(alloc, middle, nodes, edges)?;
+    let names = identity(alloc, 0, parameter.outer.as_slice())?;
     let made = beside(alloc, &renamed, &names)?;
     Ok(made)
 }

@@ -12,7 +12,7 @@ ghost use Rattle.bg_decompose.specs.Parts.{IsSiteTable};
 
 use bg_base::{Big, Link, Name, NodeRow, Place, PortLinks};
 use bg_lists::{Mem, Rows};
-use bg_match::image_of;
+use bg_rules::images::image_of;
 use smallvec::SmallVec;
 use std::alloc::Global;
 use std::collections::BTreeMap;

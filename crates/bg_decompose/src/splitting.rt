@@ -3,7 +3,7 @@ ghost use Rattle.std.specs.Prelude.{◌≡◌, List, IfOk};
 ghost use Rattle.bg_base.specs.declared.signature.Control.{Control};
 ghost use Rattle.bg_base.specs.Bigraph.{IsValid, IsValidUnder};
 ghost use Rattle.bg_rules.specs.Decomposition.{Decomposes, Occurs};
-ghost use Rattle.bg_match.specs.Images.{AreListed};
+ghost use Rattle.bg_rules.specs.Images.{AreListed};
 ghost use Rattle.bg_decompose.specs.Cuts.{IsCut};
 
 use crate::Decomposition;

@@ -1,3 +1,4 @@
 pub mod Appending
 pub mod MatchText
 pub mod Counts
+pub mod Faults

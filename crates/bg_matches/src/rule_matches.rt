@@ -3,6 +3,7 @@ ghost use Rattle.std.specs.Prelude.{◌≡◌, ◌≤◌, ℕ, length, take, All
 ghost use Rattle.bg_base.specs.Bigraph.{IsValidUnder, IsGround};
 ghost use Rattle.bg_matches.specs.declared.fault.MatchesFault.TheVariants.{TooMany};
 ghost use Rattle.bg_matches.specs.Appending.{Appends};
+ghost use Rattle.bg_matches.specs.Faults.{fault_of};
 ghost use Rattle.bg_matches.specs.MatchText.{IsRuleText, AreOccurrenceTexts};
 ghost use Rattle.bg_rules.specs.Decomposition.{Occurs};
 ghost use Rattle.bg_rules.specs.Occurrences.{AreOccurrences, AreAtMost, AreMoreThan};
@@ -64,8 +65,17 @@ fn occurrences(
 {
     match list(alloc, host, rule.redex(), most) {
         Ok(maps) => Ok(maps),
-        Err(ListFault::TooMany) => Err(MatchesFault::TooMany { rule: number }),
-        Err(ListFault::OutOfMemory) => Err(MatchesFault::OutOfMemory),
+        Err(fault) => Err(fault_of(number, fault)),
+    }
+}
+
+/// What is told of the rule with that number where its occurrences are not listed.
+fn fault_of(number: u32, fault: ListFault) -> MatchesFault
+    ensures { result ≡ fault_of number fault }
+{
+    match fault {
+        ListFault::TooMany => MatchesFault::TooMany { rule: number },
+        ListFault::OutOfMemory => MatchesFault::OutOfMemory,
     }
 }
 

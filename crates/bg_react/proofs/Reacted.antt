@@ -19,7 +19,8 @@ use Rattle.bg_decompose.specs.Joining.{joined}
 use Rattle.bg_rules.specs.Decomposition.{Decomposes, frame}
 use Rattle.bg_rules.specs.Hosts.{IsHost}
 use Rattle.bg_rules.specs.Instantiation.{instantiate, next_after}
-use Rattle.bg_rules.specs.Reaction.{HostParts, IsNumbered, Reacts, recomposed}
+use Rattle.bg_rules.specs.Limits.{most_rows, IsWithinLimits, PassesALimit}
+use Rattle.bg_rules.specs.Reaction.{HostParts, IsNumbered, Reacts, recomposed, host_after}
 use Rattle.bg_rules.specs.Recomposition.{next_frame, next_instance, IsRecomposable}
 use Rattle.bg_rules.specs.Rules.{RuleParts, IsRule}
 use Rattle.bg_rules.proofs.Patterns.{number_mem}
@@ -29,8 +30,7 @@ use Rattle.bg_rules.proofs.Frames.{counted_new}
 use Rattle.bg_rules.proofs.Reactions.{next_below, recomposable, instance_of_next, result_numbered}
 use Rattle.bg_rules.proofs.Kept.{outer_kept, result_edges_used}
 use Rattle.bg_react.specs.Counting.{copied_nodes}
-use Rattle.bg_react.specs.Growth.{LiesBetween, nodes_after, after_reactum, host_after, HasRoom, GoesBetween}
-use Rattle.bg_react.specs.Limits.{IsWithinLimits, PassesALimit}
+use Rattle.bg_react.specs.Growth.{LiesBetween, nodes_after, after_reactum, HasRoom, GoesBetween}
 use Rattle.bg_react.proofs.CopiedNodes.{length-instance}
 
 -- ---- how many nodes there are
@@ -121,25 +121,23 @@ module _ (host : HostParts) (rule : RuleParts) (context parameter : Big) (is_hos
   -- ---- the result is a host
 
   abbrev after : HostParts
-  after = host_after host rule context parameter
+  after = host_after host rule.reactum rule.map context parameter
 
-  reaction : Reacts host rule.redex rule.reactum rule.map between.nodes (host_after host rule context parameter)
+  reaction : Reacts host rule.redex rule.reactum rule.map between.nodes (host_after host rule.reactum rule.map context parameter)
   reaction =
       record {
         context = context;
         edges = between.edges;
         parameter = parameter;
         decomposes = between.decomposes;
-        big = refl;
-        next_node = refl;
-        next_edge = refl;
+        becomes = refl;
       }
 
-  after_numbered : IsNumbered (host_after host rule context parameter)
+  after_numbered : IsNumbered (host_after host rule.reactum rule.map context parameter)
   after_numbered = result_numbered host rule.redex rule.reactum rule.map between.nodes is_host.numbered is_rule.sides after reaction
 
-  after_is_host : HasRoom host rule context parameter → length (recomposed host rule.reactum rule.map context parameter).edges ≤ 65536
-      → IsHost (host_after host rule context parameter)
+  after_is_host : HasRoom host rule context parameter → length (recomposed host rule.reactum rule.map context parameter).edges ≤ most_rows
+      → IsHost (host_after host rule.reactum rule.map context parameter)
   after_is_host room few =
       record {
         fits = record {
@@ -147,48 +145,47 @@ module _ (host : HostParts) (rule : RuleParts) (context parameter : Big) (is_hos
           names_plain = subst (λ names. All (λ (name : Name). IsTrue (is_plain name)) names)
               (sym (outer_kept host rule.redex rule.reactum rule.map between.nodes after reaction)) is_host.fits.names_plain;
           edges_used = result_edges_used host rule.redex rule.reactum rule.map between.nodes after reaction;
-          few_nodes = subst (λ n. n ≤ 65536) (sym (length-recomposed host rule context parameter)) room.few_nodes;
-          few_edges = few;
         };
         numbered = after_numbered;
-        next_node_small = room.counters_small.next_node_small;
-        next_edge_small = room.counters_small.next_edge_small;
+        within = record {
+          few_nodes = subst (λ n. n ≤ most_rows) (sym (length-recomposed host rule context parameter)) room.few_nodes;
+          few_edges = few;
+          counters_small = room.counters_small;
+        };
       }
 
   pub becomes_host : HasRoom host rule context parameter → (big : Big) (node edge : ℕ) → big ≡ recomposed host rule.reactum rule.map context parameter
       → node ≡ next_after parameter rule.map (after_reactum host rule) → edge ≡ host.next_edge + length rule.reactum.edges
-      → length big.edges ≤ 65536 → IsHost (record { big = big; next_node = node; next_edge = edge })
+      → length big.edges ≤ most_rows → IsHost (record { big = big; next_node = node; next_edge = edge })
   becomes_host room big node edge same_big same_node same_edge few =
       subst IsHost (λ t. record { big = sym same_big t; next_node = sym same_node t; next_edge = sym same_edge t })
-      (after_is_host room (subst (λ (b : Big). length b.edges ≤ 65536) same_big few))
+      (after_is_host room (subst (λ (b : Big). length b.edges ≤ most_rows) same_big few))
 
 -- ---- where there is no room, the result passes a limit
 
 pub no_room : (host : HostParts) (rule : RuleParts) (context parameter : Big) → (HasRoom host rule context parameter → ⊥)
-    → IsWithinLimits (host_after host rule context parameter) → ⊥
+    → IsWithinLimits (host_after host rule.reactum rule.map context parameter) → ⊥
 no_room host rule context parameter none within =
     none
     (record {
-      few_nodes = subst (λ n. n ≤ 65536) (length-recomposed host rule context parameter) within.few_nodes;
-      counters_small = record { next_node_small = within.next_node_small; next_edge_small = within.next_edge_small };
+      few_nodes = subst (λ n. n ≤ most_rows) (length-recomposed host rule context parameter) within.few_nodes;
+      counters_small = within.counters_small;
     })
 
 -- the host and the redex are what was decomposed
 pub passes_so : (host : HostParts) (rule : RuleParts) (big other : Big) (nodes : List ℕ) (context : Big) (edges : List ℕ) (parameter : Big)
     → big ≡ host.big → other ≡ rule.redex → Decomposes big other nodes context edges parameter
-    → (IsWithinLimits (host_after host rule context parameter) → ⊥) → PassesALimit host rule.redex rule.reactum rule.map nodes
+    → (IsWithinLimits (host_after host rule.reactum rule.map context parameter) → ⊥) → PassesALimit host rule.redex rule.reactum rule.map nodes
 passes_so host rule big other nodes context edges parameter one two d none =
     record {
-      after = host_after host rule context parameter;
+      after = host_after host rule.reactum rule.map context parameter;
       reacts = record {
         context = context;
         edges = edges;
         parameter = parameter;
         decomposes = subst (λ b. Decomposes b rule.redex nodes context edges parameter) one
             (subst (λ p. Decomposes big p nodes context edges parameter) two d);
-        big = refl;
-        next_node = refl;
-        next_edge = refl;
+        becomes = refl;
       };
       passes = none;
     }

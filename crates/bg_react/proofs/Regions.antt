@@ -13,7 +13,7 @@ use Rattle.bg_base.proofs.Climbs.{row_from_reaches, reaches-Climb, Climb-from_pl
 use Rattle.bg_rules.specs.Instantiation.{is_under}
 use Rattle.bg_rules.proofs.Patterns.{parent_there}
 use Rattle.bg_rules.proofs.ParameterParts.{one_region, parent_under, region_from_under, in_some_part, Mem-unpart}
-use Rattle.bg_react.specs.Parts.{lies_under, met_above, height, LeadsUp, AreMarked}
+use Rattle.bg_react.specs.Parts.{lies_under, met_above, depth, LeadsUp, AreMarked}
 use Rattle.bg_lists.proofs.Places.{get-set_other, get-set_same}
 use Rattle.bg_lists.proofs.Tests.{given_mark}
 
@@ -47,7 +47,7 @@ module _ (parameter : Big) where
   parent_lies_under region node {row} is e =
       under_is region row.parent ∙ parent_under parameter.nodes region (length parameter.nodes) node is (sym (under_is region (Node node)) ∙ e)
 
--- ---- how high a node is
+-- ---- how deep a node is
 
 module _ (rows : List NodeRow) where
   met_row : (moves node : ℕ) {row : NodeRow} → row_of rows node ≡ Some row → met_above rows (suc moves) (Node node) ≡ met_above rows moves row.parent + 1
@@ -77,26 +77,26 @@ module _ (rows : List NodeRow) where
       met_row moves node is ∙ ap (λ n. n + 1) (sym (met_all regions moves row.parent up))
 
 module _ (parameter : Big) where
-  height_is : (place : Place) → height parameter place ≡ met_above parameter.nodes (length parameter.nodes) place
-  unfolding height
-  height_is place = refl
+  depth_is : (place : Place) → depth parameter place ≡ met_above parameter.nodes (length parameter.nodes) place
+  unfolding depth
+  depth_is place = refl
 
-  height_region : (region : ℕ) → height parameter (Region region) ≡ 0
-  height_region region = height_is (Region region) ∙ met_region parameter.nodes (length parameter.nodes) region
+  depth_region : (region : ℕ) → depth parameter (Region region) ≡ 0
+  depth_region region = depth_is (Region region) ∙ met_region parameter.nodes (length parameter.nodes) region
 
 module _ (parameter : Big) (valid : IsValid parameter) where
-  height_row : (node : ℕ) {row : NodeRow} → row_of parameter.nodes node ≡ Some row → height parameter (Node node) ≡ height parameter row.parent + 1
-  height_row node {row} is =
+  depth_row : (node : ℕ) {row : NodeRow} → row_of parameter.nodes node ≡ Some row → depth parameter (Node node) ≡ depth parameter row.parent + 1
+  depth_row node {row} is =
       let has : has_place parameter (Node node) ≡ true = ap is_some is in
       let root = reaches-Climb (Climb-from_place parameter valid (Node node) has) in
-      height_is parameter (Node node) ∙ met_parent parameter.nodes parameter.regions (length parameter.nodes) node is root
-      ∙ ap (λ n. n + 1) (sym (height_is parameter row.parent))
+      depth_is parameter (Node node) ∙ met_parent parameter.nodes parameter.regions (length parameter.nodes) node is root
+      ∙ ap (λ n. n + 1) (sym (depth_is parameter row.parent))
 
-  pub parent_nearer : (node : ℕ) {row : NodeRow} → row_of parameter.nodes node ≡ Some row → height parameter row.parent < height parameter (Node node)
-  parent_nearer node is = let more = height_row node is in omega (arith, more)
+  pub parent_nearer : (node : ℕ) {row : NodeRow} → row_of parameter.nodes node ≡ Some row → depth parameter row.parent < depth parameter (Node node)
+  parent_nearer node is = let more = depth_row node is in omega (arith, more)
 
-  pub region_nearer : (node region : ℕ) {row : NodeRow} → row_of parameter.nodes node ≡ Some row → height parameter (Region region) < height parameter (Node node)
-  region_nearer node region is = let more = height_row node is in let least = height_region parameter region in omega (arith, more, least)
+  pub region_nearer : (node region : ℕ) {row : NodeRow} → row_of parameter.nodes node ≡ Some row → depth parameter (Region region) < depth parameter (Node node)
+  region_nearer node region is = let more = depth_row node is in let least = depth_region parameter region in omega (arith, more, least)
 
   -- ---- a climb
 

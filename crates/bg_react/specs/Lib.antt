@@ -1,4 +1,3 @@
-pub mod Limits
 pub mod Counting
 pub mod Parts
 pub mod Copying

@@ -20,9 +20,9 @@ met_above rows (suc moves) (Node node) =
     unwrap_or (option_map (λ (row : NodeRow). met_above rows moves row.parent + 1) (row_of rows node)) 0
 met_above rows (suc moves) (Region region) = 0
 
--- so many nodes are met going up from the place, itself included
-unfoldable pub height : Big → Place → ℕ
-height parameter place = met_above parameter.nodes (length parameter.nodes) place
+-- the depth of the place: so many nodes are met going up from it, itself included
+unfoldable pub depth : Big → Place → ℕ
+depth parameter place = met_above parameter.nodes (length parameter.nodes) place
 
 -- going up from the lower place leads to the upper one: that is there, and the lower place lies under whatever region it does
 pub record LeadsUp (parameter : Big) (lower upper : Place) : Type 0 where

@@ -1,5 +1,5 @@
 //! Instances: copies of the parts of a parameter.
-ghost use Rattle.std.specs.Prelude.{◌≡◌, ◌<◌, ◌≤◌, ◌+◌, ◌^◌, ◌++◌, [], length, map as mapped, IfOk, OnOk};
+ghost use Rattle.std.specs.Prelude.{◌≡◌, ◌<◌, ◌≤◌, ◌+◌, ◌^◌, ◌++◌, [], length, map as mapped, IfOk, OnOk, MatchOption};
 ghost use Rattle.std.specs.List.{All, IsDistinct};
 ghost use Rattle.std.specs.List.Sorted.{IsStrictlySortedBy};
 ghost use Rattle.std.specs.Ordering.{eq_by_cmp};
@@ -52,7 +52,9 @@ pub(crate) fn instance_of(alloc: Global, parts: &Parts<'_>, map: &[u32], next: u
     ensures big { IfOk result (λ instance. instance.big ≡ defined.instantiate parts.now map.now next) }
     ensures next { IfOk result (λ instance. instance.next ≡ defined.next_after parts.now map.now next) }
 {
-    let regions = width_of(map)?;
+    let Some(regions) = width_of(map) else {
+        return Err(OutOfMemory);
+    };
     let Copies { rows, free } = copies_of(alloc, parts, map, next)?;
     let big = Big {
         nodes: sorted_rows(rows)?,
@@ -66,13 +68,13 @@ pub(crate) fn instance_of(alloc: Global, parts: &Parts<'_>, map: &[u32], next: u
 }
 
 /// The number of entries, where 32 bits can hold it.
-fn width_of(map: &[u32]) -> Mem<u32>
-    ensures { IfOk result (λ width. width ≡ length map.now) }
+fn width_of(map: &[u32]) -> Option<u32>
+    ensures { MatchOption result (2 ^ 32 ≤ length map.now) (λ width. width ≡ length map.now) }
 {
     if map.len() < 4_294_967_296 {
-        Ok(map.len() as u32)
+        Some(map.len() as u32)
     } else {
-        Err(OutOfMemory)
+        None
     }
 }
 

@@ -6,7 +6,7 @@ ghost use Rattle.bg_base.specs.declared.names.Place.TheVariants.{Node};
 ghost use Rattle.bg_base.specs.Bigraph.{IsValid, node_cmp, row_of};
 ghost use Rattle.bg_base.specs.Lookup.{IsFirstRow};
 ghost use Rattle.bg_rules.specs.Instantiation.{part};
-ghost use Rattle.bg_react.specs.Parts.{lies_under, height, LeadsUp, AreMarked, AreMembers, member_region, member_row};
+ghost use Rattle.bg_react.specs.Parts.{lies_under, depth, LeadsUp, AreMarked, AreMembers, member_region, member_row};
 
 use bg_base::{Big, NodeRow, Place};
 use bg_lists::{Duplicate, Mem};
@@ -113,7 +113,7 @@ fn next_up(parameter: &Big, marks: &[Option<u32>], node: u32) -> Place
     requires there { is_some (row_of parameter.now.nodes node) ≡ true }
     requires marks { AreMarked parameter.now marks.now }
     ensures leads { LeadsUp parameter.now (Node node) result }
-    ensures nearer { height parameter.now result < height parameter.now (Node node) }
+    ensures nearer { depth parameter.now result < depth parameter.now (Node node) }
 {
     let (at, row) = row_at(&parameter.nodes, node);
     match mark_at(marks, at) {

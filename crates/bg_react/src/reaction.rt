@@ -1,18 +1,18 @@
 //! Reactions: the redex of a rule replaced by its reactum.
-ghost use Rattle.std.specs.Prelude.{◌≡◌, ◌≤◌, ◌<◌, ◌+◌, ◌^◌, length, OnOk, OnErr, IfOk, IsErr, IsErrOf, MatchOption};
+ghost use Rattle.std.specs.Prelude.{◌≡◌, ◌≤◌, ◌<◌, ◌+◌, ◌^◌, length, OnOk, OnErr, IfOk, IsErrOf, MatchOption};
 ghost use Rattle.bg_base.specs.Bigraph.{IsValid};
 ghost use Rattle.bg_base.specs.Elementary.{counted};
 ghost use Rattle.bg_base.specs.Products as product;
 ghost use Rattle.bg_decompose.specs.Joining.{joined};
-ghost use Rattle.bg_rules.specs.Decomposition.{Decomposes, Occurs};
+ghost use Rattle.bg_rules.specs.Decomposition.{Occurs};
 ghost use Rattle.bg_rules.specs.Hosts.{IsHost};
 ghost use Rattle.bg_rules.specs.Instantiation.{next_after};
+ghost use Rattle.bg_rules.specs.Limits.{most_rows, largest_counter, AreSmallCounters, IsWithinLimits, PassesALimit};
 ghost use Rattle.bg_rules.specs.Reaction as defined;
 ghost use Rattle.bg_rules.specs.Reaction.{Reacts};
 ghost use Rattle.bg_rules.specs.Rules.{IsRule};
 ghost use Rattle.bg_react.specs.Growth as growth;
-ghost use Rattle.bg_react.specs.Growth.{AreSmall, GoesBetween, HasRoom, LiesBetween};
-ghost use Rattle.bg_react.specs.Limits.{IsWithinLimits, PassesALimit};
+ghost use Rattle.bg_react.specs.Growth.{GoesBetween, HasRoom, LiesBetween};
 
 use crate::count::count_copies;
 use crate::instance::{Instance, instance_of};
@@ -73,9 +73,9 @@ fn put_together(
     requires is_host { IsHost host.now }
     requires is_rule { IsRule rule.now }
     requires between { LiesBetween host.now.big rule.now.redex parts.context parts.parameter }
-    ensures value { IfOk result (λ after. after ≡ growth.host_after host.now rule.now parts.context parts.parameter) }
+    ensures value { IfOk result (λ after. after ≡ defined.host_after host.now rule.now.reactum rule.now.map parts.context parts.parameter) }
     ensures within { IfOk result IsWithinLimits }
-    ensures full { IsErrOf result ReactFault.Full → IsWithinLimits (growth.host_after host.now rule.now parts.context parts.parameter) → ⊥ }
+    ensures full { IsErrOf result ReactFault.Full → IsWithinLimits (defined.host_after host.now rule.now.reactum rule.now.map parts.context parts.parameter) → ⊥ }
 {
     let Decomposition {
         context,
@@ -86,8 +86,10 @@ fn put_together(
     let Some(counters) = counters_after(alloc, host, rule, &context, &by_region)? else {
         return Err(ReactFault::Full);
     };
-    let big = big_after(alloc, host, rule, context, &by_region)?;
-    let after = host_of(big, counters)?;
+    let big = big_after(alloc, host, rule, &context, &by_region)?;
+    let Some(after) = host_of(big, counters) else {
+        return Err(ReactFault::Full);
+    };
     Ok(after)
 }
 
@@ -98,17 +100,18 @@ struct Counters {
     next_edge: u32,
 }
 
-/// The host with these counters, unless it has too many edges.
-fn host_of(big: Big, counters: Counters) -> Result<Host, ReactFault>
-    requires fits { length big.edges ≤ 65536 → IsHost (record { big = big; next_node = counters.next_node; next_edge = counters.next_edge }) }
-    ensures value { IfOk result (λ host. host ≡ record { big = big; next_node = counters.next_node; next_edge = counters.next_edge }) }
-    ensures few { IfOk result (λ host. length big.edges ≤ 65536) }
-    ensures full { IsErr result → 65536 < length big.edges }
+/// The host with these counters; none where it has too many edges.
+fn host_of(big: Big, counters: Counters) -> Option<Host>
+    requires fits { length big.edges ≤ most_rows → IsHost (record { big = big; next_node = counters.next_node; next_edge = counters.next_edge }) }
+    ensures { MatchOption result
+        (most_rows < length big.edges)
+        (λ host. (host ≡ record { big = big; next_node = counters.next_node; next_edge = counters.next_edge })
+        × (length big.edges ≤ most_rows)) }
 {
     if big.edges.len() > MOST_ROWS {
-        return Err(ReactFault::Full);
+        return None;
     }
-    Ok(Host::with_counters(big, counters.next_node, counters.next_edge))
+    Some(Host::with_counters(big, counters.next_node, counters.next_edge))
 }
 
 /// The counters of what the host becomes; none where its nodes or a counter pass their limit.
@@ -137,8 +140,8 @@ fn counters_after(
 /// How many nodes the copies may have beside those of the context and of the reactum; none where these are too many.
 fn room_for_copies(context: &Big, reactum: &Big) -> Option<u32>
     ensures { MatchOption result
-        (65536 < length context.now.nodes + length reactum.now.nodes)
-        (λ most. length context.now.nodes + (length reactum.now.nodes + most) ≡ 65536) }
+        (most_rows < length context.now.nodes + length reactum.now.nodes)
+        (λ most. length context.now.nodes + (length reactum.now.nodes + most) ≡ most_rows) }
 {
     let room = rest_of(MOST_ROWS, context.nodes.len())?;
     rest_of(room, reactum.nodes.len())
@@ -158,8 +161,8 @@ fn rest_of(most: u32, taken: u32) -> Option<u32>
 /// The host's counters after the reactum's rows and so many nodes of late copies; none where one passes its limit.
 fn counters_with(host: &Host, reactum: &Big, late: u32) -> Option<Counters>
     ensures { MatchOption result
-        (AreSmall (host.now.next_node + length reactum.now.nodes + late) (host.now.next_edge + length reactum.now.edges) → ⊥)
-        (λ counters. AreSmall (host.now.next_node + length reactum.now.nodes + late) (host.now.next_edge + length reactum.now.edges)
+        (AreSmallCounters (host.now.next_node + length reactum.now.nodes + late) (host.now.next_edge + length reactum.now.edges) → ⊥)
+        (λ counters. AreSmallCounters (host.now.next_node + length reactum.now.nodes + late) (host.now.next_edge + length reactum.now.edges)
         × (counters.next_node ≡ host.now.next_node + length reactum.now.nodes + late)
         × (counters.next_edge ≡ host.now.next_edge + length reactum.now.edges)) }
 {
@@ -174,7 +177,7 @@ fn counters_with(host: &Host, reactum: &Big, late: u32) -> Option<Counters>
 
 /// The counter after so many new numbers, none where it passes its limit.
 fn counter_after(counter: u32, count: u32) -> Option<u32>
-    ensures { MatchOption result (2147483648 < counter + count) (λ after. (after ≡ counter + count) × (after ≤ 2147483648)) }
+    ensures { MatchOption result (largest_counter < counter + count) (λ after. (after ≡ counter + count) × (after ≤ largest_counter)) }
 {
     let room = rest_of(LARGEST_COUNTER, counter)?;
     if count <= room {
@@ -189,39 +192,39 @@ fn big_after(
     alloc: Global,
     host: &Host,
     rule: &Rule,
-    context: Big,
+    context: &Big,
     parameter: &Parts<'_>,
 ) -> Mem<Big>
     requires is_host { IsHost host.now }
     requires is_rule { IsRule rule.now }
-    requires between { LiesBetween host.now.big rule.now.redex context parameter.now }
-    requires room { HasRoom host.now rule.now context parameter.now }
-    ensures { IfOk result (λ big. big ≡ defined.recomposed host.now rule.now.reactum rule.now.map context parameter.now) }
+    requires between { LiesBetween host.now.big rule.now.redex context.now parameter.now }
+    requires room { HasRoom host.now rule.now context.now parameter.now }
+    ensures { IfOk result (λ big. big ≡ defined.recomposed host.now rule.now.reactum rule.now.map context.now parameter.now) }
 {
     let after_reactum = host.next_node() + rule.reactum().nodes.len();
     let Instance { big: instance, .. } = instance_of(alloc, parameter, rule.map(), after_reactum)?;
-    let big = with_reactum(alloc, host, rule.reactum(), context, instance)?;
+    let big = with_reactum(alloc, host, rule.reactum(), context, &instance)?;
     Ok(big)
 }
 
 /// The reactum, its rows with the next numbers, between the context and the instance; idle edges are dropped.
-fn with_reactum(alloc: Global, host: &Host, reactum: &Big, context: Big, instance: Big) -> Mem<Big>
+fn with_reactum(
+    alloc: Global,
+    host: &Host,
+    reactum: &Big,
+    context: &Big,
+    instance: &Big,
+) -> Mem<Big>
     requires valid { IsValid reactum.now }
-    requires between { GoesBetween host.now reactum.now context instance }
+    requires between { GoesBetween host.now reactum.now context.now instance.now }
     requires nodes { host.now.next_node + length reactum.now.nodes < 2 ^ 32 }
     requires edges { host.now.next_edge + length reactum.now.edges < 2 ^ 32 }
-    ensures { IfOk result (λ big. big ≡ product.lean (joined reactum.now (counted host.now.next_node (length reactum.now.nodes)) context
-        (counted host.now.next_edge (length reactum.now.edges)) instance)) }
+    ensures { IfOk result (λ big. big ≡ product.lean (joined reactum.now (counted host.now.next_node (length reactum.now.nodes)) context.now
+        (counted host.now.next_edge (length reactum.now.edges)) instance.now)) }
 {
-    let map = numbers_from(alloc, host.next_node(), reactum.nodes.len())?;
-    let images = numbers_from(alloc, host.next_edge(), reactum.edges.len())?;
-    let parts = Decomposition {
-        map,
-        images,
-        context,
-        parameter: instance,
-    };
-    let whole = recompose(alloc, &parts, reactum)?;
+    let nodes = numbers_from(alloc, host.next_node(), reactum.nodes.len())?;
+    let edges = numbers_from(alloc, host.next_edge(), reactum.edges.len())?;
+    let whole = recompose(alloc, context, reactum, &nodes, &edges, instance)?;
     let big = lean(alloc, &whole)?;
     Ok(big)
 }

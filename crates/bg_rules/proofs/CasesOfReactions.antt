@@ -75,9 +75,7 @@ copied =
       parameter = in_places (node_b 1 (Region 0) ∷ []) [] 1;
       decomposes = decomposes_by four_controls _ _ _ _ _ _ (valid_by four_controls _ refl) (valid_by four_controls _ refl)
           (parameter_by four_controls _ refl refl (refl, tt) refl) refl refl;
-      big = refl;
-      next_node = refl;
-      next_edge = refl;
+      becomes = refl;
     }
 
 -- K{x}.1 becomes /y (K{x} | K{y}): K{y} at node 0 becomes K{y} | /z K{z}, with a new edge, 7
@@ -96,9 +94,7 @@ tied_anew =
       parameter = nothing;
       decomposes = decomposes_by four_controls _ _ _ _ _ _ (valid_by four_controls _ refl) (valid_by four_controls _ refl)
           (parameter_by four_controls _ refl refl tt refl) refl refl;
-      big = refl;
-      next_node = refl;
-      next_edge = refl;
+      becomes = refl;
     }
 
 -- K{x}.1 becomes A.1 with x idle: /z K{z} | B.1 at node 0 becomes A.1 | B.1, without the edge that has lost its point
@@ -117,9 +113,7 @@ edge_dropped =
       parameter = nothing;
       decomposes = decomposes_by four_controls _ _ _ _ _ _ (valid_by four_controls _ refl) (valid_by four_controls _ refl)
           (parameter_by four_controls _ refl refl tt refl) refl refl;
-      big = refl;
-      next_node = refl;
-      next_edge = refl;
+      becomes = refl;
     }
 
 -- a part of the parameter that no entry asks for is discarded, and an edge that only it was tied to goes with it:
@@ -135,7 +129,5 @@ part_discarded =
       parameter = parameter_of (node_k 1 (Region 0) (Outer (Port 1 0)) ∷ []) 1 (Port 1 0 ∷ []);
       decomposes = decomposes_by four_controls _ _ _ _ _ _ (valid_by four_controls _ refl) (valid_by four_controls _ refl)
           (parameter_by four_controls _ refl refl (refl, tt) refl) refl refl;
-      big = refl;
-      next_node = refl;
-      next_edge = refl;
+      becomes = refl;
     }

@@ -32,7 +32,7 @@ use Rattle.bg_rules.specs.Instantiation.{is_among}
 use Rattle.bg_rules.proofs.Upwards.{is_among-none, among_cases, not_among, IsMet, not_IsMet-region, IsMet-here, meets_some, IsMet-from_meets_some}
 use Rattle.bg_rules.proofs.PortNames.{At-port_names, port_from_name, plain_not_port}
 use Rattle.bg_rules.proofs.Choices.{Choice, choose, chosen_for, position, At-position}
-use Rattle.bg_rules.proofs.Images.{pattern_edges_differ, image_control, image_links, image_port, below_image}
+use Rattle.bg_rules.proofs.ImageRows.{pattern_edges_differ, image_control, image_links, image_port, below_image}
 use Rattle.bg_rules.proofs.Parameters.{IsInside, sites_in, cut_place, cut_row, parameter_rows, parameter_of, cut_image, cut_other, cut_length, inside_parent, Mem-parameter, inside_from_Mem, Mem-parameter_name, site_above, parameter_made}
 use Rattle.bg_rules.proofs.Contexts.{edges_left, context_rows, is_outside, context_of, IsSiteOf, Carries, by_pattern, by_parameter, FitsHost, outside_from_Mem, fit_edges_new, edge_image_there, fit_inner_up, context_valid}
 

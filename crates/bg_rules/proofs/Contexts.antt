@@ -36,7 +36,7 @@ use Rattle.bg_rules.proofs.Patterns.{parent_there, link_there, edge_onto, used_e
 use Rattle.bg_rules.specs.Instantiation.{is_among}
 use Rattle.bg_rules.proofs.Upwards.{is_among-none, IsMet, IsMet-here, IsMet-above, meets_some, IsMet-from_meets_some, meets_some-IsMet}
 use Rattle.bg_rules.proofs.PortNames.{names_of_ascend, plain_before_ports}
-use Rattle.bg_rules.proofs.Images.{pattern_edges_differ, same_below, image_port}
+use Rattle.bg_rules.proofs.ImageRows.{pattern_edges_differ, same_below, image_port}
 use Rattle.bg_rules.proofs.Parameters.{IsInside, place_of_climb, parameter_rows, parameter_of, parameter_made}
 
 -- ---- the rows of the context

@@ -1,5 +1,5 @@
 -- The counters of a host: one past the largest numbers.
-use Rattle.std.proofs.Common.{◌≡◌, ℕ, suc, ◌+◌, ◌-◌, ◌<◌, ◌≤◌, List, [], ◌∷◌, length, slice_get, Some, nat_cmp, Less, refl, sym, subst, inl, inr, arith}
+use Rattle.std.proofs.Common.{◌≡◌, ℕ, suc, ◌+◌, ◌-◌, ◌<◌, ◌≤◌, List, [], ◌∷◌, length, slice_get, Some, All, nat_cmp, Less, refl, sym, subst, inl, inr, arith}
 use Rattle.std.specs.List.Sorted.{IsStrictlySortedBy}
 use Rattle.std.proofs.lemmas.List.{length-map}
 use Rattle.std.proofs.lemmas.Bool.{cases_order}
@@ -14,7 +14,8 @@ use Rattle.bg_base.specs.declared.big.NodeRow.{NodeRow}
 use Rattle.bg_base.specs.declared.big.Big.{Big}
 use Rattle.bg_base.specs.Bigraph.{node_cmp}
 use Rattle.bg_base.specs.Translation.{node_numbers}
-use Rattle.bg_rules.specs.Hosts.{IsHost, IsHostBig, AreSmallNumbers, past_largest, fresh_host}
+use Rattle.bg_rules.specs.Hosts.{IsHost, IsHostBig, past_largest, fresh_host}
+use Rattle.bg_rules.specs.Limits.{most_rows, largest_counter, IsWithinLimits}
 
 pub below_past : (numbers : List ℕ) {number : ℕ} → Mem number numbers → number < past_largest numbers
 below_past [] m = elim m [ ]
@@ -61,19 +62,24 @@ past_last_row rows last sorted is =
 
 -- ---- a new host
 
-module _ (big : Big) (fits : IsHostBig big) (small : AreSmallNumbers big) where
-  pub nodes_past_small : past_largest (node_numbers big.nodes) ≤ 2147483648
-  nodes_past_small =
-      past_below 2147483648 (node_numbers big.nodes) (λ number m.
-      let w = Mem-unmap (λ (row : NodeRow). row.id) big.nodes m in
-      subst (λ n. n < 2147483648) w.2 (All-member (λ (row : NodeRow). row.id < 2147483648) big.nodes small.small_nodes w.1))
+module _ (big : Big) where
+  -- few rows, with small numbers
+  pub fresh_within : length big.nodes ≤ most_rows → length big.edges ≤ most_rows → All (λ (row : NodeRow). row.id < largest_counter) big.nodes
+      → All (λ edge. edge < largest_counter) big.edges → IsWithinLimits (fresh_host big)
+  fresh_within few_nodes few_edges small_nodes small_edges =
+      record {
+        few_nodes = few_nodes;
+        few_edges = few_edges;
+        counters_small = record {
+          next_node_small = past_below largest_counter (node_numbers big.nodes)
+              (λ number m. let w = Mem-unmap (λ (row : NodeRow). row.id) big.nodes m in
+              subst (λ n. n < largest_counter) w.2 (All-member (λ (row : NodeRow). row.id < largest_counter) big.nodes small_nodes w.1));
+          next_edge_small = past_below largest_counter big.edges (λ edge m. All-member (λ edge. edge < largest_counter) big.edges small_edges m);
+        };
+      }
 
-  pub edges_past_small : past_largest big.edges ≤ 2147483648
-  edges_past_small =
-      past_below 2147483648 big.edges (λ edge m. All-member (λ edge. edge < 2147483648) big.edges small.small_edges m)
-
-  pub IsHost-fresh : IsHost (fresh_host big)
-  IsHost-fresh =
+  pub IsHost-fresh : IsHostBig big → IsWithinLimits (fresh_host big) → IsHost (fresh_host big)
+  IsHost-fresh fits within =
       record {
         fits = fits;
         numbered = record {
@@ -82,6 +88,5 @@ module _ (big : Big) (fits : IsHostBig big) (small : AreSmallNumbers big) where
               (λ row m. below_past (node_numbers big.nodes) (Mem-map (λ (row : NodeRow). row.id) m));
           edges_below = All-from_members (λ edge. edge < past_largest big.edges) big.edges (λ edge m. below_past big.edges m);
         };
-        next_node_small = nodes_past_small;
-        next_edge_small = edges_past_small;
+        within = within;
       }

@@ -11,6 +11,7 @@ use Rattle.bg_rules.specs.Instantiation.{late_nodes}
 use Rattle.bg_rules.specs.Reaction.{HostParts, Reacts}
 use Rattle.bg_rules.specs.Recomposition.{next_frame, next_instance}
 use Rattle.bg_rules.proofs.Grounded.{context_regions, context_outer}
+use Rattle.bg_rules.proofs.Reactions.{big_after, node_after, edge_after}
 
 lean_regions : (big : Big) → (lean big).regions ≡ big.regions
 unfolding lean
@@ -25,20 +26,20 @@ module _ (host : HostParts) (redex reactum : Big) (entries nodes : List ℕ) (af
 
   pub regions_kept : after.big.regions ≡ host.big.regions
   regions_kept =
-      ap (λ (b : Big). b.regions) r.big ∙ lean_regions whole ∙ compose_regions r.context inside
+      ap (λ (b : Big). b.regions) (big_after r) ∙ lean_regions whole ∙ compose_regions r.context inside
       ∙ context_regions host.big redex nodes r.context r.edges r.parameter r.decomposes
 
   pub outer_kept : after.big.outer ≡ host.big.outer
   outer_kept =
-      ap (λ (b : Big). b.outer) r.big ∙ lean_outer whole ∙ compose_outer r.context inside
+      ap (λ (b : Big). b.outer) (big_after r) ∙ lean_outer whole ∙ compose_outer r.context inside
       ∙ context_outer host.big redex nodes r.context r.edges r.parameter r.decomposes
 
   pub next_node_grows : host.next_node ≤ after.next_node
   next_node_grows =
-      let next : after.next_node ≡ host.next_node + length reactum.nodes + late_nodes r.parameter [] entries = r.next_node in omega (arith, next)
+      let next : after.next_node ≡ host.next_node + length reactum.nodes + late_nodes r.parameter [] entries = node_after r in omega (arith, next)
 
   pub next_edge_grows : host.next_edge ≤ after.next_edge
-  next_edge_grows = let next = r.next_edge in omega (arith, next)
+  next_edge_grows = let next = edge_after r in omega (arith, next)
 
   pub result_edges_used : All (λ edge. IsTrue (has_point after.big (Edge edge))) after.big.edges
-  result_edges_used = subst (λ (b : Big). All (λ edge. IsTrue (has_point b (Edge edge))) b.edges) (sym r.big) (lean_used whole)
+  result_edges_used = subst (λ (b : Big). All (λ edge. IsTrue (has_point b (Edge edge))) b.edges) (sym (big_after r)) (lean_used whole)

@@ -5,9 +5,12 @@ pub mod Decide
 pub mod Forward
 pub mod Unique
 pub mod Upwards
+pub mod Climbing
+pub mod Besides
+pub mod LinkImages
 pub mod PortNames
 pub mod Choices
-pub mod Images
+pub mod ImageRows
 pub mod Parameters
 pub mod Contexts
 pub mod Construct

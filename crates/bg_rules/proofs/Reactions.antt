@@ -19,7 +19,7 @@ use Rattle.bg_algebra.specs.Frame.{is_plain}
 use Rattle.bg_algebra.proofs.Changes.{lean_valid}
 use Rattle.bg_rules.specs.Decomposition.{AreNew, Decomposes, Occurs}
 use Rattle.bg_rules.specs.Instantiation.{next_after}
-use Rattle.bg_rules.specs.Reaction.{HostParts, IsNumbered, AreSides, recomposed, Reacts}
+use Rattle.bg_rules.specs.Reaction.{HostParts, IsNumbered, AreSides, recomposed, host_after, Reacts}
 use Rattle.bg_rules.specs.Recomposition.{next_frame, next_instance, IsRecomposable}
 use Rattle.bg_rules.proofs.Glued.{Glued}
 use Rattle.bg_rules.proofs.Patterns.{number_row, number_mem}
@@ -231,17 +231,25 @@ module _ (host : HostParts) (redex reactum : Big) (entries nodes : List ℕ) (nu
         ]
       ]
 
+-- ---- what a host reacts to, part by part
+
+module _ {host : HostParts} {redex reactum : Big} {entries nodes : List ℕ} {after : HostParts} (r : Reacts host redex reactum entries nodes after) where
+  pub big_after : after.big ≡ recomposed host reactum entries r.context r.parameter
+  big_after = ap (λ (h : HostParts). h.big) r.becomes
+
+  pub node_after : after.next_node ≡ next_after r.parameter entries (host.next_node + length reactum.nodes)
+  node_after = ap (λ (h : HostParts). h.next_node) r.becomes
+
+  pub edge_after : after.next_edge ≡ host.next_edge + length reactum.edges
+  edge_after = ap (λ (h : HostParts). h.next_edge) r.becomes
+
 -- ---- exactly one result
 
 module _ (host : HostParts) (redex reactum : Big) (entries nodes : List ℕ) where
   pub reacts : Occurs host.big redex nodes → (after : HostParts) × Reacts host redex reactum entries nodes after
   reacts o = (
-    record {
-      big = recomposed host reactum entries o.context o.parameter;
-      next_node = next_after o.parameter entries (host.next_node + length reactum.nodes);
-      next_edge = host.next_edge + length reactum.edges;
-    },
-    record { context = o.context; edges = o.edges; parameter = o.parameter; decomposes = o.decomposes; big = refl; next_node = refl; next_edge = refl },
+    host_after host reactum entries o.context o.parameter,
+    record { context = o.context; edges = o.edges; parameter = o.parameter; decomposes = o.decomposes; becomes = refl },
   )
 
   module _ (numbered : IsNumbered host) (sides : AreSides redex reactum entries) where
@@ -251,23 +259,19 @@ module _ (host : HostParts) (redex reactum : Big) (entries nodes : List ℕ) whe
         r.decomposes s.decomposes in
         let contexts = same.0 in
         let parameters = same.2 in
-        let big : after.big ≡ other.big = r.big ∙ (λ t. recomposed host reactum entries (contexts t) (parameters t)) ∙ sym s.big in
-        let node : after.next_node ≡ other.next_node =
-        r.next_node ∙ ap (λ p. next_after p entries (host.next_node + length reactum.nodes)) parameters ∙ sym s.next_node in
-        let edge : after.next_edge ≡ other.next_edge = r.next_edge ∙ sym s.next_edge in
-        λ t. record { big = big t; next_node = node t; next_edge = edge t }
+        r.becomes ∙ (λ t. host_after host reactum entries (contexts t) (parameters t)) ∙ sym s.becomes
 
     pub result_numbered : (after : HostParts) → Reacts host redex reactum entries nodes after → IsNumbered after
     result_numbered after r =
         record {
-          ground = subst IsGround (sym r.big)
+          ground = subst IsGround (sym (big_after r))
               (recomposed_ground host redex reactum entries nodes numbered sides r.context r.edges r.parameter r.decomposes);
           nodes_below = All-from_members (λ (row : NodeRow). row.id < after.next_node) after.big.nodes
-              (λ row m. subst (λ n. row.id < n) (sym r.next_node)
+              (λ row m. subst (λ n. row.id < n) (sym (node_after r))
               (recomposed_below host redex reactum entries nodes numbered sides r.context r.edges r.parameter r.decomposes
-              (subst (λ (b : Big). Mem row b.nodes) r.big m)));
+              (subst (λ (b : Big). Mem row b.nodes) (big_after r) m)));
           edges_below = All-from_members (λ edge. edge < after.next_edge) after.big.edges
-              (λ edge m. subst (λ n. edge < n) (sym r.next_edge)
+              (λ edge m. subst (λ n. edge < n) (sym (edge_after r))
               (recomposed_edge_below host redex reactum entries nodes numbered sides r.context r.edges r.parameter r.decomposes
-              (subst (λ (b : Big). Mem edge b.edges) r.big m)));
+              (subst (λ (b : Big). Mem edge b.edges) (big_after r) m)));
         }

@@ -27,7 +27,7 @@ use Rattle.bg_rules.proofs.Patterns.{parent_there, site_there, full_region}
 use Rattle.bg_rules.proofs.Occurrences.{glued_of}
 use Rattle.bg_rules.proofs.Frames.{counted_new, frame_valid_under}
 use Rattle.bg_rules.proofs.Instances.{instance_valid_under}
-use Rattle.bg_rules.proofs.Reactions.{reactum_side, next_below, recomposable, frame_of_next, instance_of_next, inside_valid, whole_valid}
+use Rattle.bg_rules.proofs.Reactions.{reactum_side, next_below, recomposable, frame_of_next, instance_of_next, inside_valid, whole_valid, big_after}
 
 module _ (signature : List Control) where
   normal_parent : (big : Big) → IsValidUnder signature big → {row : NodeRow} → Mem row big.nodes → is_atomic signature big row.parent ≡ false
@@ -119,4 +119,4 @@ module _ (signature : List Control) (host : HostParts) (redex reactum : Big) (en
 
   pub result_valid_under : (after : HostParts) → Reacts host redex reactum entries nodes after → IsValidUnder signature after.big
   result_valid_under after r =
-      subst (IsValidUnder signature) (sym r.big) (recomposed_valid_under r.context r.edges r.parameter r.decomposes)
+      subst (IsValidUnder signature) (sym (big_after r)) (recomposed_valid_under r.context r.edges r.parameter r.decomposes)

@@ -1,34 +1,26 @@
 -- Hosts: bigraphs that rules change, and the numbers that new nodes and edges get.
-use Rattle.std.specs.Prelude.{ℕ, ◌+◌, ◌<◌, ◌≤◌, max, IsTrue, List, [], ◌∷◌, length, All}
+use Rattle.std.specs.Prelude.{ℕ, ◌+◌, max, IsTrue, List, [], ◌∷◌, All}
 use Rattle.bg_base.specs.declared.names.Name.{Name}
 use Rattle.bg_base.specs.declared.names.Link.TheVariants.{Edge}
-use Rattle.bg_base.specs.declared.big.NodeRow.{NodeRow}
 use Rattle.bg_base.specs.declared.big.Big.{Big}
 use Rattle.bg_base.specs.Bigraph.{IsGround}
 use Rattle.bg_base.specs.Translation.{node_numbers}
 use Rattle.bg_base.specs.Products.{has_point}
 use Rattle.bg_algebra.specs.Frame.{is_plain}
+use Rattle.bg_rules.specs.Limits.{IsWithinLimits}
 use Rattle.bg_rules.specs.Reaction.{HostParts, IsNumbered}
 
--- what a bigraph must be to be the bigraph of a host: ground, with plain names, without idle edges, and not too large
+-- what a bigraph must be to be the bigraph of a host: ground, with plain names, and without idle edges
 pub record IsHostBig (big : Big) : Type 0 where
   pub ground : IsGround big
   pub names_plain : All (λ (name : Name). IsTrue (is_plain name)) big.outer
   pub edges_used : All (λ edge. IsTrue (has_point big (Edge edge))) big.edges
-  pub few_nodes : length big.nodes ≤ 65536
-  pub few_edges : length big.edges ≤ 65536
 
--- what each host keeps
+-- what each host keeps: its bigraph is such a one, every number is below its counters, and it is within the limits
 pub record IsHost (host : HostParts) : Type 0 where
   pub fits : IsHostBig host.big
   pub numbered : IsNumbered host
-  pub next_node_small : host.next_node ≤ 2147483648
-  pub next_edge_small : host.next_edge ≤ 2147483648
-
--- the numbers of nodes and edges are below the largest counter
-pub record AreSmallNumbers (big : Big) : Type 0 where
-  pub small_nodes : All (λ (row : NodeRow). row.id < 2147483648) big.nodes
-  pub small_edges : All (λ edge. edge < 2147483648) big.edges
+  pub within : IsWithinLimits host
 
 -- one past the largest of the numbers, 0 where there is none
 abbrev pub past_largest : List ℕ → ℕ

@@ -1,11 +1,14 @@
 pub mod Solid
 pub mod Decomposition
 pub mod LocalConditions
+pub mod Images
 pub mod Occurrences
 pub mod Instantiation
+pub mod Climbs
 pub mod Reaction
 pub mod Recomposition
 pub mod Rules
+pub mod Limits
 pub mod Hosts
 pub mod Faults
 pub mod Systems

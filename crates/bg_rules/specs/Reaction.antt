@@ -65,12 +65,19 @@ recomposed host reactum entries context parameter =
     parameter.outer
     (instantiate parameter entries (host.next_node + length reactum.nodes)))
 
+-- what a host becomes whose redex lies between the context and the parameter: the counters are after the new numbers
+abbrev pub host_after : HostParts → Big → List ℕ → Big → Big → HostParts
+host_after host reactum entries context parameter =
+    record {
+      big = recomposed host reactum entries context parameter;
+      next_node = next_after parameter entries (host.next_node + length reactum.nodes);
+      next_edge = host.next_edge + length reactum.edges;
+    }
+
 -- the host reacts at these nodes to that
 pub record Reacts (host : HostParts) (redex reactum : Big) (entries nodes : List ℕ) (after : HostParts) : Type 0 where
   pub context : Big
   pub edges : List ℕ
   pub parameter : Big
   pub decomposes : Decomposes host.big redex nodes context edges parameter
-  pub big : after.big ≡ recomposed host reactum entries context parameter
-  pub next_node : after.next_node ≡ next_after parameter entries (host.next_node + length reactum.nodes)
-  pub next_edge : after.next_edge ≡ host.next_edge + length reactum.edges
+  pub becomes : after ≡ host_after host reactum entries context parameter

@@ -4,7 +4,8 @@ ghost use Rattle.std.specs.List.Sorted.{IsStrictlySortedBy};
 ghost use Rattle.std.specs.Ordering.{nat_cmp};
 ghost use Rattle.bg_base.specs.Bigraph.{node_cmp};
 ghost use Rattle.bg_base.specs.Translation.{node_numbers};
-ghost use Rattle.bg_rules.specs.Hosts.{IsHost, IsHostBig, AreSmallNumbers, fresh_host, past_largest};
+ghost use Rattle.bg_rules.specs.Hosts.{IsHost, IsHostBig, fresh_host, past_largest};
+ghost use Rattle.bg_rules.specs.Limits.{IsWithinLimits, largest_counter};
 
 use bg_base::{Big, NodeRow};
 use bg_lists::{Duplicate, Mem};
@@ -37,7 +38,7 @@ impl Host {
     /// there is none. Takes no memory and constant time.
     pub fn new(big: Big) -> Host
         requires fits { IsHostBig big }
-        requires small { AreSmallNumbers big }
+        requires small { IsWithinLimits (fresh_host big) }
         ensures { result ≡ fresh_host big }
     {
         let next_node = past_last_node(&big.nodes);
@@ -72,7 +73,7 @@ impl Host {
     /// The number that the next new node will get.
     pub fn next_node(&self) -> u32
         ensures same { result ≡ self.now.next_node }
-        ensures small { result ≤ 2147483648 }
+        ensures small { result ≤ largest_counter }
     {
         self.next_node
     }
@@ -80,7 +81,7 @@ impl Host {
     /// The number that the next new edge will get.
     pub fn next_edge(&self) -> u32
         ensures same { result ≡ self.now.next_edge }
-        ensures small { result ≤ 2147483648 }
+        ensures small { result ≤ largest_counter }
     {
         self.next_edge
     }
@@ -99,7 +100,7 @@ impl Duplicate for Host {
 /// One past the number of the last of these nodes, which ascend.
 fn past_last_node(rows: &[NodeRow]) -> u32
     requires ascending { IsStrictlySortedBy node_cmp rows.now }
-    requires small { past_largest (node_numbers rows.now) ≤ 2147483648 }
+    requires small { past_largest (node_numbers rows.now) ≤ largest_counter }
     ensures { result ≡ past_largest (node_numbers rows.now) }
 {
     match rows.last() {
@@ -111,7 +112,7 @@ fn past_last_node(rows: &[NodeRow]) -> u32
 /// One past the last of these edges, which ascend.
 fn past_last_edge(edges: &[u32]) -> u32
     requires ascending { IsStrictlySortedBy nat_cmp edges.now }
-    requires small { past_largest edges.now ≤ 2147483648 }
+    requires small { past_largest edges.now ≤ largest_counter }
     ensures { result ≡ past_largest edges.now }
 {
     match edges.last() {

@@ -5,6 +5,7 @@
 //!   rule asks
 //!   of its sides.
 //! - [`Host`]: a bigraph that rules change. [`System`] and [`Predicate`]: what a model describes.
+//! - [`images`]: the image of a node and of a link where a map lists the images of a pattern's nodes.
 //! - [`RuleFault`], [`ReactFault`], [`ListFault`]: why a call gives no result.
 //! - [`laws`]: occurrences are decompositions. [`reaction_laws`]: a reaction at an occurrence has one result.
 #![tactic(auto)]
@@ -12,6 +13,7 @@
 mod condition;
 mod fault;
 mod host;
+pub mod images;
 pub mod laws;
 mod pattern;
 mod predicate;

@@ -33,6 +33,6 @@ returns-clause-big c =
       edges = edges t;
       sites = sites t;
       inner = inner t;
-      regions = c.in_ok-regions.ensures t;
+      regions = c.in-Some.ensures t;
       outer = outer t;
     }
