@@ -29,9 +29,9 @@ impl Model for Builder {
 }
 
 impl Builder {
-    ghost use Rattle.std.specs.Prelude.{◌≡◌, is_some, length, IfOk};
+    ghost use Rattle.std.specs.Prelude.{◌≡◌, ◌↔◌, is_some, length, IfOk, IsOk};
     ghost use Rattle.bg_base.specs.Bigraph.{IsValid, outer_of};
-    ghost use Rattle.bg_builder.specs.Parts.{big_of};
+    ghost use Rattle.bg_builder.specs.Parts.{big_of, IsNumbered};
 
     /// The valid bigraph in the making. Moves its rows; costs time n log n in its names.
     pub fn of(alloc: Global, big: Big) -> Mem<Builder>
@@ -43,10 +43,12 @@ impl Builder {
         Ok(made)
     }
 
-    /// The bigraph of these parts, where 32 bits number their rows.
+    /// The bigraph of these parts, where 32 bits number their rows. There is no memory for more rows, and always for
+    /// these.
     pub(crate) fn from_parts(parts: Parts) -> Mem<Builder>
         requires valid { IsValid (big_of parts) }
-        ensures { IfOk result (λ made. made ≡ big_of parts) }
+        ensures same { IfOk result (λ made. made ≡ big_of parts) }
+        ensures numbered { IsOk result ↔ IsNumbered (big_of parts) }
     {
         if is_numbered(&parts) {
             Ok(Builder { parts })

@@ -67,7 +67,7 @@ fn whole(alloc: Global, g: Big, f: Big) -> Mem<Big>
     } = f;
     let nodes = composed_nodes(alloc, nodes, lower_nodes, &sites, &inner)?;
     let edges = both_edges(alloc, edges, lower_edges)?;
-    let sites = sites_through(lower_sites, &sites)?;
+    let sites = sites_through(lower_sites, &sites);
     let inner = inner_through(alloc, lower_inner, &inner)?;
     Ok(Big {
         nodes,
@@ -130,13 +130,12 @@ fn both_edges(alloc: Global, upper: Rows<u32>, lower: Rows<u32>) -> Mem<Rows<u32
 }
 
 /// The places, put into these sites.
-fn sites_through(places: Rows<Place>, sites: &Rows<Place>) -> Mem<Rows<Place>>
-    ensures { IfOk result (λ moved. moved ≡ map (inside.place_at sites.now) places) }
+fn sites_through(places: Rows<Place>, sites: &Rows<Place>) -> Rows<Place>
+    ensures { result ≡ map (inside.place_at sites.now) places }
 {
     let mut places = places.into_vec();
     place_places(places.as_mut_slice(), sites.as_slice());
-    let moved = Rows::try_from_vec(places)?;
-    Ok(moved)
+    Rows::from_vec(places)
 }
 
 /// The inner names, tied by these.

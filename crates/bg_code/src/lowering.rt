@@ -15,7 +15,7 @@ use bg_syntax::tree::expressions::{
     SynN, SynN1, SynP, SynP1Item,
 };
 use bg_syntax::tree::names::{SynNameList, SynNames, SynNumber};
-use bg_terms::Product;
+use bg_terms::BinaryOperation;
 use bg_values::{Cause, Stop};
 use std::alloc::Global;
 
@@ -112,7 +112,7 @@ fn lower_e_item(
 {
     lower_p(alloc, visible, &item.part2, code)?;
     code.push(Operation::Join {
-        product: Product::Tensor,
+        operation: BinaryOperation::Tensor,
         at: item.part1,
     })?;
     Ok(())
@@ -158,7 +158,7 @@ fn lower_p_item(
 {
     lower_m(alloc, visible, &item.part2, code)?;
     code.push(Operation::Join {
-        product: Product::Parallel,
+        operation: BinaryOperation::Parallel,
         at: item.part1,
     })?;
     Ok(())
@@ -204,7 +204,7 @@ fn lower_m_item(
 {
     lower_c(alloc, visible, &item.part2, code)?;
     code.push(Operation::Join {
-        product: Product::Merge,
+        operation: BinaryOperation::Merge,
         at: item.part1,
     })?;
     Ok(())
@@ -250,7 +250,7 @@ fn lower_c_item(
 {
     lower_k(alloc, visible, &item.part2, code)?;
     code.push(Operation::Join {
-        product: Product::Composition,
+        operation: BinaryOperation::Composition,
         at: item.part1,
     })?;
     Ok(())
@@ -386,8 +386,8 @@ fn lower_a(
         SynA::Way3(open, list, _) => lower_names(alloc, visible, *open, list, code),
         SynA::Way4(word, tail) => lower_identity(alloc, visible, *word, tail, code),
         SynA::Way5(word, _, number, _) => lower_merger(visible, *word, number, code),
-        SynA::Way6(zero) => push(code, Operation::Nothing(*zero)),
-        SynA::Way7(one) => push(code, Operation::One(*one)),
+        SynA::Way6(zero) => push(code, Operation::Empty(*zero)),
+        SynA::Way7(one) => push(code, Operation::Barren(*one)),
         SynA::Way8(open, inside, _) => lower_brackets(alloc, visible, *open, inside, code),
     }
 }

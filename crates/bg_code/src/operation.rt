@@ -2,7 +2,7 @@
 use crate::Arguments;
 use bg_base::Ident;
 use bg_lists::Rows;
-use bg_terms::Product;
+use bg_terms::BinaryOperation;
 
 /// An operation of a machine with a stack of bigraphs. `at` is the token at which a refusal of it has its place.
 #[derive(Debug, Drop)]
@@ -37,9 +37,9 @@ pub enum Operation {
         width: u64,
     },
     /// Puts one empty region.
-    One(u32),
+    Barren(u32),
     /// Puts the bigraph without regions.
-    Nothing(u32),
+    Empty(u32),
     /// Counts a term: brackets.
     Count(u32),
     /// Goes one deeper.
@@ -58,9 +58,9 @@ pub enum Operation {
         at: u32,
         is_atom: bool,
     },
-    /// Puts the product of the two on top.
+    /// Puts what the operation makes of the two on top.
     Join {
-        product: Product,
+        operation: BinaryOperation,
         at: u32,
     },
 }

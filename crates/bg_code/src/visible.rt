@@ -1,12 +1,11 @@
 //! What an expression is read in.
 ghost use Rattle.std.specs.Prelude.{◌≡◌};
 ghost use Rattle.bg_terms.specs.Trees as definition;
-ghost use Rattle.bg_values.specs.Outcome.{Gives};
 ghost use Rattle.bg_code.specs.Lowering as lowering;
 
 use bg_base::Kind;
 use bg_terms::ControlEntry;
-use bg_values::{Cause, Found, NameTable, Scope, Stop};
+use bg_values::{Cause, Found, NameTable, Refusal, Scope};
 use std::marker::Model;
 
 /// What is visible in an expression: the text with its tokens and the formals, the controls, and the bigraphs with how
@@ -30,22 +29,22 @@ impl<'a> Model for Visible<'a> {
 pub(crate) fn control_at<'a>(
     visible: &'a Visible,
     token: u32,
-) -> Result<Found<'a, ControlEntry>, Stop>
-    ensures { Gives result (lowering.control_at visible.now token) }
+) -> Result<Found<'a, ControlEntry>, Refusal>
+    ensures { result ≡ lowering.control_at visible.now token }
 {
     match visible.controls.look_up(visible.scope.spelling(token)) {
         Some(found) => Ok(found),
-        None => Err(Stop::refuse(Cause::UnknownName, token)),
+        None => Err(Refusal::new(Cause::UnknownName, token)),
     }
 }
 
 /// The bigraph that the token names, or 41.
-pub(crate) fn bigraph_at<'a>(visible: &'a Visible, token: u32) -> Result<Found<'a, u32>, Stop>
-    ensures { Gives result (lowering.bigraph_at visible.now token) }
+pub(crate) fn bigraph_at<'a>(visible: &'a Visible, token: u32) -> Result<Found<'a, u32>, Refusal>
+    ensures { result ≡ lowering.bigraph_at visible.now token }
 {
     match visible.bigraphs.look_up(visible.scope.spelling(token)) {
         Some(found) => Ok(found),
-        None => Err(Stop::refuse(Cause::UnknownName, token)),
+        None => Err(Refusal::new(Cause::UnknownName, token)),
     }
 }
 

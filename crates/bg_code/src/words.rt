@@ -9,7 +9,7 @@ use crate::Visible;
 use bg_base::{Ident, is_ident};
 use bg_lists::Rows;
 use bg_syntax::tree::names::{SynMoreLowItem, SynNameList, SynNames, SynNumber};
-use bg_values::{Cause, Stop, number_at, number_token};
+use bg_values::{Cause, Refusal, Stop, number_at, number_token};
 use std::alloc::Global;
 
 /// The identifier that the token spells, or 31. Linear in the token.
@@ -90,8 +90,8 @@ fn listed_count(list: &SynNameList) -> usize
 }
 
 /// The number of places that a token spells, or 31.
-pub(crate) fn width_at(visible: &Visible, tree: &SynNumber) -> Result<u64, Stop>
-    ensures { Gives result (definition.width_at visible.now tree.now) }
+pub(crate) fn width_at(visible: &Visible, tree: &SynNumber) -> Result<u64, Refusal>
+    ensures { result ≡ definition.width_at visible.now tree.now }
 {
     let number = number_at(&visible.scope, number_token(tree))?;
     Ok(number.unsigned_abs())

@@ -3,9 +3,7 @@ use Rattle.std.proofs.Common.{◌≡◌, ℕ, Result, Ok, Err, ap}
 use Rattle.bg_machine.specs.States.{State, pushed, gone_on}
 use Rattle.bg_terms.specs.Values.{Reached, Come, tallied}
 use Rattle.bg_values.specs.declared.refusal.Refusal.{Refusal}
-use Rattle.bg_values.specs.declared.refusal.Stop.{Stop}
-use Rattle.bg_values.specs.declared.refusal.Stop.TheVariants.{Refused, OutOfMemory}
-use Rattle.bg_values.specs.Outcome.{◌>>=◌, Stops}
+use Rattle.bg_values.specs.Outcome.{◌>>=◌}
 
 -- the term was counted
 pub counted_goes : (at : ℕ) (s t : State) (form : Reached → Come) → gone_on s (tallied at s.reached) ≡ Ok t
@@ -19,11 +17,10 @@ counted_goes at s t form = by (tallied at s.reached)
     by (Err e) is = absurd cc
 
 -- one term too many
-pub counted_stops : (at : ℕ) (s : State) (form : Reached → Come) (stop : Stop) → Stops stop (gone_on s (tallied at s.reached))
-    → Stops stop (pushed s (tallied at s.reached >>= form))
-counted_stops at s form stop = by stop (tallied at s.reached)
+pub counted_stops : (at : ℕ) (s : State) (form : Reached → Come) (refusal : Refusal) → gone_on s (tallied at s.reached) ≡ Err refusal
+    → pushed s (tallied at s.reached >>= form) ≡ Err refusal
+counted_stops at s form refusal = by (tallied at s.reached)
   where
-    by : (p : Stop) (r : Result Reached Refusal) → Stops p (gone_on s r) → Stops p (pushed s (r >>= form))
-    by (Refused refusal) (Ok c) is = absurd cc
-    by (Refused refusal) (Err e) is = let same : e ≡ refusal = cc in ap Err same
-    by OutOfMemory r is = tt
+    by : (r : Result Reached Refusal) → gone_on s r ≡ Err refusal → pushed s (r >>= form) ≡ Err refusal
+    by (Ok c) is = absurd cc
+    by (Err e) is = let same : e ≡ refusal = cc in ap Err same

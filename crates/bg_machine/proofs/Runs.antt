@@ -13,10 +13,10 @@ use Rattle.bg_machine.proofs.Follow.{values_follow, lies_behind_its_closure}
 use Rattle.bg_machine.proofs.Bindings.{run_append, run_none}
 use Rattle.bg_terms.specs.declared.shape.Shape.{Shape}
 use Rattle.bg_terms.specs.Expansion.{Meaning, with_values, node_term, meant, expand, meanings_after, meanings_of}
-use Rattle.bg_terms.specs.Expressions.{Expression, node, reference, names, identity_of, merger_of, one, nothing, brackets, deeper, closure, nesting, product}
+use Rattle.bg_terms.specs.Expressions.{Expression, node, reference, names, identity_of, merger_of, barren, empty, brackets, deeper, closure, nesting, binary}
 use Rattle.bg_terms.specs.Terms as terms
 use Rattle.bg_terms.specs.Terms.{Term}
-use Rattle.bg_terms.specs.Values.{Reached, Come, value, tallied, within, closed, nested, product_of}
+use Rattle.bg_terms.specs.Values.{Reached, Come, value, tallied, within, closed, nested, combined}
 use Rattle.bg_values.specs.declared.refusal.Refusal.{Refusal}
 use Rattle.bg_values.specs.declared.refusal.LimitWord.TheVariants.{Depth}
 use Rattle.bg_values.specs.declared.refusal.Cause.TheVariants.{TooLarge, Unexpected}
@@ -133,8 +133,8 @@ module _ (shapes : List Shape) where
   runs {ms} agree env (names at words) s = run_none shapes ms env _
   runs {ms} agree env (identity_of at width words) s = run_none shapes ms env _
   runs {ms} agree env (merger_of at width) s = run_none shapes ms env _
-  runs {ms} agree env (one at) s = run_none shapes ms env _
-  runs {ms} agree env (nothing at) s = run_none shapes ms env _
+  runs {ms} agree env (barren at) s = run_none shapes ms env _
+  runs {ms} agree env (empty at) s = run_none shapes ms env _
   runs {ms} {ts} agree env (brackets at e) s =
       counted_go s (expand shapes ts env e) (tallied at s.reached) (run shapes ms env (code_of e)) (λ c. runs agree env e (record s { reached = c }))
   runs {ms} {ts} agree env (deeper at e) s =
@@ -155,10 +155,10 @@ module _ (shapes : List Shape) where
       ∙ both_go ms env (operations.Nest at is_atom) at (nested at is_atom) (λ u. refl) (code_of d) s (value s.depth (expand shapes ts env e) s.reached)
       (value s.depth (expand shapes ts env d)) (λ f. runs agree env d (record s { stack = f.0 ∷ s.stack; reached = f.1 }))
       (λ f g left right. values_follow s.depth (expand shapes ts env e) (expand shapes ts env d) s.reached f.1 g.1 f.0 g.0 left right)
-  runs {ms} {ts} agree env (product kind at e d) s =
+  runs {ms} {ts} agree env (binary kind at e d) s =
       run_append shapes ms env (code_of e) (code_of d ++ operations.Join kind at ∷ []) s
       ∙ ap (λ z. z >>= run shapes ms env (code_of d ++ operations.Join kind at ∷ [])) (runs agree env e s)
-      ∙ both_go ms env (operations.Join kind at) at (product_of kind at) (λ u. refl) (code_of d) s (value s.depth (expand shapes ts env e) s.reached)
+      ∙ both_go ms env (operations.Join kind at) at (combined kind at) (λ u. refl) (code_of d) s (value s.depth (expand shapes ts env e) s.reached)
       (value s.depth (expand shapes ts env d)) (λ f. runs agree env d (record s { stack = f.0 ∷ s.stack; reached = f.1 }))
       (λ f g left right. values_follow s.depth (expand shapes ts env e) (expand shapes ts env d) s.reached f.1 g.1 f.0 g.0 left right)
 

@@ -1,10 +1,9 @@
 -- What calls of the machine as a program say.
-use Rattle.std.specs.Prelude.{◌≡◌, ◌≤◌, ℕ, List, Result, Ok, Err, All}
+use Rattle.std.specs.Prelude.{◌≤◌, List, Result, Ok, All}
 use Rattle.bg_base.specs.declared.signature.Control.{Control}
 use Rattle.bg_values.specs.declared.refusal.Refusal.{Refusal}
-use Rattle.bg_values.specs.declared.refusal.Stop.{Stop}
 use Rattle.bg_values.specs.declared.refusal.Cause.TheVariants.{Unexpected}
-use Rattle.bg_values.specs.Outcome.{◌>>=◌, Stops, there_or}
+use Rattle.bg_values.specs.Outcome.{◌>>=◌, there_or}
 use Rattle.bg_values.specs.Stacks.{first}
 use Rattle.bg_values.specs.Names.{Entry}
 use Rattle.bg_terms.specs.declared.shape.ControlEntry.{ControlEntry}
@@ -19,11 +18,6 @@ use Rattle.bg_base.specs.declared.big.Big.{Big}
 -- no arity of the controls is above 16
 abbrev pub AreSmall : List (Entry ControlEntry) → Type 0
 AreSmall controls = All (λ (shape : Shape). shape.arity ≤ 16) (shapes_of controls)
-
--- a call gives the number of a control and leaves the signature, or stops
-abbrev pub Enters : Result ℕ Stop → List Control → Result (ℕ × List Control) Refusal → Type 0
-Enters (Ok number) signature wanted = wanted ≡ Ok (number, signature)
-Enters (Err stop) signature wanted = Stops stop wanted
 
 -- a statement begins: these controls were met, and no term
 abbrev pub begun : List Control → Met

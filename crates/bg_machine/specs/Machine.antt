@@ -6,13 +6,13 @@ use Rattle.bg_base.specs.declared.signature.Control.{Control}
 use Rattle.bg_base.specs.declared.names.Name.TheVariants.{Plain}
 use Rattle.bg_builder.specs.Numbers.{follows, lies_behind}
 use Rattle.bg_code.specs.declared.operation.Operation.{Operation}
-use Rattle.bg_code.specs.declared.operation.Operation.TheVariants.{Node, Reference, Names, Identity, Merger, One, Nothing, Count, Enter, Leave, Open, Close, Nest, Join}
+use Rattle.bg_code.specs.declared.operation.Operation.TheVariants.{Node, Reference, Names, Identity, Merger, Barren, Empty, Count, Enter, Leave, Open, Close, Nest, Join}
 use Rattle.bg_machine.specs.States.{State, pushed, gone_on}
 use Rattle.bg_terms.specs.declared.shape.Shape.{Shape}
 use Rattle.bg_terms.specs.Expansion.{control_of}
 use Rattle.bg_terms.specs.Terms as terms
 use Rattle.bg_terms.specs.Terms.{Term}
-use Rattle.bg_terms.specs.Values.{Reached, Come, value, tallied, entered, single, plain_names, within, closed, nested, product_of}
+use Rattle.bg_terms.specs.Values.{Reached, Come, value, tallied, entered, single, plain_names, within, closed, nested, combined}
 use Rattle.bg_values.specs.declared.refusal.Refusal.{Refusal}
 use Rattle.bg_values.specs.declared.refusal.LimitWord.TheVariants.{Depth}
 use Rattle.bg_values.specs.declared.refusal.Cause.TheVariants.{Unexpected, UnknownName, TooLarge}
@@ -98,15 +98,15 @@ step shapes running env (Reference at definition args) s = referred shapes runni
 step shapes running env (Names at words) s = comes_to s (terms.names at words)
 step shapes running env (Identity at width words) s = comes_to s (terms.identity_of at width words)
 step shapes running env (Merger at width) s = comes_to s (terms.merger_of at width)
-step shapes running env (One at) s = comes_to s (terms.one at)
-step shapes running env (Nothing at) s = comes_to s (terms.nothing at)
+step shapes running env (Barren at) s = comes_to s (terms.barren at)
+step shapes running env (Empty at) s = comes_to s (terms.empty at)
 step shapes running env (Count at) s = gone_on s (tallied at s.reached)
 step shapes running env (Enter at) s = deeper_by_one at s
 step shapes running env Leave s = Ok (back_by_one s)
 step shapes running env Open s = Ok (opened s)
 step shapes running env (Close at word) s = closing at word s
 step shapes running env (Nest at is_atom) s = joined at (nested at is_atom) s
-step shapes running env (Join product at) s = joined at (product_of product at) s
+step shapes running env (Join kind at) s = joined at (combined kind at) s
 
 -- operations in order
 abbrev pub run : List Shape → List Running → List Value → List Operation → State → Result State Refusal

@@ -1,9 +1,9 @@
 //! Controls that enter the signature.
 ghost use Rattle.std.specs.Prelude.{◌≡◌, ◌≤◌, IfOk, OnErr, None};
 ghost use Rattle.bg_base.specs.Signatures.{number_of};
-ghost use Rattle.bg_machine.specs.Calls.{Enters};
 ghost use Rattle.bg_terms.specs.Expansion.{control_of};
 ghost use Rattle.bg_terms.specs.Values.{entered, entered_at};
+ghost use Rattle.bg_values.specs.Outcome.{GivesAnd};
 
 use bg_base::{Label, Signature, SignatureFault, Value};
 use bg_lists::{Duplicate, Mem, Rows};
@@ -22,7 +22,7 @@ pub fn enter(
     signature: &mut Signature,
 ) -> Result<u32, Stop>
     requires small { shape.now.arity ≤ 16 }
-    ensures entered { Enters result signature.new (entered at (control_of shape.now args.items) signature.old) }
+    ensures entered { GivesAnd result signature.new (entered at (control_of shape.now args.items) signature.old) }
     ensures unchanged { OnErr result (signature.new ≡ signature.old) }
 {
     let label = label_of(alloc, shape, args)?;
@@ -51,7 +51,7 @@ fn add(
 ) -> Result<u32, Stop>
     requires small { shape.now.arity ≤ 16 }
     requires new { number_of signature.old label ≡ None }
-    ensures entered { Enters result signature.new
+    ensures entered { GivesAnd result signature.new
         (entered_at at (record { label = label; arity = shape.now.arity; kind = shape.now.kind }) signature.old None) }
     ensures unchanged { OnErr result (signature.new ≡ signature.old) }
 {

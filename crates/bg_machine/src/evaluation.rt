@@ -8,7 +8,9 @@ ghost use Rattle.bg_terms.specs.Read.{shapes_of};
 ghost use Rattle.bg_terms.specs.Expressions.{Expression};
 ghost use Rattle.bg_values.specs.Outcome.{Gives};
 
-use crate::{Machine, Met, run};
+use crate::Met;
+use crate::machine::Machine;
+use crate::running::run;
 use bg_base::{Big, Value};
 use bg_code::Operation;
 use bg_lists::Rows;

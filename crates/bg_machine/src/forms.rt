@@ -7,28 +7,28 @@ ghost use Rattle.bg_base.specs.Order.{name_cmp};
 ghost use Rattle.bg_lists.specs.Orders.{set_of};
 ghost use Rattle.bg_base.specs.declared.names.Name.TheVariants as names;
 ghost use Rattle.bg_terms.specs.Values as definition;
-ghost use Rattle.bg_values.specs.Outcome.{Gives, told};
+ghost use Rattle.bg_values.specs.Outcome.{Gives};
 
 use bg_algebra::{AlgebraFault, atom, identity, idle, ion, merger};
 use bg_base::{Big, Ident, Kind, Name};
 use bg_builder::Builder;
 use bg_link::name_set;
 use bg_lists::{Duplicate, Mem, OutOfMemory, Rows};
-use bg_values::{Cause, LimitWord, Stop};
+use bg_values::{Cause, LimitWord, Refusal, Stop};
 use std::alloc::Global;
 
 /// The bigraph, where it is within the limits; else 52 with the first limit that it exceeds. Takes constant time.
-pub fn limited(at: u32, big: Builder) -> Result<Builder, Stop>
-    ensures { result ≡ told (definition.limited at big) }
+pub(crate) fn limited(at: u32, big: Builder) -> Result<Builder, Refusal>
+    ensures { result ≡ definition.limited at big }
 {
     if big.nodes() > 65_536 {
-        return Err(Stop::refuse(Cause::TooLarge(LimitWord::Nodes), at));
+        return Err(Refusal::new(Cause::TooLarge(LimitWord::Nodes), at));
     }
     if big.edges() > 65_536 {
-        return Err(Stop::refuse(Cause::TooLarge(LimitWord::Edges), at));
+        return Err(Refusal::new(Cause::TooLarge(LimitWord::Edges), at));
     }
     if big.regions() > 65_536 || big.sites() > 65_536 {
-        return Err(Stop::refuse(Cause::TooLarge(LimitWord::Places), at));
+        return Err(Refusal::new(Cause::TooLarge(LimitWord::Places), at));
     }
     Ok(big)
 }
@@ -46,7 +46,7 @@ fn plain_names(alloc: Global, words: &[Ident]) -> Mem<Vec<Name>>
 
 /// `{x,y}`. Costs time n log n in the names.
 #[tactic(auto, using(bg_terms::proofs::Valid::set_up))]
-pub fn idle_names(alloc: Global, words: &[Ident]) -> Mem<Big>
+pub(crate) fn idle_names(alloc: Global, words: &[Ident]) -> Mem<Big>
     ensures value { IfOk result (λ big. big ≡ elementary.idle (set_of name_cmp (definition.plain_names words.now))) }
     ensures valid { IfOk result IsValid }
 {
@@ -58,7 +58,12 @@ pub fn idle_names(alloc: Global, words: &[Ident]) -> Mem<Big>
 /// `id(n,{x})`; 52 where it has more than 65,536 regions, before it is made. Costs time n log n in its names and
 /// regions.
 #[tactic(auto, using(bg_terms::proofs::Valid::set_up))]
-pub fn wide_identity(alloc: Global, at: u32, width: u64, words: &[Ident]) -> Result<Big, Stop>
+pub(crate) fn wide_identity(
+    alloc: Global,
+    at: u32,
+    width: u64,
+    words: &[Ident],
+) -> Result<Big, Stop>
     ensures value { Gives result (definition.wide at width (elementary.identity width (set_of name_cmp (definition.plain_names words.now)))) }
     ensures valid { IfOk result IsValid }
 {
@@ -71,7 +76,7 @@ pub fn wide_identity(alloc: Global, at: u32, width: u64, words: &[Ident]) -> Res
 }
 
 /// `merge(n)`; 52 where it has more than 65,536 sites, before it is made. Linear in its sites.
-pub fn wide_merger(alloc: Global, at: u32, width: u64) -> Result<Big, Stop>
+pub(crate) fn wide_merger(alloc: Global, at: u32, width: u64) -> Result<Big, Stop>
     ensures value { Gives result (definition.wide at width (elementary.merger width)) }
     ensures valid { IfOk result IsValid }
 {
@@ -84,7 +89,13 @@ pub fn wide_merger(alloc: Global, at: u32, width: u64) -> Result<Big, Stop>
 
 /// A node of the control, with a site in it or, where the control is atomic, with nothing. Costs time n log n in its
 /// names.
-pub fn single(alloc: Global, kind: Kind, control: u32, node: u32, words: &Rows<Ident>) -> Mem<Big>
+pub(crate) fn single(
+    alloc: Global,
+    kind: Kind,
+    control: u32,
+    node: u32,
+    words: &Rows<Ident>,
+) -> Mem<Big>
     ensures value { IfOk result (λ big. big ≡ definition.single kind control node (definition.plain_names words.now)) }
     ensures valid { IfOk result IsValid }
 {
@@ -113,7 +124,7 @@ fn lone_atom(alloc: Global, control: u32, node: u32, names: &Rows<Name>) -> Mem<
 
 /// `/x F`, by an edge that lies before those of F: F itself where it has no such outer name. Costs time in proportion
 /// to F.
-pub fn closed(alloc: Global, big: Builder, word: &Ident, edge: u32) -> Mem<Builder>
+pub(crate) fn closed(alloc: Global, big: Builder, word: &Ident, edge: u32) -> Mem<Builder>
     requires new { lies_behind edge big ≡ true }
     ensures { IfOk result (λ whole. whole ≡ definition.closed edge (names.Plain word.now) big) }
 {

@@ -2,10 +2,10 @@
 use bg_builder::Builder;
 use std::marker::Model;
 
-/// A valid bigraph within the limits of places, to which others are put in place. A contract sees the bigraph.
+/// A valid bigraph with at most 65,536 regions, to which others are put in place. A contract sees the bigraph.
 #[derive(Drop)]
-pub struct Held {
-    pub big: Builder,
+pub(crate) struct Held {
+    pub(crate) big: Builder,
 }
 
 impl Model for Held {

@@ -3,14 +3,14 @@ use crate::entering::enter;
 use crate::forms::{closed, idle_names, limited, single, wide_identity, wide_merger};
 use crate::held::Held;
 use crate::met::Met;
-use crate::operators::{nested, product_of};
+use crate::operators::{combined, nested};
 use bg_algebra::{barren, empty};
 use bg_base::{Big, Ident, Signature, Value};
 use bg_builder::Builder;
 use bg_code::Arguments;
 use bg_lists::Rows;
-use bg_terms::{Product, Shape};
-use bg_values::{Cause, LimitWord, Stack, Stop};
+use bg_terms::{BinaryOperation, Shape};
+use bg_values::{Cause, LimitWord, Refusal, Stack, Stop};
 use std::alloc::Global;
 use std::marker::Model;
 
@@ -18,7 +18,7 @@ use std::marker::Model;
 /// are open, how many `K` are open, and how far the evaluation has come: the signature of the controls met, and how
 /// many nodes, closures and terms.
 #[derive(Drop)]
-pub struct Machine {
+pub(crate) struct Machine {
     stack: Stack<Held>,
     edges_open: Stack<u32>,
     depth: u32,
@@ -42,7 +42,7 @@ impl Model for Machine {
 }
 
 impl Machine {
-    ghost use Rattle.std.specs.Prelude.{◌≡◌, ◌≤◌, ◌∷◌, [], IfOk, Ok, Some, slice_get, option_copied};
+    ghost use Rattle.std.specs.Prelude.{◌≡◌, ◌≤◌, ◌∷◌, [], IfOk, MatchResult, Ok, Err, Some, slice_get, option_copied};
     ghost use Rattle.bg_terms.specs.declared.shape.Shape.{Shape as ShapeValue};
     ghost use Rattle.bg_base.specs.Bigraph.{IsValid};
     ghost use Rattle.bg_machine.specs.Machine as definition;
@@ -57,7 +57,7 @@ impl Machine {
     ghost use Rattle.bg_values.specs.declared.refusal.Cause.TheVariants as causes;
 
     /// The machine before a whole expression, where these controls and so many terms were met. Takes no memory.
-    pub fn new(alloc: Global, met: Met) -> Machine
+    pub(crate) fn new(alloc: Global, met: Met) -> Machine
         ensures { result ≡ record { stack = []; edges_open = []; depth = 0; reached = record { signature = met.signature; nodes = 0; edges = 0; terms = met.terms } } }
     {
         Machine {
@@ -72,7 +72,7 @@ impl Machine {
     }
 
     /// The bigraph on top, and what was met; 31 where there is none.
-    pub fn finish(self, alloc: Global) -> Result<(Big, Met), Stop>
+    pub(crate) fn finish(self, alloc: Global) -> Result<(Big, Met), Stop>
         ensures value { Gives result (calls.finished self) }
         ensures valid { IfOk result (λ found. IsValid found.0) }
     {
@@ -92,22 +92,22 @@ impl Machine {
     }
 
     /// One more term.
-    pub(crate) fn count(&mut self, at: u32) -> Result<(), Stop>
-        ensures { Goes result self.new (gone_on self.old (values.tallied at self.old.reached)) }
+    pub(crate) fn count(&mut self, at: u32) -> Result<(), Refusal>
+        ensures { let wanted = gone_on self.old (values.tallied at self.old.reached) in MatchResult result (λ _. wanted ≡ Ok self.new) (λ refusal. wanted ≡ Err refusal) }
     {
         if self.terms >= 1_048_576 {
-            return Err(Stop::refuse(Cause::TooLarge(LimitWord::Terms), at));
+            return Err(Refusal::new(Cause::TooLarge(LimitWord::Terms), at));
         }
         self.terms += 1;
         Ok(())
     }
 
     /// One deeper.
-    pub(crate) fn go_deeper(&mut self, at: u32) -> Result<(), Stop>
-        ensures { Goes result self.new (definition.deeper_by_one at self.old) }
+    pub(crate) fn go_deeper(&mut self, at: u32) -> Result<(), Refusal>
+        ensures { let wanted = definition.deeper_by_one at self.old in MatchResult result (λ _. wanted ≡ Ok self.new) (λ refusal. wanted ≡ Err refusal) }
     {
         if self.depth >= 1024 {
-            return Err(Stop::refuse(Cause::TooLarge(LimitWord::Depth), at));
+            return Err(Refusal::new(Cause::TooLarge(LimitWord::Depth), at));
         }
         self.depth += 1;
         Ok(())
@@ -193,8 +193,8 @@ impl Machine {
 
     /// `1`
     #[tactic(auto, using(crate::proofs::Counting::counted_goes, crate::proofs::Counting::counted_stops))]
-    pub(crate) fn put_one(&mut self, alloc: Global, at: u32) -> Result<(), Stop>
-        ensures { Goes result self.new (definition.comes_to self.old (terms.one at)) }
+    pub(crate) fn put_barren(&mut self, alloc: Global, at: u32) -> Result<(), Stop>
+        ensures { Goes result self.new (definition.comes_to self.old (terms.barren at)) }
     {
         self.count(at)?;
         self.put_new(alloc, at, barren(alloc))
@@ -202,8 +202,8 @@ impl Machine {
 
     /// `0`
     #[tactic(auto, using(crate::proofs::Counting::counted_goes, crate::proofs::Counting::counted_stops))]
-    pub(crate) fn put_nothing(&mut self, alloc: Global, at: u32) -> Result<(), Stop>
-        ensures { Goes result self.new (definition.comes_to self.old (terms.nothing at)) }
+    pub(crate) fn put_empty(&mut self, alloc: Global, at: u32) -> Result<(), Stop>
+        ensures { Goes result self.new (definition.comes_to self.old (terms.empty at)) }
     {
         self.count(at)?;
         self.put_new(alloc, at, empty(alloc))
@@ -269,54 +269,59 @@ impl Machine {
     }
 
     /// Takes the bigraph on top.
-    pub(crate) fn take(&mut self, at: u32) -> Result<Builder, Stop>
-        ensures top { Gives result (there_or causes.Unexpected at (first self.old.stack)) }
+    pub(crate) fn take(&mut self, at: u32) -> Result<Builder, Refusal>
+        ensures top { result ≡ there_or causes.Unexpected at (first self.old.stack) }
         ensures left { self.new ≡ record self.old { stack = rest self.old.stack } }
         ensures held { IfOk result IsHeld }
     {
         match self.stack.pop() {
             Some(held) => Ok(held.big),
-            None => Err(Stop::refuse(Cause::Unexpected, at)),
+            None => Err(Refusal::new(Cause::Unexpected, at)),
         }
     }
 
     /// Takes the number of the edge of the innermost closure that is open.
-    pub(crate) fn take_edge(&mut self, at: u32) -> Result<u32, Stop>
-        ensures top { Gives result (there_or causes.Unexpected at (first self.old.edges_open)) }
+    pub(crate) fn take_edge(&mut self, at: u32) -> Result<u32, Refusal>
+        ensures top { result ≡ there_or causes.Unexpected at (first self.old.edges_open) }
         ensures left { self.new ≡ record self.old { edges_open = rest self.old.edges_open } }
     {
         match self.edges_open.pop() {
             Some(edge) => Ok(edge),
-            None => Err(Stop::refuse(Cause::Unexpected, at)),
+            None => Err(Refusal::new(Cause::Unexpected, at)),
         }
     }
 
-    /// The product of the two on top, in their place.
-    pub(crate) fn join(&mut self, alloc: Global, product: Product, at: u32) -> Result<(), Stop>
-        ensures { Goes result self.new (definition.joined at (values.product_of product at) self.old) }
+    /// What the operation makes of the two on top, in their place.
+    pub(crate) fn join(
+        &mut self,
+        alloc: Global,
+        operation: BinaryOperation,
+        at: u32,
+    ) -> Result<(), Stop>
+        ensures { Goes result self.new (definition.joined at (values.combined operation at) self.old) }
     {
         let g = self.take(at)?;
         let f = self.take(at)?;
-        self.join_these(alloc, product, at, f, g)
+        self.join_these(alloc, operation, at, f, g)
     }
 
-    /// The product of these two on top.
+    /// What the operation makes of these two, on top.
     fn join_these(
         &mut self,
         alloc: Global,
-        product: Product,
+        operation: BinaryOperation,
         at: u32,
         f: Builder,
         g: Builder,
     ) -> Result<(), Stop>
         requires f_held { IsHeld f }
         requires g_held { IsHeld g }
-        ensures { Goes result self.new (definition.joined_onto at (values.product_of product at) self.old f g) }
+        ensures { Goes result self.new (definition.joined_onto at (values.combined operation at) self.old f g) }
     {
         if !f.follows(&g) {
             return Err(Stop::refuse(Cause::Unexpected, at));
         }
-        let big = product_of(alloc, product, at, f, g)?;
+        let big = combined(alloc, operation, at, f, g)?;
         self.put(at, big)
     }
 

@@ -1,35 +1,35 @@
 //! The operators of the model language on bigraphs.
 ghost use Rattle.std.specs.Prelude.{◌≡◌, ◌+◌, ◌<◌, ◌^◌, true};
 ghost use Rattle.bg_builder.specs.Numbers.{follows};
-ghost use Rattle.bg_terms.specs.declared.shape.Product.TheVariants as products;
+ghost use Rattle.bg_terms.specs.declared.shape.BinaryOperation.TheVariants as operations;
 ghost use Rattle.bg_terms.specs.Values as definition;
 ghost use Rattle.bg_values.specs.Outcome.{Gives};
 
 use bg_algebra::AlgebraFault;
 use bg_builder::Builder;
-use bg_terms::Product;
+use bg_terms::BinaryOperation;
 use bg_values::{Cause, Stop};
 use std::alloc::Global;
 
-/// The product of two bigraphs, the numbers of the second behind those of the first, or its refusal at the operator: 11
+/// What the operation makes of two bigraphs, the numbers of the second behind those of the first, or its refusal at the operator: 11
 /// for `*`, 13 for `+`, 14 for `||` and `|`. Costs time in proportion to the second one, up to a logarithm; and to the
 /// first one where `|` finds it with another number of regions than one.
-pub fn product_of(
+pub(crate) fn combined(
     alloc: Global,
-    product: Product,
+    operation: BinaryOperation,
     at: u32,
     f: Builder,
     g: Builder,
 ) -> Result<Builder, Stop>
     requires follows { follows f g ≡ true }
     requires regions { f.regions + g.regions < 2 ^ 32 }
-    ensures { Gives result (definition.product_of product at f g) }
+    ensures { Gives result (definition.combined operation at f g) }
 {
-    match product {
-        Product::Composition => composed(alloc, at, f, g),
-        Product::Tensor => beside(at, f, g),
-        Product::Parallel => in_parallel(at, f, g),
-        Product::Merge => merged(at, f, g),
+    match operation {
+        BinaryOperation::Composition => composed(alloc, at, f, g),
+        BinaryOperation::Tensor => beside(at, f, g),
+        BinaryOperation::Parallel => in_parallel(at, f, g),
+        BinaryOperation::Merge => merged(at, f, g),
     }
 }
 
@@ -37,7 +37,7 @@ pub fn product_of(
 #[tactic(auto, using(crate::proofs::Conditions::faces_agree_so, crate::proofs::Conditions::faces_agree_not))]
 fn composed(alloc: Global, at: u32, f: Builder, g: Builder) -> Result<Builder, Stop>
     requires follows { follows f g ≡ true }
-    ensures { Gives result (definition.product_of products.Composition at f g) }
+    ensures { Gives result (definition.combined operations.Composition at f g) }
 {
     match f.compose(alloc, g) {
         Ok(big) => Ok(big),
@@ -52,7 +52,7 @@ fn composed(alloc: Global, at: u32, f: Builder, g: Builder) -> Result<Builder, S
 fn beside(at: u32, f: Builder, g: Builder) -> Result<Builder, Stop>
     requires follows { follows f g ≡ true }
     requires regions { f.regions + g.regions < 2 ^ 32 }
-    ensures { Gives result (definition.product_of products.Tensor at f g) }
+    ensures { Gives result (definition.combined operations.Tensor at f g) }
 {
     match f.tensor(g) {
         Ok(big) => Ok(big),
@@ -67,7 +67,7 @@ fn beside(at: u32, f: Builder, g: Builder) -> Result<Builder, Stop>
 fn in_parallel(at: u32, f: Builder, g: Builder) -> Result<Builder, Stop>
     requires follows { follows f g ≡ true }
     requires regions { f.regions + g.regions < 2 ^ 32 }
-    ensures { Gives result (definition.product_of products.Parallel at f g) }
+    ensures { Gives result (definition.combined operations.Parallel at f g) }
 {
     match f.parallel(g) {
         Ok(big) => Ok(big),
@@ -81,7 +81,7 @@ fn in_parallel(at: u32, f: Builder, g: Builder) -> Result<Builder, Stop>
 #[tactic(auto, using(crate::proofs::Conditions::inner_meets_not, crate::proofs::Conditions::inner_meets_so))]
 fn merged(at: u32, f: Builder, g: Builder) -> Result<Builder, Stop>
     requires follows { follows f g ≡ true }
-    ensures { Gives result (definition.product_of products.Merge at f g) }
+    ensures { Gives result (definition.combined operations.Merge at f g) }
 {
     match f.merge(g) {
         Ok(big) => Ok(big),
@@ -93,7 +93,7 @@ fn merged(at: u32, f: Builder, g: Builder) -> Result<Builder, Stop>
 
 /// `F.G`, the numbers of G behind those of F, or its refusal at the dot: 44 where F is written as an atom, then 17 and
 /// 15. Costs time in proportion to G, up to a logarithm.
-pub fn nested(at: u32, is_atom: bool, f: Builder, g: Builder) -> Result<Builder, Stop>
+pub(crate) fn nested(at: u32, is_atom: bool, f: Builder, g: Builder) -> Result<Builder, Stop>
     requires follows { follows f g ≡ true }
     ensures { Gives result (definition.nested at is_atom f g) }
 {

@@ -5,7 +5,7 @@ ghost use Rattle.bg_machine.specs.Machine as definition;
 ghost use Rattle.bg_terms.specs.Read.{shapes_of};
 ghost use Rattle.bg_values.specs.Outcome.{Goes};
 
-use crate::Machine;
+use crate::machine::Machine;
 use bg_base::Value;
 use bg_code::{Arguments, Operation};
 use bg_lists::Rows;
@@ -16,7 +16,7 @@ use std::alloc::Global;
 /// Takes the operations in order, where these controls are visible, the definitions stand as their codes, and the
 /// formals have these values. No arity is above 16. A call of a definition runs its code on the same machine.
 #[cycle(machine)]
-pub fn run(
+pub(crate) fn run(
     alloc: Global,
     controls: &NameTable<ControlEntry>,
     definitions: &[Rows<Operation>],
@@ -79,10 +79,16 @@ fn take_step(
             machine.put_identity(alloc, *at, *width, names)
         }
         Operation::Merger { at, width } => machine.put_merger(alloc, *at, *width),
-        Operation::One(at) => machine.put_one(alloc, *at),
-        Operation::Nothing(at) => machine.put_nothing(alloc, *at),
-        Operation::Count(at) => machine.count(*at),
-        Operation::Enter(at) => machine.go_deeper(*at),
+        Operation::Barren(at) => machine.put_barren(alloc, *at),
+        Operation::Empty(at) => machine.put_empty(alloc, *at),
+        Operation::Count(at) => {
+            machine.count(*at)?;
+            Ok(())
+        }
+        Operation::Enter(at) => {
+            machine.go_deeper(*at)?;
+            Ok(())
+        }
         Operation::Leave => {
             machine.come_back();
             Ok(())
@@ -90,7 +96,7 @@ fn take_step(
         Operation::Open => machine.open(),
         Operation::Close { at, name } => machine.close(alloc, *at, name),
         Operation::Nest { at, is_atom } => machine.nest(*at, *is_atom),
-        Operation::Join { product, at } => machine.join(alloc, *product, *at),
+        Operation::Join { operation, at } => machine.join(alloc, *operation, *at),
     }
 }
 

@@ -31,9 +31,9 @@ use Rattle.bg_values.specs.Operands.{Operand, operands_read}
 use Rattle.bg_values.specs.Outcome.{◌>>=◌, refused, there_or}
 use Rattle.bg_values.specs.Scopes.{spelling}
 use Rattle.bg_terms.specs.declared.shape.ControlEntry.{ControlEntry}
-use Rattle.bg_terms.specs.declared.shape.Product.{Product}
-use Rattle.bg_terms.specs.declared.shape.Product.TheVariants.{Composition, Tensor, Parallel, Merge}
-use Rattle.bg_terms.specs.Expressions.{Expression, node, reference, names, identity_of, merger_of, one, nothing, brackets, deeper, closure, nesting, product}
+use Rattle.bg_terms.specs.declared.shape.BinaryOperation.{BinaryOperation}
+use Rattle.bg_terms.specs.declared.shape.BinaryOperation.TheVariants.{Composition, Tensor, Parallel, Merge}
+use Rattle.bg_terms.specs.Expressions.{Expression, node, reference, names, identity_of, merger_of, barren, empty, brackets, deeper, closure, nesting, binary}
 use Rattle.bg_terms.specs.Trees.{Visible, Reading, Behind, Onward, arguments, listed_tokens, ports_of, id_names, word_at, words_at, width_at}
 use Rattle.bg_terms.specs.Trees.{node_of, node_read, reference_of, reference_read, id_read, names_read, merger_read}
 use Rattle.bg_terms.specs.Trees.{brackets_read, closure_read, deeper_read, nested_read, along, joined}
@@ -80,13 +80,13 @@ pub record IsKept (visible : Visible) (P : Expression → Type 0) : Type 0 where
   pub of_names : (at : ℕ) (words : List (List ℕ)) → P (names at words)
   pub of_identity : (at width : ℕ) (words : List (List ℕ)) → P (identity_of at width words)
   pub of_merger : (at width : ℕ) → P (merger_of at width)
-  pub of_one : (at : ℕ) → P (one at)
-  pub of_nothing : (at : ℕ) → P (nothing at)
+  pub of_barren : (at : ℕ) → P (barren at)
+  pub of_empty : (at : ℕ) → P (empty at)
   pub in_brackets : (at : ℕ) (e : Expression) → P e → P (brackets at e)
   pub in_deeper : (at : ℕ) (e : Expression) → P e → P (deeper at e)
   pub in_closure : (at : ℕ) (word : List ℕ) (e : Expression) → P e → P (closure at word e)
   pub in_nesting : (at : ℕ) (is_atom : Bool) (e d : Expression) → P e → P d → P (nesting at is_atom e d)
-  pub in_product : (kind : Product) (at : ℕ) (e d : Expression) → P e → P d → P (product kind at e d)
+  pub in_binary : (kind : BinaryOperation) (at : ℕ) (e d : Expression) → P e → P d → P (binary kind at e d)
 
 -- a type of trees by the types of their parts
 abbrev Layer : Type 1
@@ -161,8 +161,8 @@ module _ (visible : Visible) (P : Expression → Type 0) (kept : IsKept visible 
   nested_says is_atom (Some behind) so e p = then_so P P (behind.1.1 visible) _ so (λ d q. kept.in_nesting behind.0 is_atom e d p q)
   nested_says is_atom None so e p = p
 
-  joined_says : (kind : Product) (at : ℕ) (right : Reading) → Says right.1 → Keeps (joined kind at right)
-  joined_says kind at right so e p = then_so P P (right.1 visible) _ so (λ d q. kept.in_product kind at e d p q)
+  joined_says : (kind : BinaryOperation) (at : ℕ) (right : Reading) → Says right.1 → Keeps (joined kind at right)
+  joined_says kind at right so e p = then_so P P (right.1 visible) _ so (λ d q. kept.in_binary kind at e d p q)
 
   items_say : {X : Type 0} (read : X → Onward) (items : List ((x : X) × Keeps (read x))) → Keeps (along (map read (map (λ w. w.0) items)))
   items_say read [] e p = p
@@ -266,8 +266,8 @@ module _ (visible : Visible) (P : Expression → Type 0) (kept : IsKept visible 
   a_grows (a_3 bracket list end) = subst (λ r. Says r.1) (sym (a_made (a_bare (a_3 bracket list end)))) (names_say bracket (listed_tokens list))
   a_grows (a_4 at tail) = subst (λ r. Says r.1) (sym (a_made (a_bare (a_4 at tail)))) (identity_says at tail)
   a_grows (a_5 at bracket number end) = subst (λ r. Says r.1) (sym (a_made (a_bare (a_5 at bracket number end)))) (merger_says at number)
-  a_grows (a_6 at) = subst (λ r. Says r.1) (sym (a_made (a_bare (a_6 at)))) (kept.of_nothing at)
-  a_grows (a_7 at) = subst (λ r. Says r.1) (sym (a_made (a_bare (a_7 at)))) (kept.of_one at)
+  a_grows (a_6 at) = subst (λ r. Says r.1) (sym (a_made (a_bare (a_6 at)))) (kept.of_empty at)
+  a_grows (a_7 at) = subst (λ r. Says r.1) (sym (a_made (a_bare (a_7 at)))) (kept.of_barren at)
   a_grows (a_8 bracket e end) = subst (λ r. Says r.1) (sym (a_made (a_bare (a_8 bracket e end)))) (brackets_say bracket (e_read e.value.0) e.value.1)
 
   abbrev k_bare : With SynK-F → Bare SynK-F

@@ -13,11 +13,11 @@ use Rattle.bg_base.specs.Composition.{compose, faces_agree}
 use Rattle.bg_base.specs.Elementary.{identity, merger, idle, barren, empty, ion, atom}
 use Rattle.bg_base.specs.Products.{tensor, parallel, merge}
 use Rattle.bg_values.proofs.Bindings.{ok_same}
-use Rattle.bg_terms.specs.declared.shape.Product.{Product}
-use Rattle.bg_terms.specs.declared.shape.Product.TheVariants.{Composition, Tensor, Parallel, Merge}
+use Rattle.bg_terms.specs.declared.shape.BinaryOperation.{BinaryOperation}
+use Rattle.bg_terms.specs.declared.shape.BinaryOperation.TheVariants.{Composition, Tensor, Parallel, Merge}
 use Rattle.bg_terms.specs.Terms as terms
 use Rattle.bg_terms.specs.Terms.{Term}
-use Rattle.bg_terms.specs.Values.{Reached, value, tallied, entered, within, single, wide, plain_names, nested, product_of, closed, inner_meets, outer_meets}
+use Rattle.bg_terms.specs.Values.{Reached, value, tallied, entered, within, single, wide, plain_names, nested, combined, closed, inner_meets, outer_meets}
 use Rattle.bg_terms.specs.Numbering.{closures, AreEdgesWithin}
 use Rattle.bg_terms.proofs.Edges.{tensor_edges, parallel_edges, merge_edges, compose_edges, nest_edges, closed_edges}
 use Rattle.bg_terms.proofs.Numbered.{bound, tested, untested, Same, within_same, nested_same}
@@ -60,15 +60,15 @@ joined f g whole from count more after last first second cases edge m =
     (λ right. (omega (arith, second.from_there edge right, first.next), omega (arith, second.below edge right, first.next)))
     (cases edge m)
 
-product_edges : (kind : Product) (at : ℕ) (f g whole : Big) → product_of kind at f g ≡ Ok whole
+combined_edges : (kind : BinaryOperation) (at : ℕ) (f g whole : Big) → combined kind at f g ≡ Ok whole
     → (edge : ℕ) → Mem edge whole.edges → Mem edge f.edges ⊎ Mem edge g.edges
-product_edges Composition at f g whole is edge m =
+combined_edges Composition at f g whole is edge m =
     compose_edges f g edge (subst (λ (b : Big). Mem edge b.edges) (sym (ok_same (tested (faces_agree f g) (Ok (compose f g)) _ whole is))) m)
-product_edges Tensor at f g whole is edge m =
+combined_edges Tensor at f g whole is edge m =
     tensor_edges f g edge (subst (λ (b : Big). Mem edge b.edges) (sym (ok_same (untested (inner_meets f g || outer_meets f g) (Ok (tensor f g)) _ whole is))) m)
-product_edges Parallel at f g whole is edge m =
+combined_edges Parallel at f g whole is edge m =
     parallel_edges f g edge (subst (λ (b : Big). Mem edge b.edges) (sym (ok_same (untested (inner_meets f g) (Ok (parallel f g)) _ whole is))) m)
-product_edges Merge at f g whole is edge m =
+combined_edges Merge at f g whole is edge m =
     merge_edges f g edge (subst (λ (b : Big). Mem edge b.edges) (sym (ok_same (untested (inner_meets f g) (Ok (merge f g)) _ whole is))) m)
 
 pub within_closures : (depth : ℕ) (t : Term) (c d : Reached) (big : Big) → value depth t c ≡ Ok (big, d) → AreEdgesWithin c.edges (closures t) big d
@@ -93,10 +93,10 @@ within_closures depth (terms.merger_of at width) c d big is =
     let second = bound (wide at width (merger width)) _ (big, d) first.goes_on in
     plain at second.found big c first.found d (wide_edges at width (merger width) second.found second.is (λ edge m. elim m [ ]))
     (tallied_edges at c first.found first.is) second.goes_on
-within_closures depth (terms.one at) c d big is =
+within_closures depth (terms.barren at) c d big is =
     let first = bound (tallied at c) _ (big, d) is in
     plain at barren big c first.found d (λ edge m. elim m [ ]) (tallied_edges at c first.found first.is) first.goes_on
-within_closures depth (terms.nothing at) c d big is =
+within_closures depth (terms.empty at) c d big is =
     let first = bound (tallied at c) _ (big, d) is in
     plain at empty big c first.found d (λ edge m. elim m [ ]) (tallied_edges at c first.found first.is) first.goes_on
 within_closures depth (terms.counted at t) c d big is =
@@ -125,14 +125,14 @@ within_closures depth (terms.nesting at is_atom t u) c d big is =
     (subst (λ (b : Big). Mem edge b.edges) (sym (nested_same at is_atom first.found.0 second.found.0 third.found third.is)) m)))
     (omega (arith, f.next, g.next))
     (within_same at third.found big second.found.1 d third.goes_on)
-within_closures depth (terms.product kind at t u) c d big is =
+within_closures depth (terms.binary kind at t u) c d big is =
     let first = bound (value depth t c) _ (big, d) is in
     let f = within_closures depth t c first.found.1 first.found.0 first.is in
     let second = bound (value depth u first.found.1) _ (big, d) first.goes_on in
     let g = within_closures depth u first.found.1 second.found.1 second.found.0 second.is in
-    let third = bound (product_of kind at first.found.0 second.found.0) _ (big, d) second.goes_on in
+    let third = bound (combined kind at first.found.0 second.found.0) _ (big, d) second.goes_on in
     placed c.edges (closures t + closures u) third.found big second.found.1 d
     (joined first.found.0 second.found.0 third.found c.edges (closures t) (closures u) first.found.1 second.found.1 f g
-    (product_edges kind at first.found.0 second.found.0 third.found third.is))
+    (combined_edges kind at first.found.0 second.found.0 third.found third.is))
     (omega (arith, f.next, g.next))
     (within_same at third.found big second.found.1 d third.goes_on)

@@ -10,7 +10,7 @@ use Rattle.bg_base.specs.Elementary.{barren, ion, atom}
 use Rattle.bg_base.specs.Products.{parallel, merge, close}
 use Rattle.bg_values.specs.declared.refusal.Cause.TheVariants.{AtomicHasChild, WidthsDiffer}
 use Rattle.bg_values.specs.Outcome.{refused}
-use Rattle.bg_terms.specs.declared.shape.Product.TheVariants.{Merge}
+use Rattle.bg_terms.specs.declared.shape.BinaryOperation.TheVariants.{Merge}
 use Rattle.bg_terms.specs.Terms as terms
 use Rattle.bg_terms.specs.Values.{Come, Reached, value}
 
@@ -28,17 +28,17 @@ start : Reached
 start = record { signature = []; nodes = 0; edges = 0; terms = 0 }
 
 -- `A.1` is refused at the dot, and `(A).1` too, for another cause
-atom_dot : value 0 (terms.nesting 1 true (terms.node 0 agent []) (terms.one 2)) start ≡ refused AtomicHasChild 1
+atom_dot : value 0 (terms.nesting 1 true (terms.node 0 agent []) (terms.barren 2)) start ≡ refused AtomicHasChild 1
 unfolding atom barren set_of start agent
 atom_dot = refl
 
-brackets_dot : value 0 (terms.nesting 3 false (terms.counted 0 (terms.node 1 agent [])) (terms.one 4)) start ≡ refused WidthsDiffer 3
+brackets_dot : value 0 (terms.nesting 3 false (terms.counted 0 (terms.node 1 agent [])) (terms.barren 4)) start ≡ refused WidthsDiffer 3
 unfolding atom barren set_of start agent
 brackets_dot = refl
 
 -- `A | R`: node 0 is an agent and node 1 a room with a site, both in one region
 beside_each_other : Come
-beside_each_other = value 0 (terms.product Merge 1 (terms.node 0 agent []) (terms.node 2 room [])) start
+beside_each_other = value 0 (terms.binary Merge 1 (terms.node 0 agent []) (terms.node 2 room [])) start
 
 beside_is : beside_each_other ≡ Ok (
   record {

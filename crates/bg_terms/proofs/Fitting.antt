@@ -36,12 +36,12 @@ use Rattle.bg_values.specs.declared.refusal.Refusal.{Refusal}
 use Rattle.bg_values.proofs.Bindings.{ok_same}
 use Rattle.bg_values.proofs.Items.{member_at, last_item}
 use Rattle.bg_terms.specs.Arities.{HaveArities, AreOneByLabel}
-use Rattle.bg_terms.specs.declared.shape.Product.{Product}
-use Rattle.bg_terms.specs.declared.shape.Product.TheVariants.{Composition, Tensor, Parallel, Merge}
+use Rattle.bg_terms.specs.declared.shape.BinaryOperation.{BinaryOperation}
+use Rattle.bg_terms.specs.declared.shape.BinaryOperation.TheVariants.{Composition, Tensor, Parallel, Merge}
 use Rattle.bg_terms.specs.Order.{controls_of}
 use Rattle.bg_terms.specs.Terms as terms
 use Rattle.bg_terms.specs.Terms.{Term}
-use Rattle.bg_terms.specs.Values.{Reached, value, tallied, entered, entered_at, single, wide, plain_names, nested, product_of, closed, inner_meets, outer_meets}
+use Rattle.bg_terms.specs.Values.{Reached, value, tallied, entered, entered_at, single, wide, plain_names, nested, combined, closed, inner_meets, outer_meets}
 use Rattle.bg_terms.proofs.Closures.{within_closures}
 use Rattle.bg_terms.proofs.Labels.{found}
 use Rattle.bg_terms.proofs.Numbered.{bound, tested, Same, within_same}
@@ -159,18 +159,18 @@ single_fits signature control number node words is ports = by control.kind refl
         (ap (λ o. unwrap_or (option_map (λ (found : Control). is_atomic_kind found.kind) o) false) is ∙ ap is_atomic_kind kind_is)
     by Atomic kind_is = atom_valid_under number node (plain_names words) signature below names_fit
 
--- ---- products and closures
+-- ---- binary operations and closures
 
-product_fits : (signature : List Control) (kind : Product) (at : ℕ) (f g whole : Big) → product_of kind at f g ≡ Ok whole
+combined_fits : (signature : List Control) (kind : BinaryOperation) (at : ℕ) (f g whole : Big) → combined kind at f g ≡ Ok whole
     → IsValidUnder signature f → IsValidUnder signature g → SupportsApart f g → IsValidUnder signature whole
-product_fits signature Composition at f g whole made f_fits g_fits apart = by _ (faces_agree f g) refl made
+combined_fits signature Composition at f g whole made f_fits g_fits apart = by _ (faces_agree f g) refl made
   where
     by : (r : Refusal) (b : Bool) → faces_agree f g ≡ b → (if b then Ok (compose f g) else Err r) ≡ Ok whole → IsValidUnder signature whole
     by r true e is =
         subst (IsValidUnder signature) (ok_same is)
         (compose_valid_under f g (FacesAgree-from_test f g e) apart f_fits.valid g_fits.valid signature f_fits g_fits)
     by r false e is = absurd cc
-product_fits signature Tensor at f g whole made f_fits g_fits apart = by _ (inner_meets f g) (outer_meets f g) refl refl made
+combined_fits signature Tensor at f g whole made f_fits g_fits apart = by _ (inner_meets f g) (outer_meets f g) refl refl made
   where
     by : (r : Refusal) (a b : Bool) → inner_meets f g ≡ a → outer_meets f g ≡ b → (if a || b then Err r else Ok (tensor f g)) ≡ Ok whole
         → IsValidUnder signature whole
@@ -179,14 +179,14 @@ product_fits signature Tensor at f g whole made f_fits g_fits apart = by _ (inne
     by r false false ae be is =
         subst (IsValidUnder signature) (ok_same is)
         (tensor_valid_under f g f_fits.valid g_fits.valid apart (inner_apart f g ae) (outer_apart f g be) signature f_fits g_fits)
-product_fits signature Parallel at f g whole made f_fits g_fits apart = by _ (inner_meets f g) refl made
+combined_fits signature Parallel at f g whole made f_fits g_fits apart = by _ (inner_meets f g) refl made
   where
     by : (r : Refusal) (a : Bool) → inner_meets f g ≡ a → (if a then Err r else Ok (parallel f g)) ≡ Ok whole → IsValidUnder signature whole
     by r true ae is = absurd cc
     by r false ae is =
         subst (IsValidUnder signature) (ok_same is)
         (parallel_valid_under f g f_fits.valid g_fits.valid apart (inner_apart f g ae) signature f_fits g_fits)
-product_fits signature Merge at f g whole made f_fits g_fits apart = by _ (inner_meets f g) refl made
+combined_fits signature Merge at f g whole made f_fits g_fits apart = by _ (inner_meets f g) refl made
   where
     by : (r : Refusal) (a : Bool) → inner_meets f g ≡ a → (if a then Err r else Ok (merge f g)) ≡ Ok whole → IsValidUnder signature whole
     by r true ae is = absurd cc
@@ -255,10 +255,10 @@ module _ (all : List Control) (one : AreOneByLabel all) where
       let second = bound (wide at width (merger width)) _ (big, d) first.goes_on in
       plain all at c first.found d second.found big first.is (within_same at second.found big first.found d second.goes_on) kept inside
       (subst (IsValidUnder c.signature) (sym (wide_same at width (merger width) second.found second.is)) (merger_valid_under width c.signature))
-  fitting depth (terms.one at) c d big is kept arities inside symbols =
+  fitting depth (terms.barren at) c d big is kept arities inside symbols =
       let first = bound (tallied at c) _ (big, d) is in
       plain all at c first.found d barren big first.is (within_same at barren big first.found d first.goes_on) kept inside (barren_valid_under c.signature)
-  fitting depth (terms.nothing at) c d big is kept arities inside symbols =
+  fitting depth (terms.empty at) c d big is kept arities inside symbols =
       let first = bound (tallied at c) _ (big, d) is in
       plain all at c first.found d empty big first.is (within_same at empty big first.found d first.goes_on) kept inside (empty_valid_under c.signature)
   fitting depth (terms.counted at t) c d big is kept arities inside symbols =
@@ -302,13 +302,13 @@ module _ (all : List Control) (one : AreOneByLabel all) where
         inside = g_so.inside;
       })
       same.big_is (ap (λ (r : Reached). r.signature) same.reached_is)
-  fitting depth (terms.product kind at t u) c d big is kept arities inside symbols =
+  fitting depth (terms.binary kind at t u) c d big is kept arities inside symbols =
       let first = bound (value depth t c) _ (big, d) is in
       let f = first.found.0 in
       let mid = first.found.1 in
       let second = bound (value depth u mid) _ (big, d) first.goes_on in
       let g = second.found.0 in
-      let third = bound (product_of kind at f g) _ (big, d) second.goes_on in
+      let third = bound (combined kind at f g) _ (big, d) second.goes_on in
       let same = within_same at third.found big second.found.1 d third.goes_on in
       let f_so = fitting depth t c mid f first.is kept arities.0 inside (λ x m. symbols x (Mem-append_left (controls_of t) (controls_of u) m)) in
       let g_so = fitting depth u mid second.found.1 g second.is f_so.kept arities.1 f_so.inside (λ x m. symbols x (Mem-append_right (controls_of t) (controls_of u) m)) in
@@ -316,7 +316,7 @@ module _ (all : List Control) (one : AreOneByLabel all) where
       let f_fits = subst (λ s. IsValidUnder s f) (sym more.goes_on) (still_fits mid.signature more.entered f f_so.fits) in
       let apart = apart_values depth t u c mid second.found.1 f g first.is second.is in
       fitting_same all second.found.1.signature d.signature third.found big
-      (record { fits = product_fits second.found.1.signature kind at f g third.found third.is f_fits g_so.fits apart; kept = g_so.kept; inside = g_so.inside })
+      (record { fits = combined_fits second.found.1.signature kind at f g third.found third.is f_fits g_so.fits apart; kept = g_so.kept; inside = g_so.inside })
       same.big_is (ap (λ (r : Reached). r.signature) same.reached_is)
 
 -- where all controls, those of the signature before and those of the term, are one by their labels

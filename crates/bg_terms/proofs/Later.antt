@@ -12,7 +12,7 @@ use Rattle.bg_values.specs.Operands.{values}
 use Rattle.bg_values.specs.Scopes.{spelling}
 use Rattle.bg_terms.specs.declared.shape.Shape.{Shape}
 use Rattle.bg_terms.specs.Expansion.{Meaning, with_values, node_term, meant, expand, meanings_after, meanings_of}
-use Rattle.bg_terms.specs.Expressions.{Expression, node, reference, names, identity_of, merger_of, one, nothing, brackets, deeper, closure, nesting, product}
+use Rattle.bg_terms.specs.Expressions.{Expression, node, reference, names, identity_of, merger_of, barren, empty, brackets, deeper, closure, nesting, binary}
 use Rattle.bg_terms.specs.Read.{RefersBelow}
 use Rattle.bg_terms.specs.Shapes.{HasPorts}
 use Rattle.bg_terms.specs.Terms as terms
@@ -35,17 +35,17 @@ module _ (shapes others : List Shape) where
   expand_controls meanings env (names at words) has = refl
   expand_controls meanings env (identity_of at width words) has = refl
   expand_controls meanings env (merger_of at width) has = refl
-  expand_controls meanings env (one at) has = refl
-  expand_controls meanings env (nothing at) has = refl
+  expand_controls meanings env (barren at) has = refl
+  expand_controls meanings env (empty at) has = refl
   expand_controls meanings env (brackets at e) has = ap (terms.counted at) (expand_controls meanings env e has)
   expand_controls meanings env (deeper at e) has = ap (terms.deeper at) (expand_controls meanings env e has)
   expand_controls meanings env (closure at word e) has = ap (terms.closure at word) (expand_controls meanings env e has)
   expand_controls meanings env (nesting at is_atom e d) has =
       ap (λ t. terms.nesting at is_atom t (expand (shapes ++ others) meanings env d)) (expand_controls meanings env e has.0)
       ∙ ap (λ t. terms.nesting at is_atom (expand shapes meanings env e) t) (expand_controls meanings env d has.1)
-  expand_controls meanings env (product kind at e d) has =
-      ap (λ t. terms.product kind at t (expand (shapes ++ others) meanings env d)) (expand_controls meanings env e has.0)
-      ∙ ap (λ t. terms.product kind at (expand shapes meanings env e) t) (expand_controls meanings env d has.1)
+  expand_controls meanings env (binary kind at e d) has =
+      ap (λ t. terms.binary kind at t (expand (shapes ++ others) meanings env d)) (expand_controls meanings env e has.0)
+      ∙ ap (λ t. terms.binary kind at (expand shapes meanings env e) t) (expand_controls meanings env d has.1)
 
   meanings_controls : (es : List Expression) (meanings : List Meaning) → ((e : Expression) → Mem e es → HasPorts shapes e)
       → meanings_after (shapes ++ others) meanings es ≡ meanings_after shapes meanings es
@@ -73,17 +73,17 @@ module _ (shapes : List Shape) where
   expand_meanings meanings others env (names at words) below = refl
   expand_meanings meanings others env (identity_of at width words) below = refl
   expand_meanings meanings others env (merger_of at width) below = refl
-  expand_meanings meanings others env (one at) below = refl
-  expand_meanings meanings others env (nothing at) below = refl
+  expand_meanings meanings others env (barren at) below = refl
+  expand_meanings meanings others env (empty at) below = refl
   expand_meanings meanings others env (brackets at e) below = ap (terms.counted at) (expand_meanings meanings others env e below)
   expand_meanings meanings others env (deeper at e) below = ap (terms.deeper at) (expand_meanings meanings others env e below)
   expand_meanings meanings others env (closure at word e) below = ap (terms.closure at word) (expand_meanings meanings others env e below)
   expand_meanings meanings others env (nesting at is_atom e d) below =
       ap (λ t. terms.nesting at is_atom t (expand shapes (meanings ++ others) env d)) (expand_meanings meanings others env e below.0)
       ∙ ap (λ t. terms.nesting at is_atom (expand shapes meanings env e) t) (expand_meanings meanings others env d below.1)
-  expand_meanings meanings others env (product kind at e d) below =
-      ap (λ t. terms.product kind at t (expand shapes (meanings ++ others) env d)) (expand_meanings meanings others env e below.0)
-      ∙ ap (λ t. terms.product kind at (expand shapes meanings env e) t) (expand_meanings meanings others env d below.1)
+  expand_meanings meanings others env (binary kind at e d) below =
+      ap (λ t. terms.binary kind at t (expand shapes (meanings ++ others) env d)) (expand_meanings meanings others env e below.0)
+      ∙ ap (λ t. terms.binary kind at (expand shapes meanings env e) t) (expand_meanings meanings others env d below.1)
 
   -- the meanings that are there stay in front
   meanings_stay : (es : List Expression) (meanings : List Meaning) → (more : List Meaning) × (meanings_after shapes meanings es ≡ meanings ++ more)
@@ -129,13 +129,13 @@ references_kept visible = record {
   of_names = λ at words. tt;
   of_identity = λ at width words. tt;
   of_merger = λ at width. tt;
-  of_one = λ at. tt;
-  of_nothing = λ at. tt;
+  of_barren = λ at. tt;
+  of_empty = λ at. tt;
   in_brackets = λ at e p. p;
   in_deeper = λ at e p. p;
   in_closure = λ at word e p. p;
   in_nesting = λ at is_atom e d p q. (p, q);
-  in_product = λ kind at e d p q. (p, q);
+  in_binary = λ kind at e d p q. (p, q);
 }
 
 pub references_read : (tree : SynE) (visible : Visible) (e : Expression) → (e_read tree).1 visible ≡ Ok e → RefersBelow (length visible.bigraphs) e

@@ -10,7 +10,7 @@ pub mod Ordered
 pub mod Fitting
 mod Placed
 pub mod ShapesFit
-mod Made
+pub mod Made
 mod Claims
 pub mod Ports
 pub mod InTurn

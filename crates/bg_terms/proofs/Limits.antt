@@ -10,7 +10,7 @@ use Rattle.bg_values.specs.declared.refusal.Refusal.{Refusal}
 use Rattle.bg_values.proofs.Bindings.{ok_same}
 use Rattle.bg_terms.specs.Terms as terms
 use Rattle.bg_terms.specs.Terms.{Term}
-use Rattle.bg_terms.specs.Values.{Reached, value, tallied, entered, limited, within, single, wide, plain_names, nested, product_of, closed}
+use Rattle.bg_terms.specs.Values.{Reached, value, tallied, entered, limited, within, single, wide, plain_names, nested, combined, closed}
 use Rattle.bg_terms.proofs.Numbered.{bound, tested}
 
 -- no more nodes, edges, regions and sites than are allowed
@@ -68,10 +68,10 @@ value_limited depth (terms.merger_of at width) c d big is =
     let first = bound (tallied at c) _ (big, d) is in
     let second = bound (wide at width (merger width)) _ (big, d) first.goes_on in
     within_says at second.found big first.found d second.goes_on
-value_limited depth (terms.one at) c d big is =
+value_limited depth (terms.barren at) c d big is =
     let first = bound (tallied at c) _ (big, d) is in
     within_says at barren big first.found d first.goes_on
-value_limited depth (terms.nothing at) c d big is =
+value_limited depth (terms.empty at) c d big is =
     let first = bound (tallied at c) _ (big, d) is in
     within_says at empty big first.found d first.goes_on
 value_limited depth (terms.counted at t) c d big is =
@@ -85,8 +85,8 @@ value_limited depth (terms.nesting at is_atom t u) c d big is =
     let second = bound (value depth u first.found.1) _ (big, d) first.goes_on in
     let third = bound (nested at is_atom first.found.0 second.found.0) _ (big, d) second.goes_on in
     within_says at third.found big second.found.1 d third.goes_on
-value_limited depth (terms.product kind at t u) c d big is =
+value_limited depth (terms.binary kind at t u) c d big is =
     let first = bound (value depth t c) _ (big, d) is in
     let second = bound (value depth u first.found.1) _ (big, d) first.goes_on in
-    let third = bound (product_of kind at first.found.0 second.found.0) _ (big, d) second.goes_on in
+    let third = bound (combined kind at first.found.0 second.found.0) _ (big, d) second.goes_on in
     within_says at third.found big second.found.1 d third.goes_on

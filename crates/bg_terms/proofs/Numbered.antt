@@ -15,11 +15,11 @@ use Rattle.bg_base.specs.Translation.{node_numbers}
 use Rattle.bg_values.specs.declared.refusal.Refusal.{Refusal}
 use Rattle.bg_values.specs.Outcome.{◌>>=◌}
 use Rattle.bg_values.proofs.Bindings.{ok_same}
-use Rattle.bg_terms.specs.declared.shape.Product.{Product}
-use Rattle.bg_terms.specs.declared.shape.Product.TheVariants.{Composition, Tensor, Parallel, Merge}
+use Rattle.bg_terms.specs.declared.shape.BinaryOperation.{BinaryOperation}
+use Rattle.bg_terms.specs.declared.shape.BinaryOperation.TheVariants.{Composition, Tensor, Parallel, Merge}
 use Rattle.bg_terms.specs.Terms as terms
 use Rattle.bg_terms.specs.Terms.{Term}
-use Rattle.bg_terms.specs.Values.{Reached, value, tallied, entered, limited, within, single, wide, plain_names, nested, product_of, closed}
+use Rattle.bg_terms.specs.Values.{Reached, value, tallied, entered, limited, within, single, wide, plain_names, nested, combined, closed}
 use Rattle.bg_terms.specs.Numbering.{symbols, AreNumbered}
 use Rattle.bg_terms.proofs.Numbers.{tensor_numbers, parallel_numbers, merge_numbers, compose_numbers, nest_numbers, close_numbers}
 
@@ -101,16 +101,16 @@ wide_numbers : (at width : ℕ) (big found : Big) → wide at width big ≡ Ok f
 wide_numbers at width big found is none =
     ap (λ (b : Big). node_numbers b.nodes) (sym (ok_same (untested (nat_lt 65536 width) (Ok big) _ found is))) ∙ none
 
-product_numbers : (kind : Product) (at : ℕ) (f g whole : Big) (from count more : ℕ) → product_of kind at f g ≡ Ok whole
+combined_numbers : (kind : BinaryOperation) (at : ℕ) (f g whole : Big) (from count more : ℕ) → combined kind at f g ≡ Ok whole
     → node_numbers f.nodes ≡ counted from count → node_numbers g.nodes ≡ counted (from + count) more
     → node_numbers whole.nodes ≡ counted from (count + more)
-product_numbers Composition at f g whole from count more is first second =
+combined_numbers Composition at f g whole from count more is first second =
     ap (λ (b : Big). node_numbers b.nodes) (sym (ok_same (tested _ _ _ _ is))) ∙ compose_numbers f g from count more first second
-product_numbers Tensor at f g whole from count more is first second =
+combined_numbers Tensor at f g whole from count more is first second =
     ap (λ (b : Big). node_numbers b.nodes) (sym (ok_same (untested _ _ _ _ is))) ∙ tensor_numbers f g from count more first second
-product_numbers Parallel at f g whole from count more is first second =
+combined_numbers Parallel at f g whole from count more is first second =
     ap (λ (b : Big). node_numbers b.nodes) (sym (ok_same (untested _ _ _ _ is))) ∙ parallel_numbers f g from count more first second
-product_numbers Merge at f g whole from count more is first second =
+combined_numbers Merge at f g whole from count more is first second =
     ap (λ (b : Big). node_numbers b.nodes) (sym (ok_same (untested _ _ _ _ is))) ∙ merge_numbers f g from count more first second
 
 both : (from count more : ℕ) (big whole : Big) (f g d : Reached) → f.nodes ≡ from + count → g.nodes ≡ f.nodes + more
@@ -144,10 +144,10 @@ numbered depth (terms.merger_of at width) c d big is =
     let second = bound (wide at width (merger width)) _ (big, d) first.goes_on in
     bare at second.found big c first.found d (wide_numbers at width (merger width) second.found second.is refl)
     (tallied_same at c first.found first.is) second.goes_on
-numbered depth (terms.one at) c d big is =
+numbered depth (terms.barren at) c d big is =
     let first = bound (tallied at c) _ (big, d) is in
     bare at barren big c first.found d refl (tallied_same at c first.found first.is) first.goes_on
-numbered depth (terms.nothing at) c d big is =
+numbered depth (terms.empty at) c d big is =
     let first = bound (tallied at c) _ (big, d) is in
     bare at empty big c first.found d refl (tallied_same at c first.found first.is) first.goes_on
 numbered depth (terms.counted at t) c d big is =
@@ -171,13 +171,13 @@ numbered depth (terms.nesting at is_atom t u) c d big is =
     ∙ nest_numbers first.found.0 second.found.0 c.nodes (symbols t) (symbols u) f.numbers
     (g.numbers ∙ ap (λ n. counted n (symbols u)) f.next))
     (within_same at third.found big second.found.1 d third.goes_on)
-numbered depth (terms.product kind at t u) c d big is =
+numbered depth (terms.binary kind at t u) c d big is =
     let first = bound (value depth t c) _ (big, d) is in
     let f = numbered depth t c first.found.1 first.found.0 first.is in
     let second = bound (value depth u first.found.1) _ (big, d) first.goes_on in
     let g = numbered depth u first.found.1 second.found.1 second.found.0 second.is in
-    let third = bound (product_of kind at first.found.0 second.found.0) _ (big, d) second.goes_on in
+    let third = bound (combined kind at first.found.0 second.found.0) _ (big, d) second.goes_on in
     both c.nodes (symbols t) (symbols u) third.found big first.found.1 second.found.1 d f.next g.next
-    (product_numbers kind at first.found.0 second.found.0 third.found c.nodes (symbols t) (symbols u) third.is f.numbers
+    (combined_numbers kind at first.found.0 second.found.0 third.found c.nodes (symbols t) (symbols u) third.is f.numbers
     (g.numbers ∙ ap (λ n. counted n (symbols u)) f.next))
     (within_same at third.found big second.found.1 d third.goes_on)

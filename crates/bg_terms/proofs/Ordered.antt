@@ -23,11 +23,11 @@ use Rattle.bg_base.specs.Signatures.{number_of}
 use Rattle.bg_base.specs.Translation.{node_numbers}
 use Rattle.bg_values.proofs.Bindings.{ok_same}
 use Rattle.bg_values.proofs.Items.{last_item}
-use Rattle.bg_terms.specs.declared.shape.Product.{Product}
-use Rattle.bg_terms.specs.declared.shape.Product.TheVariants.{Composition, Tensor, Parallel, Merge}
+use Rattle.bg_terms.specs.declared.shape.BinaryOperation.{BinaryOperation}
+use Rattle.bg_terms.specs.declared.shape.BinaryOperation.TheVariants.{Composition, Tensor, Parallel, Merge}
 use Rattle.bg_terms.specs.Terms as terms
 use Rattle.bg_terms.specs.Terms.{Term}
-use Rattle.bg_terms.specs.Values.{Reached, value, tallied, entered, entered_at, single, wide, plain_names, nested, product_of, closed}
+use Rattle.bg_terms.specs.Values.{Reached, value, tallied, entered, entered_at, single, wide, plain_names, nested, combined, closed}
 use Rattle.bg_terms.specs.Numbering.{symbols}
 use Rattle.bg_terms.specs.Order.{controls_of, label_at, labels_of, labels_there, AreInOrder}
 use Rattle.bg_terms.proofs.Labels.{found, still_labelled}
@@ -124,14 +124,14 @@ closed_controls edge name big = by (is_some (outer_of big.outer name))
     by true = close_controls edge name big
     by false = refl
 
-product_controls : (kind : Product) (at : ℕ) (f g whole : Big) (from count more : ℕ) → product_of kind at f g ≡ Ok whole → Follow f g whole from count more
-product_controls Composition at f g whole from count more is first second =
+combined_controls : (kind : BinaryOperation) (at : ℕ) (f g whole : Big) (from count more : ℕ) → combined kind at f g ≡ Ok whole → Follow f g whole from count more
+combined_controls Composition at f g whole from count more is first second =
     ap (λ (b : Big). controls_in b.nodes) (sym (ok_same (tested _ _ _ _ is))) ∙ compose_controls f g from count more first second
-product_controls Tensor at f g whole from count more is first second =
+combined_controls Tensor at f g whole from count more is first second =
     ap (λ (b : Big). controls_in b.nodes) (sym (ok_same (untested _ _ _ _ is))) ∙ tensor_controls f g from count more first second
-product_controls Parallel at f g whole from count more is first second =
+combined_controls Parallel at f g whole from count more is first second =
     ap (λ (b : Big). controls_in b.nodes) (sym (ok_same (untested _ _ _ _ is))) ∙ parallel_controls f g from count more first second
-product_controls Merge at f g whole from count more is first second =
+combined_controls Merge at f g whole from count more is first second =
     ap (λ (b : Big). controls_in b.nodes) (sym (ok_same (untested _ _ _ _ is))) ∙ merge_controls f g from count more first second
 
 single_controls : (kind : Kind) (control number : ℕ) (names : List Name) → controls_in (single kind control number names).nodes ≡ control ∷ []
@@ -269,10 +269,10 @@ labelled depth (terms.merger_of at width) c d big is =
     let second = bound (wide at width (merger width)) _ (big, d) first.goes_on in
     plain at c first.found d second.found big first.is (within_same at second.found big first.found d second.goes_on)
     (ap (λ (b : Big). controls_in b.nodes) (wide_same at width (merger width) second.found second.is))
-labelled depth (terms.one at) c d big is =
+labelled depth (terms.barren at) c d big is =
     let first = bound (tallied at c) _ (big, d) is in
     plain at c first.found d barren big first.is (within_same at barren big first.found d first.goes_on) refl
-labelled depth (terms.nothing at) c d big is =
+labelled depth (terms.empty at) c d big is =
     let first = bound (tallied at c) _ (big, d) is in
     plain at c first.found d empty big first.is (within_same at empty big first.found d first.goes_on) refl
 labelled depth (terms.counted at t) c d big is =
@@ -304,12 +304,12 @@ labelled depth (terms.nesting at is_atom t u) c d big is =
     (labelled depth u first.found.1 second.found.1 g second.is))
     (ap (λ (b : Big). controls_in b.nodes) (same.big_is ∙ sym (nested_same at is_atom f g third.found third.is))
     ∙ nest_controls f g c.nodes (symbols t) (symbols u) f_nodes.numbers (g_nodes.numbers ∙ ap (λ n. counted n (symbols u)) f_nodes.next))
-labelled depth (terms.product kind at t u) c d big is =
+labelled depth (terms.binary kind at t u) c d big is =
     let first = bound (value depth t c) _ (big, d) is in
     let f = first.found.0 in
     let second = bound (value depth u first.found.1) _ (big, d) first.goes_on in
     let g = second.found.0 in
-    let third = bound (product_of kind at f g) _ (big, d) second.goes_on in
+    let third = bound (combined kind at f g) _ (big, d) second.goes_on in
     let same = within_same at third.found big second.found.1 d third.goes_on in
     let f_nodes = numbered depth t c first.found.1 f first.is in
     let g_nodes = numbered depth u first.found.1 second.found.1 g second.is in
@@ -318,7 +318,7 @@ labelled depth (terms.product kind at t u) c d big is =
     (subst (Labelled first.found.1.signature (controls_of u) (controls_in g.nodes)) (sym (ap (λ (r : Reached). r.signature) same.reached_is))
     (labelled depth u first.found.1 second.found.1 g second.is))
     (ap (λ (b : Big). controls_in b.nodes) same.big_is
-    ∙ product_controls kind at f g third.found c.nodes (symbols t) (symbols u) third.is f_nodes.numbers
+    ∙ combined_controls kind at f g third.found c.nodes (symbols t) (symbols u) third.is f_nodes.numbers
     (g_nodes.numbers ∙ ap (λ n. counted n (symbols u)) f_nodes.next))
 
 pub in_order : (depth : ℕ) (t : Term) (c d : Reached) (big : Big) → value depth t c ≡ Ok (big, d)

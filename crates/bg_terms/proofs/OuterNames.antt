@@ -22,11 +22,11 @@ use Rattle.bg_base.specs.Elementary.{identity, merger, idle, barren, empty, ion,
 use Rattle.bg_base.specs.Products.{tensor, parallel, merge, nest, close}
 use Rattle.bg_algebra.specs.Frame.{is_plain}
 use Rattle.bg_values.proofs.Bindings.{ok_same}
-use Rattle.bg_terms.specs.declared.shape.Product.{Product}
-use Rattle.bg_terms.specs.declared.shape.Product.TheVariants.{Composition, Tensor, Parallel, Merge}
+use Rattle.bg_terms.specs.declared.shape.BinaryOperation.{BinaryOperation}
+use Rattle.bg_terms.specs.declared.shape.BinaryOperation.TheVariants.{Composition, Tensor, Parallel, Merge}
 use Rattle.bg_terms.specs.Terms as terms
 use Rattle.bg_terms.specs.Terms.{Term}
-use Rattle.bg_terms.specs.Values.{Reached, value, tallied, entered, within, single, wide, plain_names, nested, product_of, closed}
+use Rattle.bg_terms.specs.Values.{Reached, value, tallied, entered, within, single, wide, plain_names, nested, combined, closed}
 use Rattle.bg_terms.proofs.Numbered.{bound, tested, untested, within_same, nested_same}
 
 -- ---- lists of names
@@ -100,11 +100,11 @@ closed_plain edge name f are = by (is_some (outer_of f.outer name))
 wide_plain : (at width : ℕ) (big found : Big) → wide at width big ≡ Ok found → HasPlain big → HasPlain found
 wide_plain at width big found is are = subst HasPlain (ok_same (untested (nat_lt 65536 width) (Ok big) _ found is)) are
 
-product_plain : (kind : Product) (at : ℕ) (f g whole : Big) → product_of kind at f g ≡ Ok whole → HasPlain f → HasPlain g → HasPlain whole
-product_plain Composition at f g whole is are these = subst HasPlain (ok_same (tested _ _ _ _ is)) (compose_plain f g are)
-product_plain Tensor at f g whole is are these = subst HasPlain (ok_same (untested _ _ _ _ is)) (tensor_plain f g are these)
-product_plain Parallel at f g whole is are these = subst HasPlain (ok_same (untested _ _ _ _ is)) (parallel_plain f g are these)
-product_plain Merge at f g whole is are these = subst HasPlain (ok_same (untested _ _ _ _ is)) (merge_plain f g are these)
+combined_plain : (kind : BinaryOperation) (at : ℕ) (f g whole : Big) → combined kind at f g ≡ Ok whole → HasPlain f → HasPlain g → HasPlain whole
+combined_plain Composition at f g whole is are these = subst HasPlain (ok_same (tested _ _ _ _ is)) (compose_plain f g are)
+combined_plain Tensor at f g whole is are these = subst HasPlain (ok_same (untested _ _ _ _ is)) (tensor_plain f g are these)
+combined_plain Parallel at f g whole is are these = subst HasPlain (ok_same (untested _ _ _ _ is)) (parallel_plain f g are these)
+combined_plain Merge at f g whole is are these = subst HasPlain (ok_same (untested _ _ _ _ is)) (merge_plain f g are these)
 
 -- ---- each form
 
@@ -135,10 +135,10 @@ value_plain depth (terms.merger_of at width) c d big is =
     let first = bound (tallied at c) _ (big, d) is in
     let second = bound (wide at width (merger width)) _ (big, d) first.goes_on in
     kept_plain at second.found big first.found d (wide_plain at width (merger width) second.found second.is none_plain) second.goes_on
-value_plain depth (terms.one at) c d big is =
+value_plain depth (terms.barren at) c d big is =
     let first = bound (tallied at c) _ (big, d) is in
     kept_plain at barren big first.found d none_plain first.goes_on
-value_plain depth (terms.nothing at) c d big is =
+value_plain depth (terms.empty at) c d big is =
     let first = bound (tallied at c) _ (big, d) is in
     kept_plain at empty big first.found d none_plain first.goes_on
 value_plain depth (terms.counted at t) c d big is =
@@ -159,14 +159,14 @@ value_plain depth (terms.nesting at is_atom t u) c d big is =
     (subst HasPlain (nested_same at is_atom f g third.found third.is)
     (nest_plain f g (value_plain depth t c first.found.1 f first.is) (value_plain depth u first.found.1 second.found.1 g second.is)))
     third.goes_on
-value_plain depth (terms.product kind at t u) c d big is =
+value_plain depth (terms.binary kind at t u) c d big is =
     let first = bound (value depth t c) _ (big, d) is in
     let f = first.found.0 in
     let second = bound (value depth u first.found.1) _ (big, d) first.goes_on in
     let g = second.found.0 in
-    let third = bound (product_of kind at f g) _ (big, d) second.goes_on in
+    let third = bound (combined kind at f g) _ (big, d) second.goes_on in
     kept_plain at third.found big second.found.1 d
-    (product_plain kind at f g third.found third.is (value_plain depth t c first.found.1 f first.is)
+    (combined_plain kind at f g third.found third.is (value_plain depth t c first.found.1 f first.is)
     (value_plain depth u first.found.1 second.found.1 g second.is))
     third.goes_on
 

@@ -31,8 +31,8 @@ placed part depth (terms.node at control words) c d big count is stands = itself
 placed part depth (terms.names at words) c d big count is stands = itself part depth (terms.names at words) c count stands
 placed part depth (terms.identity_of at width words) c d big count is stands = itself part depth (terms.identity_of at width words) c count stands
 placed part depth (terms.merger_of at width) c d big count is stands = itself part depth (terms.merger_of at width) c count stands
-placed part depth (terms.one at) c d big count is stands = itself part depth (terms.one at) c count stands
-placed part depth (terms.nothing at) c d big count is stands = itself part depth (terms.nothing at) c count stands
+placed part depth (terms.barren at) c d big count is stands = itself part depth (terms.barren at) c count stands
+placed part depth (terms.empty at) c d big count is stands = itself part depth (terms.empty at) c count stands
 placed part depth (terms.counted at t) c d big count is stands =
     let first = bound (tallied at c) (value depth t) (big, d) is in
     let same = tallied_edges at c first.found first.is in
@@ -67,16 +67,16 @@ placed part depth (terms.nesting at is_atom t u) c d big count is stands =
     (placed part depth u first.found.1 second.found.1 second.found.0 right.0 second.is right.2) (omega (arith, e, edges.next)))
     inside)
     stands
-placed part depth (terms.product kind at t u) c d big count is stands =
+placed part depth (terms.binary kind at t u) c d big count is stands =
     let first = bound (value depth t c) _ (big, d) is in
     let second = bound (value depth u first.found.1) _ (big, d) first.goes_on in
     let edges = within_closures depth t c first.found.1 first.found.0 first.is in
-    ⊎_elim (λ own. itself part depth (terms.product kind at t u) c count own)
+    ⊎_elim (λ own. itself part depth (terms.binary kind at t u) c count own)
     (λ inside. ⊎_elim
-    (λ left. lifted part depth depth t (terms.product kind at t u) c c (c.edges + count) (c.edges + count)
+    (λ left. lifted part depth depth t (terms.binary kind at t u) c c (c.edges + count) (c.edges + count)
     (λ k there so. in_left so) (placed part depth t c first.found.1 first.found.0 count first.is left) refl)
     (λ right. let e = right.1 in
-    lifted part depth depth u (terms.product kind at t u) first.found.1 c (first.found.1.edges + right.0) (c.edges + count)
+    lifted part depth depth u (terms.binary kind at t u) first.found.1 c (first.found.1.edges + right.0) (c.edges + count)
     (λ k there so. in_right first.is so)
     (placed part depth u first.found.1 second.found.1 second.found.0 right.0 second.is right.2) (omega (arith, e, edges.next)))
     inside)

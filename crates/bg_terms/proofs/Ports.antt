@@ -8,7 +8,7 @@ use Rattle.bg_values.specs.Names.{Entry, number_of, entry_at, look_up}
 use Rattle.bg_values.specs.Scopes.{spelling}
 use Rattle.bg_terms.specs.declared.shape.ControlEntry.{ControlEntry}
 use Rattle.bg_terms.specs.declared.shape.Shape.{Shape}
-use Rattle.bg_terms.specs.Expressions.{Expression, node, reference, names, identity_of, merger_of, one, nothing, brackets, deeper, closure, nesting, product}
+use Rattle.bg_terms.specs.Expressions.{Expression, node, reference, names, identity_of, merger_of, barren, empty, brackets, deeper, closure, nesting, binary}
 use Rattle.bg_terms.specs.Read.{shapes_of}
 use Rattle.bg_terms.specs.Shapes.{HasPorts}
 use Rattle.bg_terms.specs.Trees.{Visible, e_read}
@@ -51,13 +51,13 @@ ports_kept visible = record {
   of_names = λ at words. tt;
   of_identity = λ at width words. tt;
   of_merger = λ at width. tt;
-  of_one = λ at. tt;
-  of_nothing = λ at. tt;
+  of_barren = λ at. tt;
+  of_empty = λ at. tt;
   in_brackets = λ at e p. p;
   in_deeper = λ at e p. p;
   in_closure = λ at word e p. p;
   in_nesting = λ at is_atom e d p q. (p, q);
-  in_product = λ kind at e d p q. (p, q);
+  in_binary = λ kind at e d p q. (p, q);
 }
 
 pub ports_read : (tree : SynE) (visible : Visible) (e : Expression) → (e_read tree).1 visible ≡ Ok e → HasPorts (shapes_of visible.controls) e
@@ -82,10 +82,10 @@ HasPorts-more shapes others (reference at number args) has = tt
 HasPorts-more shapes others (names at words) has = tt
 HasPorts-more shapes others (identity_of at width words) has = tt
 HasPorts-more shapes others (merger_of at width) has = tt
-HasPorts-more shapes others (one at) has = tt
-HasPorts-more shapes others (nothing at) has = tt
+HasPorts-more shapes others (barren at) has = tt
+HasPorts-more shapes others (empty at) has = tt
 HasPorts-more shapes others (brackets at e) has = HasPorts-more shapes others e has
 HasPorts-more shapes others (deeper at e) has = HasPorts-more shapes others e has
 HasPorts-more shapes others (closure at word e) has = HasPorts-more shapes others e has
 HasPorts-more shapes others (nesting at is_atom e d) has = (HasPorts-more shapes others e has.0, HasPorts-more shapes others d has.1)
-HasPorts-more shapes others (product kind at e d) has = (HasPorts-more shapes others e has.0, HasPorts-more shapes others d has.1)
+HasPorts-more shapes others (binary kind at e d) has = (HasPorts-more shapes others e has.0, HasPorts-more shapes others d has.1)

@@ -13,7 +13,7 @@ use Rattle.bg_values.proofs.Items.{member_at}
 use Rattle.bg_terms.specs.declared.shape.Shape.{Shape}
 use Rattle.bg_terms.specs.Arities.{HaveArities, AreOneByLabel}
 use Rattle.bg_terms.specs.Expansion.{Meaning, control_of, with_values, node_term, meant, expand, meanings_after, meanings_of}
-use Rattle.bg_terms.specs.Expressions.{Expression, node, reference, names, identity_of, merger_of, one, nothing, brackets, deeper, closure, nesting, product}
+use Rattle.bg_terms.specs.Expressions.{Expression, node, reference, names, identity_of, merger_of, barren, empty, brackets, deeper, closure, nesting, binary}
 use Rattle.bg_terms.specs.Order.{controls_of}
 use Rattle.bg_terms.specs.Shapes.{AreShapes, HasPorts, IsOfShapes, AreOfShapes, FitsShapes}
 use Rattle.bg_terms.specs.Terms as terms
@@ -81,8 +81,8 @@ module _ (shapes : List Shape) (are : AreShapes shapes) where
   shaped meanings known env (names at words) ports_fit = record { arities = tt; of_shapes = none_there }
   shaped meanings known env (identity_of at width words) ports_fit = record { arities = tt; of_shapes = none_there }
   shaped meanings known env (merger_of at width) ports_fit = record { arities = tt; of_shapes = none_there }
-  shaped meanings known env (one at) ports_fit = record { arities = tt; of_shapes = none_there }
-  shaped meanings known env (nothing at) ports_fit = record { arities = tt; of_shapes = none_there }
+  shaped meanings known env (barren at) ports_fit = record { arities = tt; of_shapes = none_there }
+  shaped meanings known env (empty at) ports_fit = record { arities = tt; of_shapes = none_there }
   shaped meanings known env (brackets at e) ports_fit = counted_shaped at _ (shaped meanings known env e ports_fit)
   shaped meanings known env (deeper at e) ports_fit =
       let so = shaped meanings known env e ports_fit in record { arities = so.arities; of_shapes = so.of_shapes }
@@ -92,7 +92,7 @@ module _ (shapes : List Shape) (are : AreShapes shapes) where
       let left = shaped meanings known env e ports_fit.0 in
       let right = shaped meanings known env d ports_fit.1 in
       record { arities = (left.arities, right.arities); of_shapes = both_shaped _ _ left right }
-  shaped meanings known env (product kind at e d) ports_fit =
+  shaped meanings known env (binary kind at e d) ports_fit =
       let left = shaped meanings known env e ports_fit.0 in
       let right = shaped meanings known env d ports_fit.1 in
       record { arities = (left.arities, right.arities); of_shapes = both_shaped _ _ left right }

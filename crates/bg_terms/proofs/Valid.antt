@@ -32,11 +32,11 @@ use Rattle.bg_algebra.proofs.Merged.{merge_valid}
 use Rattle.bg_algebra.proofs.Nested.{identity_valid, idle_valid, merger_valid, barren_valid_under, empty_valid_under, ion_valid, atom_valid, nest_valid}
 use Rattle.bg_values.specs.declared.refusal.Refusal.{Refusal}
 use Rattle.bg_values.proofs.Bindings.{ok_same}
-use Rattle.bg_terms.specs.declared.shape.Product.{Product}
-use Rattle.bg_terms.specs.declared.shape.Product.TheVariants.{Composition, Tensor, Parallel, Merge}
+use Rattle.bg_terms.specs.declared.shape.BinaryOperation.{BinaryOperation}
+use Rattle.bg_terms.specs.declared.shape.BinaryOperation.TheVariants.{Composition, Tensor, Parallel, Merge}
 use Rattle.bg_terms.specs.Terms as terms
 use Rattle.bg_terms.specs.Terms.{Term}
-use Rattle.bg_terms.specs.Values.{Reached, value, tallied, entered, single, wide, plain_names, nested, product_of, closed, inner_meets, outer_meets}
+use Rattle.bg_terms.specs.Values.{Reached, value, tallied, entered, single, wide, plain_names, nested, combined, closed, inner_meets, outer_meets}
 use Rattle.bg_terms.specs.Numbering.{symbols, closures, AreEdgesWithin}
 use Rattle.bg_terms.proofs.Numbered.{bound, tested, untested, Same, within_same, numbered}
 use Rattle.bg_terms.proofs.Closures.{within_closures}
@@ -120,24 +120,24 @@ nests at is_atom f g whole made =
     by r q p false true true ye ze e =
         record { no_inner = no_names f.inner (eqb-true (length f.inner) 0 ye); widths = eqb-true g.regions (length f.sites) ze; is = ok_same e }
 
-product_valid : (kind : Product) (at : ℕ) (f g whole : Big) → product_of kind at f g ≡ Ok whole → IsValid f → IsValid g → SupportsApart f g → IsValid whole
-product_valid Composition at f g whole made f_valid g_valid apart = by _ (faces_agree f g) refl made
+combined_valid : (kind : BinaryOperation) (at : ℕ) (f g whole : Big) → combined kind at f g ≡ Ok whole → IsValid f → IsValid g → SupportsApart f g → IsValid whole
+combined_valid Composition at f g whole made f_valid g_valid apart = by _ (faces_agree f g) refl made
   where
     by : (r : Refusal) (b : Bool) → faces_agree f g ≡ b → (if b then Ok (compose f g) else Err r) ≡ Ok whole → IsValid whole
     by r true e is = subst IsValid (ok_same is) (compose_valid f g (FacesAgree-from_test f g e) apart f_valid g_valid)
     by r false e is = absurd cc
-product_valid Tensor at f g whole made f_valid g_valid apart = by _ (inner_meets f g) (outer_meets f g) refl refl made
+combined_valid Tensor at f g whole made f_valid g_valid apart = by _ (inner_meets f g) (outer_meets f g) refl refl made
   where
     by : (r : Refusal) (a b : Bool) → inner_meets f g ≡ a → outer_meets f g ≡ b → (if a || b then Err r else Ok (tensor f g)) ≡ Ok whole → IsValid whole
     by r true b ae be is = absurd cc
     by r false true ae be is = absurd cc
     by r false false ae be is = subst IsValid (ok_same is) (tensor_valid f g f_valid g_valid apart (inner_apart f g ae) (outer_apart f g be))
-product_valid Parallel at f g whole made f_valid g_valid apart = by _ (inner_meets f g) refl made
+combined_valid Parallel at f g whole made f_valid g_valid apart = by _ (inner_meets f g) refl made
   where
     by : (r : Refusal) (a : Bool) → inner_meets f g ≡ a → (if a then Err r else Ok (parallel f g)) ≡ Ok whole → IsValid whole
     by r true ae is = absurd cc
     by r false ae is = subst IsValid (ok_same is) (parallel_valid f g f_valid g_valid apart (inner_apart f g ae))
-product_valid Merge at f g whole made f_valid g_valid apart = by _ (inner_meets f g) refl made
+combined_valid Merge at f g whole made f_valid g_valid apart = by _ (inner_meets f g) refl made
   where
     by : (r : Refusal) (a : Bool) → inner_meets f g ≡ a → (if a then Err r else Ok (merge f g)) ≡ Ok whole → IsValid whole
     by r true ae is = absurd cc
@@ -179,10 +179,10 @@ valid depth (terms.merger_of at width) c d big is =
     let second = bound (wide at width (merger width)) _ (big, d) first.goes_on in
     kept_valid second.found big first.found d (wide_valid at width (merger width) second.found second.is (merger_valid width))
     (within_same at second.found big first.found d second.goes_on)
-valid depth (terms.one at) c d big is =
+valid depth (terms.barren at) c d big is =
     let first = bound (tallied at c) _ (big, d) is in
     kept_valid barren big first.found d (barren_valid_under []).valid (within_same at barren big first.found d first.goes_on)
-valid depth (terms.nothing at) c d big is =
+valid depth (terms.empty at) c d big is =
     let first = bound (tallied at c) _ (big, d) is in
     kept_valid empty big first.found d (empty_valid_under []).valid (within_same at empty big first.found d first.goes_on)
 valid depth (terms.counted at t) c d big is =
@@ -208,13 +208,13 @@ valid depth (terms.nesting at is_atom t u) c d big is =
     (subst IsValid nests_so.is
     (nest_valid f g (valid depth t c first.found.1 f first.is) (valid depth u first.found.1 second.found.1 g second.is) nests_so.no_inner nests_so.widths apart))
     (within_same at third.found big second.found.1 d third.goes_on)
-valid depth (terms.product kind at t u) c d big is =
+valid depth (terms.binary kind at t u) c d big is =
     let first = bound (value depth t c) _ (big, d) is in
     let f = first.found.0 in
     let second = bound (value depth u first.found.1) _ (big, d) first.goes_on in
     let g = second.found.0 in
-    let third = bound (product_of kind at f g) _ (big, d) second.goes_on in
+    let third = bound (combined kind at f g) _ (big, d) second.goes_on in
     let apart = apart_values depth t u c first.found.1 second.found.1 f g first.is second.is in
     kept_valid third.found big second.found.1 d
-    (product_valid kind at f g third.found third.is (valid depth t c first.found.1 f first.is) (valid depth u first.found.1 second.found.1 g second.is) apart)
+    (combined_valid kind at f g third.found third.is (valid depth t c first.found.1 f first.is) (valid depth u first.found.1 second.found.1 g second.is) apart)
     (within_same at third.found big second.found.1 d third.goes_on)

@@ -12,13 +12,13 @@ HaveArities (terms.node at control words) = (length words ≡ control.arity) × 
 HaveArities (terms.names at words) = Unit {0}
 HaveArities (terms.identity_of at width words) = Unit {0}
 HaveArities (terms.merger_of at width) = Unit {0}
-HaveArities (terms.one at) = Unit {0}
-HaveArities (terms.nothing at) = Unit {0}
+HaveArities (terms.barren at) = Unit {0}
+HaveArities (terms.empty at) = Unit {0}
 HaveArities (terms.counted at t) = HaveArities t
 HaveArities (terms.deeper at t) = HaveArities t
 HaveArities (terms.closure at word t) = HaveArities t
 HaveArities (terms.nesting at is_atom t u) = HaveArities t × HaveArities u
-HaveArities (terms.product kind at t u) = HaveArities t × HaveArities u
+HaveArities (terms.binary kind at t u) = HaveArities t × HaveArities u
 
 -- controls with the same label are the same control
 abbrev pub AreOneByLabel : List Control → Type 0

@@ -1,7 +1,7 @@
 -- Which closure takes which edge number.
 use Rattle.std.specs.Prelude.{◌≡◌, ℕ, ◌+◌, ◌⊎◌, Bool, List, Ok}
 use Rattle.bg_base.specs.declared.big.Big.{Big}
-use Rattle.bg_terms.specs.declared.shape.Product.{Product}
+use Rattle.bg_terms.specs.declared.shape.BinaryOperation.{BinaryOperation}
 use Rattle.bg_terms.specs.Numbering.{closures}
 use Rattle.bg_terms.specs.Terms as terms
 use Rattle.bg_terms.specs.Terms.{Term}
@@ -18,8 +18,8 @@ StandsBehind part count (terms.node at control words) = IsItself part count (ter
 StandsBehind part count (terms.names at words) = IsItself part count (terms.names at words)
 StandsBehind part count (terms.identity_of at width words) = IsItself part count (terms.identity_of at width words)
 StandsBehind part count (terms.merger_of at width) = IsItself part count (terms.merger_of at width)
-StandsBehind part count (terms.one at) = IsItself part count (terms.one at)
-StandsBehind part count (terms.nothing at) = IsItself part count (terms.nothing at)
+StandsBehind part count (terms.barren at) = IsItself part count (terms.barren at)
+StandsBehind part count (terms.empty at) = IsItself part count (terms.empty at)
 StandsBehind part count (terms.counted at t) = IsItself part count (terms.counted at t) ⊎ StandsBehind part count t
 StandsBehind part count (terms.deeper at t) = IsItself part count (terms.deeper at t) ⊎ StandsBehind part count t
 StandsBehind part count (terms.closure at word t) =
@@ -27,8 +27,8 @@ StandsBehind part count (terms.closure at word t) =
 StandsBehind part count (terms.nesting at is_atom t u) =
     IsItself part count (terms.nesting at is_atom t u)
     ⊎ (StandsBehind part count t ⊎ ((others : ℕ) × (count ≡ closures t + others) × StandsBehind part others u))
-StandsBehind part count (terms.product kind at t u) =
-    IsItself part count (terms.product kind at t u)
+StandsBehind part count (terms.binary kind at t u) =
+    IsItself part count (terms.binary kind at t u)
     ⊎ (StandsBehind part count t ⊎ ((others : ℕ) × (count ≡ closures t + others) × StandsBehind part others u))
 
 -- the evaluation of a term, around which so many `K` are open, from what was reached before it, comes to the part: around
@@ -44,10 +44,10 @@ pub data Evaluates (part : Term) (inside : ℕ) (there : Reached) : ℕ → Term
       → Evaluates part inside there depth (terms.nesting at is_atom t u) c
   in_lower : {depth at : ℕ} {is_atom : Bool} {t u : Term} {c d : Reached} {big : Big} → value depth t c ≡ Ok (big, d)
       → Evaluates part inside there depth u d → Evaluates part inside there depth (terms.nesting at is_atom t u) c
-  in_left : {depth at : ℕ} {kind : Product} {t u : Term} {c : Reached} → Evaluates part inside there depth t c
-      → Evaluates part inside there depth (terms.product kind at t u) c
-  in_right : {depth at : ℕ} {kind : Product} {t u : Term} {c d : Reached} {big : Big} → value depth t c ≡ Ok (big, d)
-      → Evaluates part inside there depth u d → Evaluates part inside there depth (terms.product kind at t u) c
+  in_left : {depth at : ℕ} {kind : BinaryOperation} {t u : Term} {c : Reached} → Evaluates part inside there depth t c
+      → Evaluates part inside there depth (terms.binary kind at t u) c
+  in_right : {depth at : ℕ} {kind : BinaryOperation} {t u : Term} {c d : Reached} {big : Big} → value depth t c ≡ Ok (big, d)
+      → Evaluates part inside there depth u d → Evaluates part inside there depth (terms.binary kind at t u) c
 
 -- the evaluation of the term comes to the part where that edge number is the first free one; a closure takes it
 pub record IsEvaluatedAt (depth : ℕ) (term : Term) (before : Reached) (part : Term) (edge : ℕ) : Type 0 where

@@ -6,7 +6,7 @@ use Rattle.bg_terms.specs.declared.shape.Shape.{Shape}
 use Rattle.bg_values.specs.declared.refusal.Refusal.{Refusal}
 use Rattle.bg_values.specs.declared.refusal.Cause.TheVariants.{UnknownName}
 use Rattle.bg_values.specs.Operands.{values}
-use Rattle.bg_terms.specs.Expressions.{Expression, node, reference, names, identity_of, merger_of, one, nothing, brackets, deeper, closure, nesting, product}
+use Rattle.bg_terms.specs.Expressions.{Expression, node, reference, names, identity_of, merger_of, barren, empty, brackets, deeper, closure, nesting, binary}
 use Rattle.bg_terms.specs.Terms.{Term}
 use Rattle.bg_terms.specs.Terms as terms
 
@@ -45,13 +45,13 @@ expand shapes meanings env (reference at number args) =
 expand shapes meanings env (names at words) = terms.names at words
 expand shapes meanings env (identity_of at width words) = terms.identity_of at width words
 expand shapes meanings env (merger_of at width) = terms.merger_of at width
-expand shapes meanings env (one at) = terms.one at
-expand shapes meanings env (nothing at) = terms.nothing at
+expand shapes meanings env (barren at) = terms.barren at
+expand shapes meanings env (empty at) = terms.empty at
 expand shapes meanings env (brackets at e) = terms.counted at (expand shapes meanings env e)
 expand shapes meanings env (deeper at e) = terms.deeper at (expand shapes meanings env e)
 expand shapes meanings env (closure at word e) = terms.closure at word (expand shapes meanings env e)
 expand shapes meanings env (nesting at is_atom e d) = terms.nesting at is_atom (expand shapes meanings env e) (expand shapes meanings env d)
-expand shapes meanings env (product kind at e d) = terms.product kind at (expand shapes meanings env e) (expand shapes meanings env d)
+expand shapes meanings env (binary kind at e d) = terms.binary kind at (expand shapes meanings env e) (expand shapes meanings env d)
 
 -- the meanings of definitions in their order, each of which may refer to those before it
 abbrev pub meanings_after : List Shape → List Meaning → List Expression → List Meaning
@@ -69,10 +69,10 @@ HasNoReference (reference at number args) = ⊥
 HasNoReference (names at words) = Unit {0}
 HasNoReference (identity_of at width words) = Unit {0}
 HasNoReference (merger_of at width) = Unit {0}
-HasNoReference (one at) = Unit {0}
-HasNoReference (nothing at) = Unit {0}
+HasNoReference (barren at) = Unit {0}
+HasNoReference (empty at) = Unit {0}
 HasNoReference (brackets at e) = HasNoReference e
 HasNoReference (deeper at e) = HasNoReference e
 HasNoReference (closure at word e) = HasNoReference e
 HasNoReference (nesting at is_atom e d) = HasNoReference e × HasNoReference d
-HasNoReference (product kind at e d) = HasNoReference e × HasNoReference d
+HasNoReference (binary kind at e d) = HasNoReference e × HasNoReference d

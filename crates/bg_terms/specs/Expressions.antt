@@ -1,7 +1,7 @@
 -- Expressions of the model language, with their names looked up: a control and a definition are numbers, an argument is a
 -- formula. The first number of a form is its token: the first one, or the operator.
 use Rattle.std.specs.Prelude.{ℕ, Bool, List}
-use Rattle.bg_terms.specs.declared.shape.Product.{Product}
+use Rattle.bg_terms.specs.declared.shape.BinaryOperation.{BinaryOperation}
 use Rattle.bg_values.specs.Operands.{Operand}
 
 -- an expression, form by form
@@ -17,8 +17,8 @@ pub data Expression : Type 0 where
   -- `merge(n)`
   merger_of : ℕ → ℕ → Expression
   -- `1`, `0`
-  one : ℕ → Expression
-  nothing : ℕ → Expression
+  barren : ℕ → Expression
+  empty : ℕ → Expression
   -- `(F)`
   brackets : ℕ → Expression → Expression
   -- a `K` of the grammar: it is one deeper than the `K` that it stands in
@@ -27,4 +27,5 @@ pub data Expression : Type 0 where
   closure : ℕ → List ℕ → Expression → Expression
   -- `F.G`, and whether F is written as an atom
   nesting : ℕ → Bool → Expression → Expression → Expression
-  product : Product → ℕ → Expression → Expression → Expression
+  -- `F*G`, `F+G`, `F||G`, `F|G`
+  binary : BinaryOperation → ℕ → Expression → Expression → Expression

@@ -14,13 +14,13 @@ controls_of (terms.node at control words) = control ∷ []
 controls_of (terms.names at words) = []
 controls_of (terms.identity_of at width words) = []
 controls_of (terms.merger_of at width) = []
-controls_of (terms.one at) = []
-controls_of (terms.nothing at) = []
+controls_of (terms.barren at) = []
+controls_of (terms.empty at) = []
 controls_of (terms.counted at t) = controls_of t
 controls_of (terms.deeper at t) = controls_of t
 controls_of (terms.closure at word t) = controls_of t
 controls_of (terms.nesting at is_atom t u) = controls_of t ++ controls_of u
-controls_of (terms.product kind at t u) = controls_of t ++ controls_of u
+controls_of (terms.binary kind at t u) = controls_of t ++ controls_of u
 
 -- the label of the control with that number
 abbrev pub label_at : List Control → ℕ → Option Label

@@ -5,7 +5,7 @@ use Rattle.bg_syntax.specs.declared.tree.expressions.SynE.{SynE}
 use Rattle.bg_values.specs.Names.{Entry}
 use Rattle.bg_terms.specs.declared.shape.ControlEntry.{ControlEntry}
 use Rattle.bg_terms.specs.declared.shape.Shape.{Shape}
-use Rattle.bg_terms.specs.Expressions.{Expression, node, reference, names, identity_of, merger_of, one, nothing, brackets, deeper, closure, nesting, product}
+use Rattle.bg_terms.specs.Expressions.{Expression, node, reference, names, identity_of, merger_of, barren, empty, brackets, deeper, closure, nesting, binary}
 use Rattle.bg_terms.specs.Trees.{Visible, e_read}
 
 -- the shapes of the controls of a table, in their order
@@ -38,10 +38,10 @@ RefersBelow count (reference at number args) = number < count
 RefersBelow count (names at words) = Unit {0}
 RefersBelow count (identity_of at width words) = Unit {0}
 RefersBelow count (merger_of at width) = Unit {0}
-RefersBelow count (one at) = Unit {0}
-RefersBelow count (nothing at) = Unit {0}
+RefersBelow count (barren at) = Unit {0}
+RefersBelow count (empty at) = Unit {0}
 RefersBelow count (brackets at e) = RefersBelow count e
 RefersBelow count (deeper at e) = RefersBelow count e
 RefersBelow count (closure at word e) = RefersBelow count e
 RefersBelow count (nesting at is_atom e d) = RefersBelow count e × RefersBelow count d
-RefersBelow count (product kind at e d) = RefersBelow count e × RefersBelow count d
+RefersBelow count (binary kind at e d) = RefersBelow count e × RefersBelow count d

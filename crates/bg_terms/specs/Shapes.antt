@@ -8,7 +8,7 @@ use Rattle.bg_base.specs.Bigraph.{IsValidUnder}
 use Rattle.bg_base.specs.Signatures.{IsSignature}
 use Rattle.bg_terms.specs.declared.shape.Shape.{Shape}
 use Rattle.bg_terms.specs.Expansion.{control_of}
-use Rattle.bg_terms.specs.Expressions.{Expression, node, reference, names, identity_of, merger_of, one, nothing, brackets, deeper, closure, nesting, product}
+use Rattle.bg_terms.specs.Expressions.{Expression, node, reference, names, identity_of, merger_of, barren, empty, brackets, deeper, closure, nesting, binary}
 
 -- no arity is above 16, and no word stands for two controls
 pub record AreShapes (shapes : List Shape) : Type 0 where
@@ -22,13 +22,13 @@ HasPorts shapes (reference at number args) = Unit {0}
 HasPorts shapes (names at words) = Unit {0}
 HasPorts shapes (identity_of at width words) = Unit {0}
 HasPorts shapes (merger_of at width) = Unit {0}
-HasPorts shapes (one at) = Unit {0}
-HasPorts shapes (nothing at) = Unit {0}
+HasPorts shapes (barren at) = Unit {0}
+HasPorts shapes (empty at) = Unit {0}
 HasPorts shapes (brackets at e) = HasPorts shapes e
 HasPorts shapes (deeper at e) = HasPorts shapes e
 HasPorts shapes (closure at word e) = HasPorts shapes e
 HasPorts shapes (nesting at is_atom e d) = HasPorts shapes e × HasPorts shapes d
-HasPorts shapes (product kind at e d) = HasPorts shapes e × HasPorts shapes d
+HasPorts shapes (binary kind at e d) = HasPorts shapes e × HasPorts shapes d
 
 -- the control is one of the shapes with some arguments
 pub record IsOfShapes (shapes : List Shape) (control : Control) : Type 0 where

@@ -40,9 +40,9 @@ use Rattle.bg_values.specs.Outcome.{◌>>=◌, refused, there_or}
 use Rattle.bg_values.specs.Reading.{number_at, number_token}
 use Rattle.bg_values.specs.Scopes.{ScopeParts, spelling}
 use Rattle.bg_terms.specs.declared.shape.ControlEntry.{ControlEntry}
-use Rattle.bg_terms.specs.declared.shape.Product.{Product}
-use Rattle.bg_terms.specs.declared.shape.Product.TheVariants.{Composition, Tensor, Parallel, Merge}
-use Rattle.bg_terms.specs.Expressions.{Expression, node, reference, names, identity_of, merger_of, one, nothing, brackets, deeper, closure, nesting, product}
+use Rattle.bg_terms.specs.declared.shape.BinaryOperation.{BinaryOperation}
+use Rattle.bg_terms.specs.declared.shape.BinaryOperation.TheVariants.{Composition, Tensor, Parallel, Merge}
+use Rattle.bg_terms.specs.Expressions.{Expression, node, reference, names, identity_of, merger_of, barren, empty, brackets, deeper, closure, nesting, binary}
 
 -- what is visible: the text with its tokens and the formals, the controls, and the bigraphs with how many formals each has
 pub record Visible : Type 0 where
@@ -183,8 +183,8 @@ a_layer (a_2 ref) = (ref.part1, reference_read ref.part1 (arguments ref.part2), 
 a_layer (a_3 bracket list end) = (bracket, names_read bracket (listed_tokens list), no_atom)
 a_layer (a_4 at tail) = (at, id_read at tail, no_atom)
 a_layer (a_5 at bracket number end) = (at, merger_read at number, no_atom)
-a_layer (a_6 at) = (at, λ visible. Ok (nothing at), no_atom)
-a_layer (a_7 at) = (at, λ visible. Ok (one at), no_atom)
+a_layer (a_6 at) = (at, λ visible. Ok (empty at), no_atom)
+a_layer (a_7 at) = (at, λ visible. Ok (barren at), no_atom)
 a_layer (a_8 bracket e end) = (bracket, brackets_read bracket e.value, no_atom)
 
 -- K = "/" lower K | N
@@ -212,9 +212,9 @@ abbrev pub along : List Onward → Onward
 along [] visible e = Ok e
 along (item ∷ items) visible e = item visible e >>= along items visible
 
--- a product with what the tree behind the operator says
-abbrev pub joined : Product → ℕ → Reading → Onward
-joined kind at right visible e = right.1 visible >>= λ d. Ok (product kind at e d)
+-- a binary operation with what the tree behind the operator says
+abbrev pub joined : BinaryOperation → ℕ → Reading → Onward
+joined kind at right visible e = right.1 visible >>= λ d. Ok (binary kind at e d)
 
 -- C = K C1, C1 = "*" K C1 | none
 abbrev pub c1_item_layer : SynC1Item-F Form Reading Behind Reading Onward Reading Onward Reading Onward Reading Reading Onward → Onward

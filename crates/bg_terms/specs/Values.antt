@@ -19,8 +19,8 @@ use Rattle.bg_values.specs.declared.refusal.Refusal.{Refusal}
 use Rattle.bg_values.specs.declared.refusal.Cause.TheVariants.{FacesDiffer, NamesMeet, InnerNamesMeet, WidthsDiffer, HasInnerNames, AtomicHasChild, TooLarge}
 use Rattle.bg_values.specs.declared.refusal.LimitWord.TheVariants.{Controls, Nodes, Edges, Places, Terms, Depth}
 use Rattle.bg_values.specs.Outcome.{◌>>=◌, refused}
-use Rattle.bg_terms.specs.declared.shape.Product.{Product}
-use Rattle.bg_terms.specs.declared.shape.Product.TheVariants.{Composition, Tensor, Parallel, Merge}
+use Rattle.bg_terms.specs.declared.shape.BinaryOperation.{BinaryOperation}
+use Rattle.bg_terms.specs.declared.shape.BinaryOperation.TheVariants.{Composition, Tensor, Parallel, Merge}
 use Rattle.bg_terms.specs.Terms as terms
 use Rattle.bg_terms.specs.Terms.{Term}
 
@@ -84,12 +84,12 @@ inner_meets f g = list_any (λ (row : InnerRow). is_some (inner_of f.inner row.n
 abbrev pub outer_meets : Big → Big → Bool
 outer_meets f g = list_any (λ (name : Name). is_some (outer_of f.outer name)) g.outer
 
--- the product of two bigraphs, or its refusal at the operator
-abbrev pub product_of : Product → ℕ → Big → Big → Result Big Refusal
-product_of Composition at f g = if faces_agree f g then Ok (compose f g) else refused FacesDiffer at
-product_of Tensor at f g = if inner_meets f g || outer_meets f g then refused NamesMeet at else Ok (tensor f g)
-product_of Parallel at f g = if inner_meets f g then refused InnerNamesMeet at else Ok (parallel f g)
-product_of Merge at f g = if inner_meets f g then refused InnerNamesMeet at else Ok (merge f g)
+-- what a binary operation makes of two bigraphs, or its refusal at the operator
+abbrev pub combined : BinaryOperation → ℕ → Big → Big → Result Big Refusal
+combined Composition at f g = if faces_agree f g then Ok (compose f g) else refused FacesDiffer at
+combined Tensor at f g = if inner_meets f g || outer_meets f g then refused NamesMeet at else Ok (tensor f g)
+combined Parallel at f g = if inner_meets f g then refused InnerNamesMeet at else Ok (parallel f g)
+combined Merge at f g = if inner_meets f g then refused InnerNamesMeet at else Ok (merge f g)
 
 -- the second nested in the first, or the refusal at the dot; `is_atom` says that the first is written as an atom
 abbrev pub nested : ℕ → Bool → Big → Big → Result Big Refusal
@@ -113,13 +113,13 @@ value depth (terms.names at words) c = tallied at c >>= within at (idle (set_of 
 value depth (terms.identity_of at width words) c =
     tallied at c >>= λ t. wide at width (identity width (set_of name_cmp (plain_names words))) >>= λ big. within at big t
 value depth (terms.merger_of at width) c = tallied at c >>= λ t. wide at width (merger width) >>= λ big. within at big t
-value depth (terms.one at) c = tallied at c >>= within at barren
-value depth (terms.nothing at) c = tallied at c >>= within at empty
+value depth (terms.barren at) c = tallied at c >>= within at barren
+value depth (terms.empty at) c = tallied at c >>= within at empty
 value depth (terms.counted at t) c = tallied at c >>= value depth t
 value depth (terms.deeper at t) c = if nat_lt depth 1024 then value (depth + 1) t c else refused (TooLarge Depth) at
 value depth (terms.closure at word t) c =
     value depth t (record c { edges = c.edges + 1 }) >>= λ v. within at (closed c.edges (Plain word) v.0) v.1
 value depth (terms.nesting at is_atom t u) c =
     value depth t c >>= λ f. value depth u f.1 >>= λ g. nested at is_atom f.0 g.0 >>= λ big. within at big g.1
-value depth (terms.product kind at t u) c =
-    value depth t c >>= λ f. value depth u f.1 >>= λ g. product_of kind at f.0 g.0 >>= λ big. within at big g.1
+value depth (terms.binary kind at t u) c =
+    value depth t c >>= λ f. value depth u f.1 >>= λ g. combined kind at f.0 g.0 >>= λ big. within at big g.1

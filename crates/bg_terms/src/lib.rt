@@ -14,4 +14,4 @@
 pub mod laws;
 mod shape;
 
-pub use shape::{ControlEntry, Product, Shape};
+pub use shape::{BinaryOperation, ControlEntry, Shape};

@@ -1,4 +1,4 @@
-//! Controls as their statements define them, and the products of the language.
+//! Controls as their statements define them, and the binary operations of the language.
 use bg_base::{Ident, Kind};
 
 /// A control as its statement defines it: its word, its arity (the number of ports of its nodes) and its kind. Its
@@ -17,9 +17,9 @@ pub struct ControlEntry {
     pub shape: Shape,
 }
 
-/// The products of two bigraphs: `*`, `+`, `||` and `|`.
+/// The operations on two bigraphs: `*`, `+`, `||` and `|`.
 #[derive(Clone, Copy, Debug, PartialEq, Eq)]
-pub enum Product {
+pub enum BinaryOperation {
     Composition,
     Tensor,
     Parallel,

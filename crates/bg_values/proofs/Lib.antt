@@ -5,5 +5,4 @@ pub mod Items
 pub mod Partly
 pub mod Gathering
 pub mod Ranges
-mod Told
 pub mod Outcomes

@@ -20,11 +20,6 @@ abbrev pub there_or : {A : Type 0} → Cause → ℕ → Option A → Result A R
 there_or cause token (Some x) = Ok x
 there_or cause token None = refused cause token
 
--- the value or the refusal, as a call tells it that takes no memory
-abbrev pub told : {A : Type 0} → Result A Refusal → Result A Stop
-told (Ok x) = Ok x
-told (Err refusal) = Err (Refused refusal)
-
 -- a call that stopped was to refuse so, or found no memory
 abbrev pub Stops : {A : Type 0} → Stop → Result A Refusal → Type 0
 Stops (Refused refusal) wanted = wanted ≡ Err refusal
@@ -39,3 +34,8 @@ Gives (Err stop) wanted = Stops stop wanted
 abbrev pub Goes : {X S : Type 0} → Result X Stop → S → Result S Refusal → Type 0
 Goes (Ok x) new wanted = wanted ≡ Ok new
 Goes (Err stop) new wanted = Stops stop wanted
+
+-- a call gives a value and leaves a state, as wanted, or gives the wanted refusal, or found no memory
+abbrev pub GivesAnd : {A S : Type 0} → Result A Stop → S → Result (A × S) Refusal → Type 0
+GivesAnd (Ok x) new wanted = wanted ≡ Ok (x, new)
+GivesAnd (Err stop) new wanted = Stops stop wanted

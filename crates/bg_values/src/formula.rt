@@ -3,10 +3,10 @@ ghost use Rattle.std.specs.Prelude.{◌≡◌, slice_get};
 ghost use Rattle.std.specs.Option.{option_copied};
 ghost use Rattle.bg_values.specs.Arithmetic as definition;
 ghost use Rattle.bg_values.specs.Machine as machine;
-ghost use Rattle.bg_values.specs.Outcome.{Gives, Goes, told};
+ghost use Rattle.bg_values.specs.Outcome.{Gives, Goes};
 
 use crate::arithmetic;
-use crate::refusal::{Cause, Stop};
+use crate::refusal::{Cause, Refusal, Stop};
 use crate::stack::Stack;
 use bg_base::{Text, Value};
 use bg_lists::Duplicate;
@@ -65,18 +65,19 @@ impl Formula {
     {
         let mut stack = Stack::new(alloc);
         run(alloc, self.steps.as_slice(), env, &mut stack)?;
-        top(&mut stack)
+        let value = top(&mut stack)?;
+        Ok(value)
     }
 }
 
 /// Takes the value on top.
-fn top(stack: &mut Stack<Value>) -> Result<Value, Stop>
-    ensures value { Gives result (machine.top stack.old) }
+fn top(stack: &mut Stack<Value>) -> Result<Value, Refusal>
+    ensures value { result ≡ machine.top stack.old }
     ensures left { stack.new ≡ machine.below stack.old }
 {
     match stack.pop() {
         Some(value) => Ok(value),
-        None => Err(Stop::refuse(Cause::Unexpected, 0)),
+        None => Err(Refusal::new(Cause::Unexpected, 0)),
     }
 }
 
@@ -181,11 +182,11 @@ fn apply(
 }
 
 /// The whole number that the value is, the first token of whose formula stands there.
-pub(crate) fn whole_of(token: u32, value: &Value) -> Result<i64, Stop>
-    ensures { result ≡ told (definition.whole_of token value.now) }
+pub(crate) fn whole_of(token: u32, value: &Value) -> Result<i64, Refusal>
+    ensures { result ≡ definition.whole_of token value.now }
 {
     match value {
         Value::Int(number) => Ok(*number),
-        Value::Words(_) => Err(Stop::refuse(Cause::WrongKind, token)),
+        Value::Words(_) => Err(Refusal::new(Cause::WrongKind, token)),
     }
 }

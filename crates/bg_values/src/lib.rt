@@ -3,7 +3,10 @@
 //! - [`Scope`]: the text of a model, its tokens, and the names that are visible; [`NameTable`]: names in the order of
 //!   their definitions.
 //! - [`formula_of`]: the formula that a tree of arithmetic is, its names numbered; [`Formula::evaluate`]: what it comes
-//!   to.
+//!   to. [`operands_of`] and [`values_of`]: the same for several in a row, each an [`Operand`].
+//! - [`parameter_values`], [`parameter_name`]: the values of a parameter, and the token of its name.
+//! - [`number_at`]: the number that a token spells; [`number_token`]: the token of a number.
+//! - [`Stack`]: a stack, whose top contracts see first.
 //! - [`Stop`]: why there is no value: a [`Refusal`] with its [`Cause`] and its token, or want of memory.
 #![tactic(auto)]
 
@@ -20,9 +23,9 @@ mod stack;
 
 pub use formula::{Formula, Operator, Step};
 pub use names::{Found, NameTable};
-pub use operands::{Operand, numbers_of, operand_of, operands_of, values_of};
+pub use operands::{Operand, operands_of, values_of};
 pub use parameter::{parameter_name, parameter_values};
-pub use reading::{formula_of, number_at, number_token, text_at};
+pub use reading::{formula_of, number_at, number_token};
 pub use refusal::{Cause, LimitWord, Refusal, Stop};
 pub use scope::Scope;
 pub use stack::Stack;

@@ -62,7 +62,7 @@ fn add_operand(
 }
 
 /// The formula of a tree, with its first token, or the first name that is not visible. Linear in the tree.
-pub fn operand_of(alloc: Global, scope: &Scope, tree: &SynX) -> Result<Operand, Stop>
+pub(crate) fn operand_of(alloc: Global, scope: &Scope, tree: &SynX) -> Result<Operand, Stop>
     ensures { definition.ReadsOne result (definition.operand_read scope.now tree.now) }
 {
     let formula = formula_of(alloc, scope, tree)?;
@@ -87,7 +87,11 @@ pub fn values_of(alloc: Global, operands: &[Operand], env: &[Value]) -> Result<V
 }
 
 /// The numbers that the formulas come to, in order. Refuses the first that comes to a text. Linear in their steps.
-pub fn numbers_of(alloc: Global, operands: &[Operand], env: &[Value]) -> Result<Vec<Value>, Stop>
+pub(crate) fn numbers_of(
+    alloc: Global,
+    operands: &[Operand],
+    env: &[Value],
+) -> Result<Vec<Value>, Stop>
     ensures { (fs : List definition.Operand) → definition.AreCodesOf fs operands.now → definition.GivesList result (definition.numbers env.now fs) }
 {
     let mut numbers = Vec::new(alloc);

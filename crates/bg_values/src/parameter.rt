@@ -1,15 +1,14 @@
 //! The values of a parameter.
-ghost use Rattle.std.specs.Prelude.{◌≡◌, ◌<◌, ◌∷◌, pos, ◌+ℤ◌, ◌-ℤ◌, ◌*ℤ◌, false, map, IfOk};
+ghost use Rattle.std.specs.Prelude.{◌≡◌, ◌<◌, ◌∷◌, pos, ◌+ℤ◌, ◌-ℤ◌, ◌*ℤ◌, false, map, IfOk, MatchResult};
 ghost use Rattle.bg_base.specs.Elementary.{counted};
 ghost use Rattle.bg_values.specs.Operands as operands;
-ghost use Rattle.bg_values.specs.Outcome.{Gives};
 ghost use Rattle.bg_values.specs.Parameters as definition;
 
 use crate::formula::whole_of;
 use crate::names::NameTable;
 use crate::operands::{Operand, numbers_of, operand_of, operands_of};
 use crate::reading::text_at;
-use crate::refusal::{Cause, LimitWord, Stop};
+use crate::refusal::{Cause, LimitWord, Refusal, Stop};
 use crate::scope::Scope;
 use bg_base::Value;
 use bg_lists::Mem;
@@ -81,15 +80,16 @@ fn listed(
 {
     let operands = operands_of(alloc, scope, first, more)?;
     let values = numbers_of(alloc, operands.as_slice(), &[])?;
-    few(name, values)
+    let values = few(name, values)?;
+    Ok(values)
 }
 
 /// These values, where there are not too many.
-fn few(name: u32, values: Vec<Value>) -> Result<Vec<Value>, Stop>
-    ensures { operands.GivesList result (definition.few name values.items) }
+fn few(name: u32, values: Vec<Value>) -> Result<Vec<Value>, Refusal>
+    ensures { let wanted = definition.few name values.items in MatchResult result (λ kept. wanted ≡ Ok kept.items) (λ refusal. wanted ≡ Err refusal) }
 {
     if values.len() > MOST_VALUES {
-        Err(Stop::refuse(Cause::TooLarge(LimitWord::Values), name))
+        Err(Refusal::new(Cause::TooLarge(LimitWord::Values), name))
     } else {
         Ok(values)
     }
@@ -261,7 +261,8 @@ fn few_texts(
     ensures { operands.GivesList result (definition.few_texts scope.now name first (definition.tokens_of more.now)) }
 {
     let texts = texts_at(alloc, scope, first, more)?;
-    few(name, texts)
+    let texts = few(name, texts)?;
+    Ok(texts)
 }
 
 /// The texts of the tokens, in order.

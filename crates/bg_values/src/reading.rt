@@ -1,12 +1,12 @@
 //! From a tree of arithmetic to the steps of its formula.
 ghost use Rattle.std.specs.Prelude.{◌≡◌, map};
-ghost use Rattle.bg_values.specs.Outcome.{Gives, Goes, told};
+ghost use Rattle.bg_values.specs.Outcome.{Gives, Goes};
 ghost use Rattle.bg_values.specs.Reading as definition;
 ghost use Rattle.bg_values.specs.Lowering.{lowered, Extends, Reads};
 
 use crate::formula::{Formula, Operator, Step};
 use crate::number::number_in;
-use crate::refusal::{Cause, Stop};
+use crate::refusal::{Cause, Refusal, Stop};
 use crate::scope::Scope;
 use bg_base::{Text, is_text};
 use bg_syntax::tree::arithmetic::{SynT, SynT1Item, SynU, SynX, SynX1Item};
@@ -24,12 +24,12 @@ pub fn formula_of(alloc: Global, scope: &Scope, tree: &SynX) -> Result<Formula, 
 }
 
 /// The number that the token spells; 31 where it spells none. Linear in the token.
-pub fn number_at(scope: &Scope, token: u32) -> Result<i64, Stop>
-    ensures { result ≡ told (definition.number_at scope.now token) }
+pub fn number_at(scope: &Scope, token: u32) -> Result<i64, Refusal>
+    ensures { result ≡ definition.number_at scope.now token }
 {
     match number_in(scope.spelling(token)) {
         Some(number) => Ok(number),
-        None => Err(Stop::refuse(Cause::Unexpected, token)),
+        None => Err(Refusal::new(Cause::Unexpected, token)),
     }
 }
 
@@ -45,7 +45,7 @@ pub fn number_token(tree: &SynNumber) -> u32
 }
 
 /// The text that the token spells, between its quotes; 31 where that is no text. Linear in the token.
-pub fn text_at(alloc: Global, scope: &Scope, token: u32) -> Result<Text, Stop>
+pub(crate) fn text_at(alloc: Global, scope: &Scope, token: u32) -> Result<Text, Stop>
     ensures { Gives result (definition.text_at scope.now token) }
 {
     let inside = between(scope.spelling(token));
@@ -67,12 +67,12 @@ fn between(bytes: &[u8]) -> &[u8]
 }
 
 /// The number of the visible name that the token spells.
-fn name_at(scope: &Scope, token: u32) -> Result<u32, Stop>
-    ensures { result ≡ told (definition.name_at scope.now token) }
+fn name_at(scope: &Scope, token: u32) -> Result<u32, Refusal>
+    ensures { result ≡ definition.name_at scope.now token }
 {
     match scope.names.find(scope.spelling(token)) {
         Some(number) => Ok(number),
-        None => Err(Stop::refuse(Cause::UnknownName, token)),
+        None => Err(Refusal::new(Cause::UnknownName, token)),
     }
 }
 

@@ -108,6 +108,15 @@ pub struct Refusal {
     pub token: u32,
 }
 
+impl Refusal {
+    /// The refusal for that cause, at that token.
+    pub fn new(cause: Cause, token: u32) -> Refusal
+        ensures { result ≡ record { cause = cause; token = token } }
+    {
+        Refusal { cause, token }
+    }
+}
+
 /// Why a call gives no value.
 #[derive(Clone, Copy, Debug, PartialEq, Eq, Error)]
 pub enum Stop {
@@ -125,6 +134,16 @@ impl Stop {
         ensures { result ≡ Stop.Refused (record { cause = cause; token = token }) }
     {
         Stop::Refused(Refusal { cause, token })
+    }
+}
+
+impl From<Refusal> for Stop {
+    ghost use Rattle.bg_values.specs.declared.refusal.Stop.TheVariants.{Refused};
+
+    ghost from_gives = { λ refusal stop. stop ≡ Refused refusal };
+
+    fn from(refusal: Refusal) -> Stop {
+        Stop::Refused(refusal)
     }
 }
 

@@ -20,4 +20,4 @@ from_parts-requires c =
 pub returns : goal.returns
 returns c =
     let f = big_of c.args.f in
-    c.in_ok-whole.ensures ∙ c.in_ok-parts.ensures ∙ sym (close_behind f c.args.name.now c.args.edge c.requires.valid c.requires.new)
+    c.in_ok-whole.ensures.same ∙ c.in_ok-parts.ensures ∙ sym (close_behind f c.args.name.now c.args.edge c.requires.valid c.requires.new)

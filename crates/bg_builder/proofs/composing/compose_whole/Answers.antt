@@ -18,4 +18,4 @@ pub returns : goal.returns
 returns c =
     let f = big_of c.args.f in
     let g = big_of c.args.g in
-    c.in_ok-whole.ensures ∙ c.in_ok-parts.ensures ∙ sym (compose_behind f g c.requires.f_valid c.requires.g_valid c.requires.follows)
+    c.in_ok-whole.ensures.same ∙ c.in_ok-parts.ensures ∙ sym (compose_behind f g c.requires.f_valid c.requires.g_valid c.requires.follows)

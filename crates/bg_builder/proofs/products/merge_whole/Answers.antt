@@ -24,5 +24,5 @@ pub returns : goal.returns
 returns c =
     let f = big_of c.args.f in
     let g = big_of c.args.g in
-    c.in_ok-whole.ensures ∙ c.in_ok-parts.ensures ∙ ap (λ z. appended 1 z (big_of c.in_one_region-2.result)) c.in_one_region.ensures
+    c.in_ok-whole.ensures.same ∙ c.in_ok-parts.ensures ∙ ap (λ z. appended 1 z (big_of c.in_one_region-2.result)) c.in_one_region.ensures
     ∙ ap (appended 1 (in_one_region f)) c.in_one_region-2.ensures ∙ sym (merge_behind f g c.requires.f_valid c.requires.g_valid c.requires.follows)

@@ -23,5 +23,5 @@ pub returns : goal.returns
 returns c =
     let f = big_of c.args.f in
     let g = big_of c.args.g in
-    c.in_ok-whole.ensures ∙ c.in_ok-parts.ensures ∙ ap (appended (f.regions + g.regions) f) c.raised.ensures
+    c.in_ok-whole.ensures.same ∙ c.in_ok-parts.ensures ∙ ap (appended (f.regions + g.regions) f) c.raised.ensures
     ∙ sym (parallel_behind f g c.requires.f_valid c.requires.g_valid c.requires.follows)

@@ -11,3 +11,8 @@ pub returns-clause-value : goal.returns-clause-value
 returns-clause-value c = λ formula code.
     let seen = when_run c.args.env.now formula c.args.self.now.steps.items c.run.new.stack code in
     search (rules, seen)
+
+pub returns-in_err-value-clause-value : goal.returns-in_err-value-clause-value
+returns-in_err-value-clause-value c = λ formula code.
+    let seen = when_run c.args.env.now formula c.args.self.now.steps.items c.run.new.stack code in
+    search (rules, seen)
