@@ -1,25 +1,16 @@
 -- The model, part by part.
-use Rattle.std.proofs.Common.{◌≡◌, ◌∙◌, [], ℕ, List, length, Result, Ok, Err, refl, ap, sym, subst}
+use Rattle.std.proofs.Common.{◌≡◌, ◌∙◌, [], ℕ, List, length, Result, Ok, refl, ap, sym, subst}
 use Rattle.bg_elab.specs.declared.fault.ModelFault.{ModelFault}
 use Rattle.bg_elab.specs.Blocks.{Block, block_read}
-use Rattle.bg_elab.specs.Elaboration.{IsRefusal, block_behind, fault_of, no_system, system_behind, text_of}
-use Rattle.bg_elab.specs.Systems.{block_elaborated, block_valued, elaborated}
+use Rattle.bg_elab.specs.Elaboration.{IsRefusal, fault_of, text_of}
+use Rattle.bg_elab.specs.Systems.{block_behind, block_valued, elaborated, no_system, system_behind}
 use Rattle.bg_elab.proofs.Turns.{code_halts}
-use Rattle.bg_elab.proofs.SystemsKept.{block_below, block_is_system, parameters_sound}
-use Rattle.bg_rules.specs.Systems.{IsSystem, SystemParts}
+use Rattle.bg_rules.specs.Systems.{SystemParts}
 use Rattle.bg_statements.specs.Calls.{Kept, kept, kept_after}
-use Rattle.bg_statements.specs.Defined.{Defined}
-use Rattle.bg_statements.specs.Sound.{nothing}
-use Rattle.bg_statements.specs.Statements.{with_parameters, with_statements}
 use Rattle.bg_statements.specs.Uses.{NameSpacesParts, defined_by, spaces_of}
 use Rattle.bg_statements.proofs.Codes.{Tried, tried_so}
-use Rattle.bg_statements.proofs.RulesSound.{statements_sound}
-use Rattle.bg_statements.proofs.Sounds.{nothing_sound}
 use Rattle.bg_statements.proofs.Turns.{stops_there}
-use Rattle.bg_terms.proofs.Numbered.{bound}
 use Rattle.bg_syntax.specs.declared.tree.expressions.SynRef.{SynRef}
-use Rattle.bg_syntax.specs.declared.tree.models.SynBlock.{SynBlock}
-use Rattle.bg_syntax.specs.declared.tree.models.SynBlock.TheVariants as blocks
 use Rattle.bg_syntax.specs.declared.tree.models.SynClasses.{SynClasses}
 use Rattle.bg_syntax.specs.declared.tree.models.SynModel.{SynModel}
 use Rattle.bg_syntax.specs.declared.tree.models.SynParamsItem.{SynParamsItem}
@@ -53,33 +44,6 @@ pub fault_of_text : (bytes : List ℕ) (tokens : List Token) (tree : SynModel) (
 fault_of_text bytes tokens tree names none stop fault is stops =
     subst (λ (others : List (Entry (Unit {0}))). IsRefusal (text_with bytes tokens others) fault (elaborated (text_with bytes tokens others) tree)) none
     (fault_is (text_with bytes tokens names) stop fault (elaborated (text_with bytes tokens names) tree) is stops)
-
--- ---- a model and its parts
-
--- what follows the statements
-model_so : (text : ScopeParts) (tree : SynModel) (params : List SynParamsItem) (on : Defined → Result SystemParts Refusal)
-    → ((d : Defined) → block_elaborated text tree.part2 d ≡ with_parameters text params d >>= on)
-    → elaborated text tree ≡ defined_by text tree.part1.items params >>= on
-model_so text tree params on opens = by (with_statements text tree.part1.items nothing)
-  where
-    by : (r : Result Defined Refusal) → r >>= block_elaborated text tree.part2 ≡ r >>= with_parameters text params >>= on
-    by (Ok d) = opens d
-    by (Err refusal) = refl
-
-pub model_with_block : (text : ScopeParts) (tree : SynModel) (params : List SynParamsItem) (init : SynRef) (classes : SynClasses) (preds : SynPreds)
-    → ((d : Defined) → block_elaborated text tree.part2 d ≡ with_parameters text params d >>= block_behind text init classes preds)
-    → (statements : List SynStmtsItem) → statements ≡ tree.part1.items → (same : List SynParamsItem) → same ≡ params
-    → system_behind text statements same init classes preds ≡ elaborated text tree
-unfolding system_behind
-model_with_block text tree params init classes preds opens statements statements_are same params_are =
-    (λ i. system_behind text (statements_are i) (params_are i) init classes preds) ∙ sym (model_so text tree params (block_behind text init classes preds) opens)
-
-pub model_without : (text : ScopeParts) (tree : SynModel) → tree.part2 ≡ blocks.Way2 → (statements : List SynStmtsItem) → statements ≡ tree.part1.items
-    → no_system text statements ≡ elaborated text tree
-unfolding no_system
-model_without text tree is statements statements_are =
-    ap (no_system text) statements_are
-    ∙ sym (model_so text tree [] (λ d. refused NoBlock (length text.tokens)) (λ d. ap (λ (block : SynBlock). block_elaborated text block d) is))
 
 -- ---- a block behind statements
 
@@ -131,16 +95,3 @@ no_block text statements uses is stop end refuses ends =
     subst (λ (s : Stop). Stops s (defined_by text statements [] >>= λ d. refused {A = SystemParts} NoBlock (length text.tokens)))
     (sym (refuses ∙ ap (λ token. Refused (record { cause = NoBlock; token = token })) ends))
     (ap (λ r. r >>= λ d. refused {A = SystemParts} NoBlock (length text.tokens)) (defines text statements [] uses is).is)
-
--- ---- what it comes to is a system
-
-pub behind_is_system : (text : ScopeParts) (statements : List SynStmtsItem) (params : List SynParamsItem) (init : SynRef) (classes : SynClasses) (preds : SynPreds)
-    (parts : SystemParts) → system_behind text statements params init classes preds ≡ Ok parts → IsSystem parts
-unfolding system_behind
-behind_is_system text statements params init classes preds parts is =
-    let a = bound (defined_by text statements params) (block_behind text init classes preds) parts is in
-    let s = bound (with_statements text statements nothing) (with_parameters text params) a.found a.is in
-    let b = bound (block_read text init classes preds (spaces_of a.found)) (block_valued a.found) parts a.goes_on in
-    block_is_system a.found
-    (parameters_sound text params s.found a.found (statements_sound text statements nothing s.found nothing_sound s.is) s.goes_on)
-    b.found (block_below text init classes preds (spaces_of a.found) b.found b.is) parts b.goes_on

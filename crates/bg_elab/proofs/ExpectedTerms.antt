@@ -6,17 +6,18 @@ use Rattle.bg_base.specs.declared.labels.Value.{Value}
 use Rattle.bg_base.specs.declared.names.Name.TheVariants.{Plain}
 use Rattle.bg_base.specs.declared.signature.Control.{Control}
 use Rattle.bg_base.specs.Composition.{faces_agree}
-use Rattle.bg_base.specs.Elementary.{identity, merger, idle, barren, empty}
+use Rattle.bg_base.specs.Elementary.{identity, merger, idle}
+use Rattle.bg_base.specs.Elementary as elementary
 use Rattle.bg_base.specs.Order.{name_cmp}
 use Rattle.bg_base.specs.Signatures.{number_of}
-use Rattle.bg_terms.specs.declared.shape.Product.{Product}
-use Rattle.bg_terms.specs.declared.shape.Product.TheVariants.{Composition, Tensor, Parallel, Merge}
+use Rattle.bg_terms.specs.declared.shape.BinaryOperation.{BinaryOperation}
+use Rattle.bg_terms.specs.declared.shape.BinaryOperation.TheVariants.{Composition, Tensor, Parallel, Merge}
 use Rattle.bg_terms.specs.declared.shape.Shape.{Shape}
 use Rattle.bg_terms.specs.Expansion.{Meaning, with_values, node_term, meant, expand, meanings_after, meanings_of}
-use Rattle.bg_terms.specs.Expressions.{Expression, node, reference, names, identity_of, merger_of, one, nothing, brackets, deeper, closure, nesting, product}
+use Rattle.bg_terms.specs.Expressions.{Expression, node, reference, names, identity_of, merger_of, barren, empty, brackets, deeper, closure, nesting, binary}
 use Rattle.bg_terms.specs.Terms as terms
 use Rattle.bg_terms.specs.Terms.{Term}
-use Rattle.bg_terms.specs.Values.{Reached, plain_names, tallied, entered_at, entered, limited, within, single, wide, inner_meets, outer_meets, product_of, nested, closed, value}
+use Rattle.bg_terms.specs.Values.{Reached, plain_names, tallied, entered_at, entered, limited, within, single, wide, inner_meets, outer_meets, combined, nested, closed, value}
 use Rattle.bg_values.specs.declared.refusal.Refusal.{Refusal}
 use Rattle.bg_elab.proofs.Expected.{IsOther, IsExpected, good, bad, goes_on, whether, values_expected}
 
@@ -43,11 +44,11 @@ within_expected at big c = goes_on (limited_expected at big) (λ b. good)
 wide_expected : (at width : ℕ) (big : Big) → IsExpected (wide at width big)
 wide_expected at width big = whether (ltb 65536 width) (bad (λ e. omega arith)) good
 
-product_expected : (kind : Product) (at : ℕ) (f g : Big) → IsExpected (product_of kind at f g)
-product_expected Composition at f g = whether (faces_agree f g) good (bad (λ e. omega arith))
-product_expected Tensor at f g = whether (inner_meets f g || outer_meets f g) (bad (λ e. omega arith)) good
-product_expected Parallel at f g = whether (inner_meets f g) (bad (λ e. omega arith)) good
-product_expected Merge at f g = whether (inner_meets f g) (bad (λ e. omega arith)) good
+combined_expected : (kind : BinaryOperation) (at : ℕ) (f g : Big) → IsExpected (combined kind at f g)
+combined_expected Composition at f g = whether (faces_agree f g) good (bad (λ e. omega arith))
+combined_expected Tensor at f g = whether (inner_meets f g || outer_meets f g) (bad (λ e. omega arith)) good
+combined_expected Parallel at f g = whether (inner_meets f g) (bad (λ e. omega arith)) good
+combined_expected Merge at f g = whether (inner_meets f g) (bad (λ e. omega arith)) good
 
 nested_expected : (at : ℕ) (is_atom : Bool) (f g : Big) → IsExpected (nested at is_atom f g)
 nested_expected at is_atom f g =
@@ -63,13 +64,13 @@ IsExpectedTerm (terms.node at control words) = Unit {0}
 IsExpectedTerm (terms.names at words) = Unit {0}
 IsExpectedTerm (terms.identity_of at width words) = Unit {0}
 IsExpectedTerm (terms.merger_of at width) = Unit {0}
-IsExpectedTerm (terms.one at) = Unit {0}
-IsExpectedTerm (terms.nothing at) = Unit {0}
+IsExpectedTerm (terms.barren at) = Unit {0}
+IsExpectedTerm (terms.empty at) = Unit {0}
 IsExpectedTerm (terms.counted at t) = IsExpectedTerm t
 IsExpectedTerm (terms.deeper at t) = IsExpectedTerm t
 IsExpectedTerm (terms.closure at word t) = IsExpectedTerm t
 IsExpectedTerm (terms.nesting at is_atom t u) = IsExpectedTerm t × IsExpectedTerm u
-IsExpectedTerm (terms.product kind at t u) = IsExpectedTerm t × IsExpectedTerm u
+IsExpectedTerm (terms.binary kind at t u) = IsExpectedTerm t × IsExpectedTerm u
 
 pub term_expected : (t : Term) → IsExpectedTerm t → (depth : ℕ) (c : Reached) → IsExpected (value depth t c)
 term_expected (terms.refusal r) h depth c = bad h
@@ -82,16 +83,16 @@ term_expected (terms.identity_of at width words) h depth c =
     goes_on (tallied_expected at c) (λ t. goes_on (wide_expected at width (identity width (set_of name_cmp (plain_names words)))) (λ big. within_expected at big t))
 term_expected (terms.merger_of at width) h depth c =
     goes_on (tallied_expected at c) (λ t. goes_on (wide_expected at width (merger width)) (λ big. within_expected at big t))
-term_expected (terms.one at) h depth c = goes_on (tallied_expected at c) (λ t. within_expected at barren t)
-term_expected (terms.nothing at) h depth c = goes_on (tallied_expected at c) (λ t. within_expected at empty t)
+term_expected (terms.barren at) h depth c = goes_on (tallied_expected at c) (λ t. within_expected at elementary.barren t)
+term_expected (terms.empty at) h depth c = goes_on (tallied_expected at c) (λ t. within_expected at elementary.empty t)
 term_expected (terms.counted at t) h depth c = goes_on (tallied_expected at c) (λ r. term_expected t h depth r)
 term_expected (terms.deeper at t) h depth c = whether (ltb depth 1024) (term_expected t h (depth + 1) c) (bad (λ e. omega arith))
 term_expected (terms.closure at word t) h depth c =
     goes_on (term_expected t h depth (record c { edges = c.edges + 1 })) (λ v. within_expected at (closed c.edges (Plain word) v.0) v.1)
 term_expected (terms.nesting at is_atom t u) h depth c =
     goes_on (term_expected t h.0 depth c) (λ f. goes_on (term_expected u h.1 depth f.1) (λ g. goes_on (nested_expected at is_atom f.0 g.0) (λ big. within_expected at big g.1)))
-term_expected (terms.product kind at t u) h depth c =
-    goes_on (term_expected t h.0 depth c) (λ f. goes_on (term_expected u h.1 depth f.1) (λ g. goes_on (product_expected kind at f.0 g.0) (λ big. within_expected at big g.1)))
+term_expected (terms.binary kind at t u) h depth c =
+    goes_on (term_expected t h.0 depth c) (λ f. goes_on (term_expected u h.1 depth f.1) (λ g. goes_on (combined_expected kind at f.0 g.0) (λ big. within_expected at big g.1)))
 
 -- ---- expressions
 
@@ -124,13 +125,13 @@ expand_expected shapes meanings all env (reference at number args) =
 expand_expected shapes meanings all env (names at words) = tt
 expand_expected shapes meanings all env (identity_of at width words) = tt
 expand_expected shapes meanings all env (merger_of at width) = tt
-expand_expected shapes meanings all env (one at) = tt
-expand_expected shapes meanings all env (nothing at) = tt
+expand_expected shapes meanings all env (barren at) = tt
+expand_expected shapes meanings all env (empty at) = tt
 expand_expected shapes meanings all env (brackets at e) = expand_expected shapes meanings all env e
 expand_expected shapes meanings all env (deeper at e) = expand_expected shapes meanings all env e
 expand_expected shapes meanings all env (closure at word e) = expand_expected shapes meanings all env e
 expand_expected shapes meanings all env (nesting at is_atom e d) = (expand_expected shapes meanings all env e, expand_expected shapes meanings all env d)
-expand_expected shapes meanings all env (product kind at e d) = (expand_expected shapes meanings all env e, expand_expected shapes meanings all env d)
+expand_expected shapes meanings all env (binary kind at e d) = (expand_expected shapes meanings all env e, expand_expected shapes meanings all env d)
 
 one_more_meaning : (meanings : List Meaning) (meaning : Meaning) → AreExpectedMeanings meanings → IsExpectedMeaning meaning → AreExpectedMeanings (meanings ++ meaning ∷ [])
 one_more_meaning [] meaning all h = (h, tt)

@@ -15,6 +15,7 @@ use Rattle.bg_text.specs.declared.token.Token.{Token}
 use Rattle.bg_text.specs.Tokens.{AreTokens}
 use Rattle.bg_values.specs.Scopes.{ScopeParts, spelling}
 use Rattle.bg_elab.proofs.Expected.{IsExpected}
+use Rattle.bg_elab.proofs.ModelOrder.{in_order, elaborated_in_order}
 use Rattle.bg_elab.proofs.Fine.{forms, SymbolFine, Fine, none, a_token, a_part, model_fine}
 use Rattle.bg_elab.proofs.FineFormulas.{number_1, number_2, number_3, more_low_1, more_low_2, formals_1, formals_2, name_list_1, name_list_2, names_1, names_2, id_names_1, id_names_2, u_1, u_2, u_3, u_4, u_5, t1_1, t1_2, t1_3, x1_1, x1_2, x1_3, t_1, x_1, more_x_1, more_x_2, args_1, args_2, ref_1}
 use Rattle.bg_elab.proofs.FineExpressions.{id_tail_1, id_tail_2, id_tail_3, a_1, a_2, a_3, a_4, a_5, a_6, a_7, a_8, k_1, k_2, n1_1, n1_2, n_1, c_1, c1_1, c1_2, m_1, m1_1, m1_2, p_1, p1_1, p1_2, e_1, e1_1, e1_2}
@@ -112,5 +113,5 @@ text_expected bytes tokens tree cut is =
     base : ScopeParts
     base = text_of bytes tokens
 
-    of_model : Fine base (symbol (symbol_number symbols.Model) ∷ []) (model (λ text. elaborated text tree) ∷ []) → IsExpected (elaborated base tree)
-    of_model (a_part (model_fine h) none) = h []
+    of_model : Fine base (symbol (symbol_number symbols.Model) ∷ []) (model (λ text. in_order text tree) ∷ []) → IsExpected (elaborated base tree)
+    of_model (a_part (model_fine h) none) = subst IsExpected (sym (elaborated_in_order base tree)) (h [])

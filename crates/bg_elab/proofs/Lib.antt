@@ -3,6 +3,7 @@ mod BlockValued
 mod Classes
 mod Digits
 mod Elaborated
+mod ModelOrder
 mod Labels
 mod Numbers
 mod Picked

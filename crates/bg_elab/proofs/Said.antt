@@ -17,10 +17,9 @@ use Rattle.bg_statements.specs.Sound.{nothing}
 use Rattle.bg_statements.specs.Statements.{new_word, with_formal, arity_at, with_shape, with_expression, with_rule_expression}
 use Rattle.bg_statements.specs.Uses.{NameSpacesParts, spaces_of}
 use Rattle.bg_terms.specs.declared.shape.ControlEntry.{ControlEntry}
-use Rattle.bg_terms.specs.declared.shape.Product.{Product}
-use Rattle.bg_terms.specs.declared.shape.Product.TheVariants.{Composition, Tensor, Parallel, Merge}
-use Rattle.bg_terms.specs.Expressions.{Expression, node, reference, identity_of, merger_of, one}
-use Rattle.bg_terms.specs.Expressions.{nothing as barren}
+use Rattle.bg_terms.specs.declared.shape.BinaryOperation.{BinaryOperation}
+use Rattle.bg_terms.specs.declared.shape.BinaryOperation.TheVariants.{Composition, Tensor, Parallel, Merge}
+use Rattle.bg_terms.specs.Expressions.{Expression, node, reference, identity_of, merger_of, barren, empty}
 use Rattle.bg_terms.specs.Trees.{Visible, Form, Reading, Behind, Onward, word_at, words_at, names_atom, no_atom}
 use Rattle.bg_terms.specs.Trees.{linking_read, names_read, brackets_read, closure_read, deeper_read, nested_read, along, joined}
 use Rattle.bg_values.specs.declared.formula.Operator.TheVariants.{Add, Subtract, Multiply, Divide}
@@ -217,8 +216,8 @@ a_said (suc (suc zero)) (at_token bracket ∷ tokens list ∷ at_token end ∷ [
 a_said (suc (suc (suc zero))) (at_token at ∷ identity id_tail ∷ []) = form (at, id_tail at, no_atom)
 a_said (suc (suc (suc (suc zero)))) (at_token at ∷ at_token bracket ∷ at_token number ∷ at_token end ∷ []) =
     form (at, λ visible. width_by visible number >>= λ width. Ok (merger_of at width), no_atom)
-a_said (suc (suc (suc (suc (suc zero))))) (at_token at ∷ []) = form (at, λ visible. Ok (barren at), no_atom)
-a_said (suc (suc (suc (suc (suc (suc zero)))))) (at_token at ∷ []) = form (at, λ visible. Ok (one at), no_atom)
+a_said (suc (suc (suc (suc (suc zero))))) (at_token at ∷ []) = form (at, λ visible. Ok (empty at), no_atom)
+a_said (suc (suc (suc (suc (suc (suc zero)))))) (at_token at ∷ []) = form (at, λ visible. Ok (barren at), no_atom)
 a_said (suc (suc (suc (suc (suc (suc (suc zero))))))) (at_token bracket ∷ reading e ∷ at_token end ∷ []) = form (bracket, brackets_read bracket e, no_atom)
 a_said i parts = unread
 
@@ -236,12 +235,12 @@ abbrev n_said : Meaning
 n_said zero (form a ∷ behind b ∷ []) = reading (a.0, λ visible. a.1 visible >>= nested_read (a.2 visible) b visible)
 n_said i parts = unread
 
--- an expression and the products behind it
+-- an expression and the operations behind it
 abbrev row_said : Meaning
 row_said zero (reading first ∷ items more ∷ []) = reading (first.0, λ visible. first.1 visible >>= along more visible)
 row_said i parts = unread
 
-abbrev items_said : Product → Meaning
+abbrev items_said : BinaryOperation → Meaning
 items_said kind zero (at_token at ∷ reading right ∷ items more ∷ []) = items (joined kind at right ∷ more)
 items_said kind (suc zero) [] = items []
 items_said kind i parts = unread

@@ -30,10 +30,10 @@ use Rattle.bg_syntax.specs.declared.tree.expressions.SynA.TheOpen.SynN1-F.{SynN1
 use Rattle.bg_syntax.specs.Trees.{Growth, ItemGrowth}
 use Rattle.bg_syntax.specs.ExpressionsTrees.{args_tree, reference_tree, id_names_tree, id_tail_tree, a_tree, a_tree_layer, k_tree, k_tree_layer, n1_tree, n1_tree_layer, c_tree, c_tree_layer, c1_item_tree, c1_item_tree_layer, e_tree, e_tree_layer, e1_item_tree, e1_item_tree_layer, m_tree, m_tree_layer, m1_item_tree, m1_item_tree_layer, n_tree, n_tree_layer, p_tree, p_tree_layer, p1_item_tree, p1_item_tree_layer}
 use Rattle.bg_elab.specs.References.{tokens_inside}
-use Rattle.bg_terms.specs.declared.shape.Product.TheVariants.{Composition, Tensor, Parallel, Merge}
-use Rattle.bg_terms.specs.Trees.{Form, Reading, Behind, Onward, listed_tokens, id_names, id_read, joined}
+use Rattle.bg_terms.specs.Trees.{id_names, id_read}
 use Rattle.bg_terms.specs.Trees.{arguments as arguments_of}
-use Rattle.bg_terms.specs.Trees.{a_read, a_layer, k_read, k_layer, n1_read, n1_layer, c_read, c_layer, c1_item_read, c1_item_layer, e_read, e_layer, e1_item_read, e1_item_layer, m_read, m_layer, m1_item_read, m1_item_layer, n_read, n_layer, p_read, p_layer, p1_item_read, p1_item_layer}
+use Rattle.bg_terms.specs.Trees.{a_read, k_read, n1_read, c_read, c1_item_read, e_read, e1_item_read, m_read, m1_item_read, n_read, p_read, p1_item_read}
+use Rattle.bg_terms.proofs.Made.{a_made, k_made, n1_made, c_made, c1_item_made, e_made, e1_item_made, m_made, m1_item_made, n_made, p_made, p1_item_made}
 use Rattle.bg_values.specs.Operands.{operands_read}
 use Rattle.bg_elab.proofs.Said.{Said, Referred, tokens, arguments, referred, identity, form, reading, behind, items}
 use Rattle.bg_elab.proofs.SaidRows.{Says, SaysItem, says_none, says_token, says_part, says_opened, says_same, says_item, item_same, says_items}
@@ -175,15 +175,6 @@ a_bare =
     SynA SynK SynN1 SynC SynC1Item SynE SynE1Item SynM SynM1Item SynN SynP SynP1Item
     (λ w. w.0) (λ w. w.0) (λ w. w.0) (λ w. w.0) (λ w. w.0) (λ w. w.0) (λ w. w.0) (λ w. w.0) (λ w. w.0) (λ w. w.0) (λ w. w.0) (λ w. w.0)
 
-a_made : (y : Bare SynA-F) → a_read (roll-SynA y)
-    ≡ a_layer (map-SynA SynA SynK SynN1 SynC SynC1Item SynE SynE1Item SynM SynM1Item SynN SynP SynP1Item
-    Form Reading Behind Reading Onward Reading Onward Reading Onward Reading Reading Onward
-    a_read k_read n1_read c_read c1_item_read e_read e1_item_read m_read m1_item_read n_read p_read p1_item_read y)
-unfolding a_read k_read n1_read c_read c1_item_read e_read e1_item_read m_read m1_item_read n_read p_read p1_item_read
-a_made =
-    fold-roll-SynA Form Reading Behind Reading Onward Reading Onward Reading Onward Reading Reading Onward
-    a_layer k_layer n1_layer c_layer c1_item_layer e_layer e1_item_layer m_layer m1_item_layer n_layer p_layer p1_item_layer
-
 a_grows : (y : Bare SynA-F) → a_tree (roll-SynA y)
     ≡ a_tree_layer (map-SynA SynA SynK SynN1 SynC SynC1Item SynE SynE1Item SynM SynM1Item SynN SynP SynP1Item
     Growth Growth Growth Growth ItemGrowth Growth ItemGrowth Growth ItemGrowth Growth Growth ItemGrowth
@@ -198,15 +189,6 @@ k_bare =
     map-SynK WithA WithK WithN1 WithC WithC1Item WithE WithE1Item WithM WithM1Item WithN WithP WithP1Item
     SynA SynK SynN1 SynC SynC1Item SynE SynE1Item SynM SynM1Item SynN SynP SynP1Item
     (λ w. w.0) (λ w. w.0) (λ w. w.0) (λ w. w.0) (λ w. w.0) (λ w. w.0) (λ w. w.0) (λ w. w.0) (λ w. w.0) (λ w. w.0) (λ w. w.0) (λ w. w.0)
-
-k_made : (y : Bare SynK-F) → k_read (roll-SynK y)
-    ≡ k_layer (map-SynK SynA SynK SynN1 SynC SynC1Item SynE SynE1Item SynM SynM1Item SynN SynP SynP1Item
-    Form Reading Behind Reading Onward Reading Onward Reading Onward Reading Reading Onward
-    a_read k_read n1_read c_read c1_item_read e_read e1_item_read m_read m1_item_read n_read p_read p1_item_read y)
-unfolding a_read k_read n1_read c_read c1_item_read e_read e1_item_read m_read m1_item_read n_read p_read p1_item_read
-k_made =
-    fold-roll-SynK Form Reading Behind Reading Onward Reading Onward Reading Onward Reading Reading Onward
-    a_layer k_layer n1_layer c_layer c1_item_layer e_layer e1_item_layer m_layer m1_item_layer n_layer p_layer p1_item_layer
 
 k_grows : (y : Bare SynK-F) → k_tree (roll-SynK y)
     ≡ k_tree_layer (map-SynK SynA SynK SynN1 SynC SynC1Item SynE SynE1Item SynM SynM1Item SynN SynP SynP1Item
@@ -223,15 +205,6 @@ n1_bare =
     SynA SynK SynN1 SynC SynC1Item SynE SynE1Item SynM SynM1Item SynN SynP SynP1Item
     (λ w. w.0) (λ w. w.0) (λ w. w.0) (λ w. w.0) (λ w. w.0) (λ w. w.0) (λ w. w.0) (λ w. w.0) (λ w. w.0) (λ w. w.0) (λ w. w.0) (λ w. w.0)
 
-n1_made : (y : Bare SynN1-F) → n1_read (roll-SynN1 y)
-    ≡ n1_layer (map-SynN1 SynA SynK SynN1 SynC SynC1Item SynE SynE1Item SynM SynM1Item SynN SynP SynP1Item
-    Form Reading Behind Reading Onward Reading Onward Reading Onward Reading Reading Onward
-    a_read k_read n1_read c_read c1_item_read e_read e1_item_read m_read m1_item_read n_read p_read p1_item_read y)
-unfolding a_read k_read n1_read c_read c1_item_read e_read e1_item_read m_read m1_item_read n_read p_read p1_item_read
-n1_made =
-    fold-roll-SynN1 Form Reading Behind Reading Onward Reading Onward Reading Onward Reading Reading Onward
-    a_layer k_layer n1_layer c_layer c1_item_layer e_layer e1_item_layer m_layer m1_item_layer n_layer p_layer p1_item_layer
-
 n1_grows : (y : Bare SynN1-F) → n1_tree (roll-SynN1 y)
     ≡ n1_tree_layer (map-SynN1 SynA SynK SynN1 SynC SynC1Item SynE SynE1Item SynM SynM1Item SynN SynP SynP1Item
     Growth Growth Growth Growth ItemGrowth Growth ItemGrowth Growth ItemGrowth Growth Growth ItemGrowth
@@ -246,15 +219,6 @@ c_bare =
     map-SynC WithA WithK WithN1 WithC WithC1Item WithE WithE1Item WithM WithM1Item WithN WithP WithP1Item
     SynA SynK SynN1 SynC SynC1Item SynE SynE1Item SynM SynM1Item SynN SynP SynP1Item
     (λ w. w.0) (λ w. w.0) (λ w. w.0) (λ w. w.0) (λ w. w.0) (λ w. w.0) (λ w. w.0) (λ w. w.0) (λ w. w.0) (λ w. w.0) (λ w. w.0) (λ w. w.0)
-
-c_made : (y : Bare SynC-F) → c_read (roll-SynC y)
-    ≡ c_layer (map-SynC SynA SynK SynN1 SynC SynC1Item SynE SynE1Item SynM SynM1Item SynN SynP SynP1Item
-    Form Reading Behind Reading Onward Reading Onward Reading Onward Reading Reading Onward
-    a_read k_read n1_read c_read c1_item_read e_read e1_item_read m_read m1_item_read n_read p_read p1_item_read y)
-unfolding a_read k_read n1_read c_read c1_item_read e_read e1_item_read m_read m1_item_read n_read p_read p1_item_read
-c_made =
-    fold-roll-SynC Form Reading Behind Reading Onward Reading Onward Reading Onward Reading Reading Onward
-    a_layer k_layer n1_layer c_layer c1_item_layer e_layer e1_item_layer m_layer m1_item_layer n_layer p_layer p1_item_layer
 
 c_grows : (y : Bare SynC-F) → c_tree (roll-SynC y)
     ≡ c_tree_layer (map-SynC SynA SynK SynN1 SynC SynC1Item SynE SynE1Item SynM SynM1Item SynN SynP SynP1Item
@@ -271,15 +235,6 @@ c1_item_bare =
     SynA SynK SynN1 SynC SynC1Item SynE SynE1Item SynM SynM1Item SynN SynP SynP1Item
     (λ w. w.0) (λ w. w.0) (λ w. w.0) (λ w. w.0) (λ w. w.0) (λ w. w.0) (λ w. w.0) (λ w. w.0) (λ w. w.0) (λ w. w.0) (λ w. w.0) (λ w. w.0)
 
-c1_item_made : (y : Bare SynC1Item-F) → c1_item_read (roll-SynC1Item y)
-    ≡ c1_item_layer (map-SynC1Item SynA SynK SynN1 SynC SynC1Item SynE SynE1Item SynM SynM1Item SynN SynP SynP1Item
-    Form Reading Behind Reading Onward Reading Onward Reading Onward Reading Reading Onward
-    a_read k_read n1_read c_read c1_item_read e_read e1_item_read m_read m1_item_read n_read p_read p1_item_read y)
-unfolding a_read k_read n1_read c_read c1_item_read e_read e1_item_read m_read m1_item_read n_read p_read p1_item_read
-c1_item_made =
-    fold-roll-SynC1Item Form Reading Behind Reading Onward Reading Onward Reading Onward Reading Reading Onward
-    a_layer k_layer n1_layer c_layer c1_item_layer e_layer e1_item_layer m_layer m1_item_layer n_layer p_layer p1_item_layer
-
 c1_item_grows : (y : Bare SynC1Item-F) → c1_item_tree (roll-SynC1Item y)
     ≡ c1_item_tree_layer (map-SynC1Item SynA SynK SynN1 SynC SynC1Item SynE SynE1Item SynM SynM1Item SynN SynP SynP1Item
     Growth Growth Growth Growth ItemGrowth Growth ItemGrowth Growth ItemGrowth Growth Growth ItemGrowth
@@ -294,15 +249,6 @@ e_bare =
     map-SynE WithA WithK WithN1 WithC WithC1Item WithE WithE1Item WithM WithM1Item WithN WithP WithP1Item
     SynA SynK SynN1 SynC SynC1Item SynE SynE1Item SynM SynM1Item SynN SynP SynP1Item
     (λ w. w.0) (λ w. w.0) (λ w. w.0) (λ w. w.0) (λ w. w.0) (λ w. w.0) (λ w. w.0) (λ w. w.0) (λ w. w.0) (λ w. w.0) (λ w. w.0) (λ w. w.0)
-
-e_made : (y : Bare SynE-F) → e_read (roll-SynE y)
-    ≡ e_layer (map-SynE SynA SynK SynN1 SynC SynC1Item SynE SynE1Item SynM SynM1Item SynN SynP SynP1Item
-    Form Reading Behind Reading Onward Reading Onward Reading Onward Reading Reading Onward
-    a_read k_read n1_read c_read c1_item_read e_read e1_item_read m_read m1_item_read n_read p_read p1_item_read y)
-unfolding a_read k_read n1_read c_read c1_item_read e_read e1_item_read m_read m1_item_read n_read p_read p1_item_read
-e_made =
-    fold-roll-SynE Form Reading Behind Reading Onward Reading Onward Reading Onward Reading Reading Onward
-    a_layer k_layer n1_layer c_layer c1_item_layer e_layer e1_item_layer m_layer m1_item_layer n_layer p_layer p1_item_layer
 
 e_grows : (y : Bare SynE-F) → e_tree (roll-SynE y)
     ≡ e_tree_layer (map-SynE SynA SynK SynN1 SynC SynC1Item SynE SynE1Item SynM SynM1Item SynN SynP SynP1Item
@@ -319,15 +265,6 @@ e1_item_bare =
     SynA SynK SynN1 SynC SynC1Item SynE SynE1Item SynM SynM1Item SynN SynP SynP1Item
     (λ w. w.0) (λ w. w.0) (λ w. w.0) (λ w. w.0) (λ w. w.0) (λ w. w.0) (λ w. w.0) (λ w. w.0) (λ w. w.0) (λ w. w.0) (λ w. w.0) (λ w. w.0)
 
-e1_item_made : (y : Bare SynE1Item-F) → e1_item_read (roll-SynE1Item y)
-    ≡ e1_item_layer (map-SynE1Item SynA SynK SynN1 SynC SynC1Item SynE SynE1Item SynM SynM1Item SynN SynP SynP1Item
-    Form Reading Behind Reading Onward Reading Onward Reading Onward Reading Reading Onward
-    a_read k_read n1_read c_read c1_item_read e_read e1_item_read m_read m1_item_read n_read p_read p1_item_read y)
-unfolding a_read k_read n1_read c_read c1_item_read e_read e1_item_read m_read m1_item_read n_read p_read p1_item_read
-e1_item_made =
-    fold-roll-SynE1Item Form Reading Behind Reading Onward Reading Onward Reading Onward Reading Reading Onward
-    a_layer k_layer n1_layer c_layer c1_item_layer e_layer e1_item_layer m_layer m1_item_layer n_layer p_layer p1_item_layer
-
 e1_item_grows : (y : Bare SynE1Item-F) → e1_item_tree (roll-SynE1Item y)
     ≡ e1_item_tree_layer (map-SynE1Item SynA SynK SynN1 SynC SynC1Item SynE SynE1Item SynM SynM1Item SynN SynP SynP1Item
     Growth Growth Growth Growth ItemGrowth Growth ItemGrowth Growth ItemGrowth Growth Growth ItemGrowth
@@ -342,15 +279,6 @@ m_bare =
     map-SynM WithA WithK WithN1 WithC WithC1Item WithE WithE1Item WithM WithM1Item WithN WithP WithP1Item
     SynA SynK SynN1 SynC SynC1Item SynE SynE1Item SynM SynM1Item SynN SynP SynP1Item
     (λ w. w.0) (λ w. w.0) (λ w. w.0) (λ w. w.0) (λ w. w.0) (λ w. w.0) (λ w. w.0) (λ w. w.0) (λ w. w.0) (λ w. w.0) (λ w. w.0) (λ w. w.0)
-
-m_made : (y : Bare SynM-F) → m_read (roll-SynM y)
-    ≡ m_layer (map-SynM SynA SynK SynN1 SynC SynC1Item SynE SynE1Item SynM SynM1Item SynN SynP SynP1Item
-    Form Reading Behind Reading Onward Reading Onward Reading Onward Reading Reading Onward
-    a_read k_read n1_read c_read c1_item_read e_read e1_item_read m_read m1_item_read n_read p_read p1_item_read y)
-unfolding a_read k_read n1_read c_read c1_item_read e_read e1_item_read m_read m1_item_read n_read p_read p1_item_read
-m_made =
-    fold-roll-SynM Form Reading Behind Reading Onward Reading Onward Reading Onward Reading Reading Onward
-    a_layer k_layer n1_layer c_layer c1_item_layer e_layer e1_item_layer m_layer m1_item_layer n_layer p_layer p1_item_layer
 
 m_grows : (y : Bare SynM-F) → m_tree (roll-SynM y)
     ≡ m_tree_layer (map-SynM SynA SynK SynN1 SynC SynC1Item SynE SynE1Item SynM SynM1Item SynN SynP SynP1Item
@@ -367,15 +295,6 @@ m1_item_bare =
     SynA SynK SynN1 SynC SynC1Item SynE SynE1Item SynM SynM1Item SynN SynP SynP1Item
     (λ w. w.0) (λ w. w.0) (λ w. w.0) (λ w. w.0) (λ w. w.0) (λ w. w.0) (λ w. w.0) (λ w. w.0) (λ w. w.0) (λ w. w.0) (λ w. w.0) (λ w. w.0)
 
-m1_item_made : (y : Bare SynM1Item-F) → m1_item_read (roll-SynM1Item y)
-    ≡ m1_item_layer (map-SynM1Item SynA SynK SynN1 SynC SynC1Item SynE SynE1Item SynM SynM1Item SynN SynP SynP1Item
-    Form Reading Behind Reading Onward Reading Onward Reading Onward Reading Reading Onward
-    a_read k_read n1_read c_read c1_item_read e_read e1_item_read m_read m1_item_read n_read p_read p1_item_read y)
-unfolding a_read k_read n1_read c_read c1_item_read e_read e1_item_read m_read m1_item_read n_read p_read p1_item_read
-m1_item_made =
-    fold-roll-SynM1Item Form Reading Behind Reading Onward Reading Onward Reading Onward Reading Reading Onward
-    a_layer k_layer n1_layer c_layer c1_item_layer e_layer e1_item_layer m_layer m1_item_layer n_layer p_layer p1_item_layer
-
 m1_item_grows : (y : Bare SynM1Item-F) → m1_item_tree (roll-SynM1Item y)
     ≡ m1_item_tree_layer (map-SynM1Item SynA SynK SynN1 SynC SynC1Item SynE SynE1Item SynM SynM1Item SynN SynP SynP1Item
     Growth Growth Growth Growth ItemGrowth Growth ItemGrowth Growth ItemGrowth Growth Growth ItemGrowth
@@ -390,15 +309,6 @@ n_bare =
     map-SynN WithA WithK WithN1 WithC WithC1Item WithE WithE1Item WithM WithM1Item WithN WithP WithP1Item
     SynA SynK SynN1 SynC SynC1Item SynE SynE1Item SynM SynM1Item SynN SynP SynP1Item
     (λ w. w.0) (λ w. w.0) (λ w. w.0) (λ w. w.0) (λ w. w.0) (λ w. w.0) (λ w. w.0) (λ w. w.0) (λ w. w.0) (λ w. w.0) (λ w. w.0) (λ w. w.0)
-
-n_made : (y : Bare SynN-F) → n_read (roll-SynN y)
-    ≡ n_layer (map-SynN SynA SynK SynN1 SynC SynC1Item SynE SynE1Item SynM SynM1Item SynN SynP SynP1Item
-    Form Reading Behind Reading Onward Reading Onward Reading Onward Reading Reading Onward
-    a_read k_read n1_read c_read c1_item_read e_read e1_item_read m_read m1_item_read n_read p_read p1_item_read y)
-unfolding a_read k_read n1_read c_read c1_item_read e_read e1_item_read m_read m1_item_read n_read p_read p1_item_read
-n_made =
-    fold-roll-SynN Form Reading Behind Reading Onward Reading Onward Reading Onward Reading Reading Onward
-    a_layer k_layer n1_layer c_layer c1_item_layer e_layer e1_item_layer m_layer m1_item_layer n_layer p_layer p1_item_layer
 
 n_grows : (y : Bare SynN-F) → n_tree (roll-SynN y)
     ≡ n_tree_layer (map-SynN SynA SynK SynN1 SynC SynC1Item SynE SynE1Item SynM SynM1Item SynN SynP SynP1Item
@@ -415,15 +325,6 @@ p_bare =
     SynA SynK SynN1 SynC SynC1Item SynE SynE1Item SynM SynM1Item SynN SynP SynP1Item
     (λ w. w.0) (λ w. w.0) (λ w. w.0) (λ w. w.0) (λ w. w.0) (λ w. w.0) (λ w. w.0) (λ w. w.0) (λ w. w.0) (λ w. w.0) (λ w. w.0) (λ w. w.0)
 
-p_made : (y : Bare SynP-F) → p_read (roll-SynP y)
-    ≡ p_layer (map-SynP SynA SynK SynN1 SynC SynC1Item SynE SynE1Item SynM SynM1Item SynN SynP SynP1Item
-    Form Reading Behind Reading Onward Reading Onward Reading Onward Reading Reading Onward
-    a_read k_read n1_read c_read c1_item_read e_read e1_item_read m_read m1_item_read n_read p_read p1_item_read y)
-unfolding a_read k_read n1_read c_read c1_item_read e_read e1_item_read m_read m1_item_read n_read p_read p1_item_read
-p_made =
-    fold-roll-SynP Form Reading Behind Reading Onward Reading Onward Reading Onward Reading Reading Onward
-    a_layer k_layer n1_layer c_layer c1_item_layer e_layer e1_item_layer m_layer m1_item_layer n_layer p_layer p1_item_layer
-
 p_grows : (y : Bare SynP-F) → p_tree (roll-SynP y)
     ≡ p_tree_layer (map-SynP SynA SynK SynN1 SynC SynC1Item SynE SynE1Item SynM SynM1Item SynN SynP SynP1Item
     Growth Growth Growth Growth ItemGrowth Growth ItemGrowth Growth ItemGrowth Growth Growth ItemGrowth
@@ -438,15 +339,6 @@ p1_item_bare =
     map-SynP1Item WithA WithK WithN1 WithC WithC1Item WithE WithE1Item WithM WithM1Item WithN WithP WithP1Item
     SynA SynK SynN1 SynC SynC1Item SynE SynE1Item SynM SynM1Item SynN SynP SynP1Item
     (λ w. w.0) (λ w. w.0) (λ w. w.0) (λ w. w.0) (λ w. w.0) (λ w. w.0) (λ w. w.0) (λ w. w.0) (λ w. w.0) (λ w. w.0) (λ w. w.0) (λ w. w.0)
-
-p1_item_made : (y : Bare SynP1Item-F) → p1_item_read (roll-SynP1Item y)
-    ≡ p1_item_layer (map-SynP1Item SynA SynK SynN1 SynC SynC1Item SynE SynE1Item SynM SynM1Item SynN SynP SynP1Item
-    Form Reading Behind Reading Onward Reading Onward Reading Onward Reading Reading Onward
-    a_read k_read n1_read c_read c1_item_read e_read e1_item_read m_read m1_item_read n_read p_read p1_item_read y)
-unfolding a_read k_read n1_read c_read c1_item_read e_read e1_item_read m_read m1_item_read n_read p_read p1_item_read
-p1_item_made =
-    fold-roll-SynP1Item Form Reading Behind Reading Onward Reading Onward Reading Onward Reading Reading Onward
-    a_layer k_layer n1_layer c_layer c1_item_layer e_layer e1_item_layer m_layer m1_item_layer n_layer p_layer p1_item_layer
 
 p1_item_grows : (y : Bare SynP1Item-F) → p1_item_tree (roll-SynP1Item y)
     ≡ p1_item_tree_layer (map-SynP1Item SynA SynK SynN1 SynC SynC1Item SynE SynE1Item SynM SynM1Item SynN SynP SynP1Item

@@ -24,7 +24,8 @@ use Rattle.bg_syntax.proofs.OneTree.{tokens_tell}
 use Rattle.bg_text.specs.declared.token.Token.{Token}
 use Rattle.bg_grammar.specs.Trees.{no_tree}
 use Rattle.bg_elab.specs.Blocks.{trees_of_refs, with_listed, with_pred, with_class, trees_of_classes, preds_read}
-use Rattle.bg_elab.specs.Systems.{block_elaborated, elaborated}
+use Rattle.bg_elab.specs.Systems.{elaborated}
+use Rattle.bg_elab.proofs.ModelOrder.{block_in_order, in_order, elaborated_in_order}
 use Rattle.bg_statements.specs.InTurn.{in_turn}
 use Rattle.bg_statements.specs.Statements.{with_statements, with_parameters}
 use Rattle.bg_values.specs.Scopes.{ScopeParts}
@@ -111,7 +112,7 @@ preds_says (preds_ways.Way1 part1 part2 part3 part4 part5 part6) =
     (says_token kinds.CloseBrace part5 (says_token kinds.Semicolon part6 says_none)))))) refl
 preds_says (preds_ways.Way2) = says_opened symbols.Preds 1 says_none refl
 
-pub block_says : (x : SynBlock) → Says (block (λ text d. block_elaborated text x d)) (block_tree x)
+pub block_says : (x : SynBlock) → Says (block (λ text d. block_in_order text x d)) (block_tree x)
 unfolding block_tree
 block_says (block_ways.Way1 part1 part2 part3 part4 part5 part6 part7 part8 part9 part10 part11 part12 part13 part14) =
     says_opened symbols.Block 0 (says_token kinds.KwBegin part1 (says_token kinds.KwBrs part2 (says_part (params_says part3.items) (says_token kinds.KwInit
@@ -120,7 +121,7 @@ block_says (block_ways.Way1 part1 part2 part3 part4 part5 part6 part7 part8 part
     part13) (says_token kinds.KwEnd part14 says_none)))))))))))))) refl
 block_says (block_ways.Way2) = says_opened symbols.Block 1 says_none refl
 
-pub model_says : (x : SynModel) → Says (model (λ text. elaborated text x)) (model_tree x)
+pub model_says : (x : SynModel) → Says (model (λ text. in_order text x)) (model_tree x)
 unfolding model_tree
 model_says x = says_opened symbols.Model 0 (says_part (stmts_says x.part1.items) (says_part (block_says x.part2) says_none)) refl
 
@@ -133,7 +134,9 @@ same_models f g text e = ap (λ f. f text) (same f g e)
 -- two typed trees that are the same derivation tree come to the same
 pub same_trees : (text : ScopeParts) (one other : SynModel) → tree_of one ≡ tree_of other → elaborated text one ≡ elaborated text other
 same_trees text one other e =
-    same_models (λ t. elaborated t one) (λ t. elaborated t other) text (sym ((model_says one).says no_tree) ∙ ap said e ∙ (model_says other).says no_tree)
+    elaborated_in_order text one
+    ∙ same_models (λ t. in_order t one) (λ t. in_order t other) text (sym ((model_says one).says no_tree) ∙ ap said e ∙ (model_says other).says no_tree)
+    ∙ sym (elaborated_in_order text other)
 
 pub same_tokens : (text : ScopeParts) (tokens : List Token) (one other : SynModel) → IsTreeOf tokens one → IsTreeOf tokens other
     → elaborated text one ≡ elaborated text other

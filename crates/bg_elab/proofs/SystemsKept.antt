@@ -6,10 +6,10 @@ use Rattle.std.proofs.lemmas.List.{length-append}
 use Rattle.bg_base.specs.declared.labels.Value.{Value}
 use Rattle.bg_base.specs.declared.signature.Control.{Control}
 use Rattle.bg_base.specs.Bigraph.{IsValidUnder}
-use Rattle.bg_elab.specs.Blocks.{Block, Listed, refs_of_class, trees_of_classes, with_listed, with_class, classes_read, preds_read, block_read}
+use Rattle.bg_elab.specs.Blocks.{AreBelow, Block, Listed, refs_of_class, trees_of_classes, with_listed, with_class, classes_read, preds_read, block_read}
 use Rattle.bg_elab.specs.Choices.{choices}
 use Rattle.bg_elab.specs.References.{Reference, reference_read}
-use Rattle.bg_elab.specs.Systems.{room_at, label_with, with_rule, with_rules, with_predicate, with_predicates, init_valued, rules_valued, predicates_valued, block_valued, block_elaborated, elaborated}
+use Rattle.bg_elab.specs.Systems.{room_at, label_with, with_rule, with_rules, with_predicate, with_predicates, init_valued, rules_valued, predicates_valued, block_valued, block_behind, system_behind, no_system, elaborated_behind, elaborated}
 use Rattle.bg_lists.specs.Lists.{Mem}
 use Rattle.bg_lists.proofs.Words.{All-from_members}
 use Rattle.bg_rules.specs.declared.predicate.Predicate.{Predicate}
@@ -18,11 +18,9 @@ use Rattle.bg_rules.specs.Solid.{IsPattern}
 use Rattle.bg_rules.specs.Systems.{SystemParts, IsRuleUnder, IsSystem}
 use Rattle.bg_statements.specs.Defined.{Defined}
 use Rattle.bg_statements.specs.InTurn.{in_turn}
-use Rattle.bg_statements.specs.Sound.{IsSound, nothing}
-use Rattle.bg_statements.specs.Statements.{with_parameter, with_parameters, with_statements}
-use Rattle.bg_statements.specs.Uses.{NameSpacesParts, spaces_of, host_used, predicate_used, rule_used}
-use Rattle.bg_statements.proofs.RulesSound.{statements_sound}
-use Rattle.bg_statements.proofs.Sounds.{nothing_sound, parameter_sound}
+use Rattle.bg_statements.specs.Sound.{IsSound}
+use Rattle.bg_statements.specs.Uses.{NameSpacesParts, defined_by, spaces_of, host_used, predicate_used, rule_used}
+use Rattle.bg_statements.proofs.RulesSound.{defined_sound}
 use Rattle.bg_statements.proofs.TestsPassed.{one_more}
 use Rattle.bg_statements.proofs.Turns.{turns_keep}
 use Rattle.bg_statements.proofs.UsesAre.{host_used_host, predicate_used_is}
@@ -35,19 +33,18 @@ use Rattle.bg_syntax.specs.declared.tree.models.SynClasses.{SynClasses}
 use Rattle.bg_syntax.specs.declared.tree.models.SynModel.{SynModel}
 use Rattle.bg_syntax.specs.declared.tree.models.SynParamsItem.{SynParamsItem}
 use Rattle.bg_syntax.specs.declared.tree.models.SynPreds.{SynPreds}
+use Rattle.bg_syntax.specs.declared.tree.models.SynStmtsItem.{SynStmtsItem}
 use Rattle.bg_terms.proofs.Numbered.{bound}
 use Rattle.bg_values.proofs.Bindings.{ok_same}
+use Rattle.bg_values.specs.declared.refusal.Cause.TheVariants.{NoBlock}
 use Rattle.bg_values.specs.declared.refusal.LimitWord.{LimitWord}
 use Rattle.bg_values.specs.declared.refusal.LimitWord.TheVariants.{Rules, Preds}
 use Rattle.bg_values.specs.declared.refusal.Refusal.{Refusal}
 use Rattle.bg_values.specs.Operands.{values}
+use Rattle.bg_values.specs.Outcome.{refused}
 use Rattle.bg_values.specs.Scopes.{ScopeParts}
 
 -- ---- classes
-
--- each class is below that number
-abbrev AreBelow : ℕ → List Listed → Type 0
-AreBelow count rules = (l : Listed) → Mem l rules → l.class < count
 
 one_listed : (text : ScopeParts) (spaces : NameSpacesParts) (class : ℕ) (tree : SynRef) (done more : List Listed) → AreBelow (class + 1) done
     → with_listed text spaces class tree done ≡ Ok more → AreBelow (class + 1) more
@@ -193,22 +190,29 @@ module _ (d : Defined) (sound : IsSound d) where
 
 -- ---- the model
 
-pub parameters_sound : (text : ScopeParts) (items : List SynParamsItem) (before after : Defined) → IsSound before
-    → with_parameters text items before ≡ Ok after → IsSound after
-parameters_sound text items before after sound is =
-    turns_keep (λ (item : SynParamsItem). with_parameter text item.part1) IsSound items (λ item m s t. parameter_sound text item.part1 s t) before after sound is
-
--- the block behind sound definitions comes to a system
-pub block_elaborated_is_system : (text : ScopeParts) (tree : SynBlock) (d : Defined) (parts : SystemParts) → IsSound d
-    → block_elaborated text tree d ≡ Ok parts → IsSystem parts
-block_elaborated_is_system text (blocks.Way1 begin brs params word init end rules equals bracket classes close end2 preds last) d parts sound is =
-    let a = bound (with_parameters text params.items d) _ parts is in
+-- the block behind statements comes to a system
+pub behind_is_system : (text : ScopeParts) (statements : List SynStmtsItem) (params : List SynParamsItem) (init : SynRef) (classes : SynClasses) (preds : SynPreds)
+    (parts : SystemParts) → system_behind text statements params init classes preds ≡ Ok parts → IsSystem parts
+unfolding system_behind
+behind_is_system text statements params init classes preds parts is =
+    let a = bound (defined_by text statements params) (block_behind text init classes preds) parts is in
     let b = bound (block_read text init classes preds (spaces_of a.found)) (block_valued a.found) parts a.goes_on in
-    block_is_system a.found (parameters_sound text params.items d a.found sound a.is) b.found (block_below text init classes preds (spaces_of a.found) b.found b.is) parts b.goes_on
-block_elaborated_is_system text blocks.Way2 d parts sound is = absurd cc
+    block_is_system a.found (defined_sound text statements params a.found a.is) b.found (block_below text init classes preds (spaces_of a.found) b.found b.is)
+    parts b.goes_on
+
+-- statements alone do not
+none_is_system : (text : ScopeParts) (statements : List SynStmtsItem) (parts : SystemParts) → no_system text statements ≡ Ok parts → IsSystem parts
+unfolding no_system
+none_is_system text statements parts is =
+    let a = bound (defined_by text statements []) (λ d. refused {A = SystemParts} NoBlock (length text.tokens)) parts is in
+    let none : refused {A = SystemParts} NoBlock (length text.tokens) ≡ Ok parts = a.goes_on in
+    absurd cc
 
 -- each model that is not refused comes to a system
 pub elaborated_is_system : (text : ScopeParts) (tree : SynModel) (parts : SystemParts) → elaborated text tree ≡ Ok parts → IsSystem parts
-elaborated_is_system text tree parts is =
-    let a = bound (with_statements text tree.part1.items nothing) (block_elaborated text tree.part2) parts is in
-    block_elaborated_is_system text tree.part2 a.found parts (statements_sound text tree.part1.items nothing a.found nothing_sound a.is) a.goes_on
+elaborated_is_system text tree parts = by tree.part2
+  where
+    by : (block : SynBlock) → elaborated_behind text tree.part1.items block ≡ Ok parts → IsSystem parts
+    by (blocks.Way1 begin brs params word init end rules equals bracket classes close end2 preds last) is =
+        behind_is_system text tree.part1.items params.items init classes preds parts is
+    by blocks.Way2 is = none_is_system text tree.part1.items parts is

@@ -1,6 +1,7 @@
 -- The block of a model, with its names looked up in the order of the text.
-use Rattle.std.specs.Prelude.{ℕ, ◌+◌, List, [], ◌∷◌, ◌++◌, map, Result, Ok}
+use Rattle.std.specs.Prelude.{ℕ, ◌+◌, ◌<◌, List, [], ◌∷◌, ◌++◌, map, Result, Ok}
 use Rattle.bg_elab.specs.References.{Reference, reference_read}
+use Rattle.bg_lists.specs.Lists.{Mem}
 use Rattle.bg_statements.specs.InTurn.{in_turn}
 use Rattle.bg_statements.specs.Uses.{NameSpacesParts}
 use Rattle.bg_syntax.specs.declared.tree.expressions.SynRef.{SynRef}
@@ -30,6 +31,10 @@ pub record Block : Type 0 where
   pub rules : List Listed
   pub classes : ℕ
   pub preds : List Reference
+
+-- each class is below that number
+abbrev pub AreBelow : ℕ → List Listed → Type 0
+AreBelow count rules = (l : Listed) → Mem l rules → l.class < count
 
 -- ---- the trees in the order of the text
 

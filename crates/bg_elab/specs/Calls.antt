@@ -3,7 +3,7 @@ use Rattle.std.specs.Prelude.{◌≡◌, ℕ, List, [], map, Result, Ok}
 use Rattle.bg_elab.specs.declared.blocks.Block.{Block as BlockCode}
 use Rattle.bg_elab.specs.declared.blocks.Listed.{Listed as ListedCode}
 use Rattle.bg_elab.specs.declared.references.Reference.{Reference as ReferenceCode}
-use Rattle.bg_elab.specs.Blocks.{Block, Listed}
+use Rattle.bg_elab.specs.Blocks.{AreBelow, Block, Listed}
 use Rattle.bg_elab.specs.References.{Reference}
 use Rattle.bg_values.specs.declared.refusal.Refusal.{Refusal}
 use Rattle.bg_values.specs.declared.refusal.Stop.{Stop}
@@ -31,6 +31,12 @@ block_code b =
       classes = b.classes;
       preds = map reference_code b.preds;
     }
+
+-- it is the code of a block, each of whose classes is below their number
+pub record IsBlockCode (code : BlockCode) : Type 0 where
+  pub block : Block
+  pub is : code ≡ block_code block
+  pub below : AreBelow block.classes block.rules
 
 -- the code of the references of all classes, and the number of classes
 abbrev pub classes_code : List Listed × ℕ → List ListedCode × ℕ

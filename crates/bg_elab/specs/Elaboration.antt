@@ -4,31 +4,17 @@ use Rattle.bg_elab.specs.declared.fault.Detail.{Detail}
 use Rattle.bg_elab.specs.declared.fault.Detail.TheVariants as details
 use Rattle.bg_elab.specs.declared.fault.ModelFault.{ModelFault}
 use Rattle.bg_elab.specs.declared.fault.ModelFault.TheVariants as faults
-use Rattle.bg_elab.specs.declared.systems.Parts.{Parts}
-use Rattle.bg_elab.specs.Blocks.{block_read}
-use Rattle.bg_elab.specs.Systems.{block_valued, elaborated}
+use Rattle.bg_elab.specs.Systems.{elaborated}
 use Rattle.bg_rules.specs.Systems.{SystemParts}
-use Rattle.bg_statements.specs.Defined.{Defined}
-use Rattle.bg_statements.specs.Uses.{defined_by, spaces_of}
-use Rattle.bg_syntax.specs.declared.tree.expressions.SynRef.{SynRef}
-use Rattle.bg_syntax.specs.declared.tree.models.SynClasses.{SynClasses}
 use Rattle.bg_syntax.specs.declared.tree.models.SynModel.{SynModel}
-use Rattle.bg_syntax.specs.declared.tree.models.SynParamsItem.{SynParamsItem}
-use Rattle.bg_syntax.specs.declared.tree.models.SynPreds.{SynPreds}
-use Rattle.bg_syntax.specs.declared.tree.models.SynStmtsItem.{SynStmtsItem}
 use Rattle.bg_text.specs.declared.token.Token.{Token}
 use Rattle.bg_values.specs.declared.refusal.Cause.{Cause}
-use Rattle.bg_values.specs.declared.refusal.Cause.TheVariants.{NoBlock, NotSolid, TooLarge}
+use Rattle.bg_values.specs.declared.refusal.Cause.TheVariants.{NotSolid, TooLarge}
 use Rattle.bg_values.specs.declared.refusal.Refusal.{Refusal}
 use Rattle.bg_values.specs.declared.refusal.Stop.{Stop}
 use Rattle.bg_values.specs.declared.refusal.Stop.TheVariants as stops
 use Rattle.bg_values.specs.Codes.{code}
-use Rattle.bg_values.specs.Outcome.{◌>>=◌, Stops, refused}
 use Rattle.bg_values.specs.Scopes.{ScopeParts}
-
--- the system of these parts
-abbrev pub system_parts : Parts → SystemParts
-system_parts p = record { signature = p.signature; init = p.init; rules = p.rules; classes = p.classes; preds = p.preds }
 
 -- what a refusal says beside its number
 abbrev pub detail_of : Cause → Detail
@@ -65,20 +51,3 @@ IsRefusal text faults.OutOfMemory wanted = Unit {0}
 abbrev pub Elaborates : Result SystemParts ModelFault → List ℕ → List Token → SynModel → Type 0
 Elaborates (Ok system) bytes tokens tree = elaborated (text_of bytes tokens) tree ≡ Ok system
 Elaborates (Err fault) bytes tokens tree = IsRefusal (text_of bytes tokens) fault (elaborated (text_of bytes tokens) tree)
-
--- a call gives the parts of the wanted system, or the wanted refusal, or found no memory
-abbrev pub GivesParts : Result Parts Stop → Result SystemParts Refusal → Type 0
-GivesParts (Ok parts) wanted = wanted ≡ Ok (system_parts parts)
-GivesParts (Err stop) wanted = Stops stop wanted
-
--- the block behind the definitions
-abbrev pub block_behind : ScopeParts → SynRef → SynClasses → SynPreds → Defined → Result SystemParts Refusal
-block_behind text init classes preds d = block_read text init classes preds (spaces_of d) >>= block_valued d
-
--- the block behind these statements and parameters
-unfoldable pub system_behind : ScopeParts → List SynStmtsItem → List SynParamsItem → SynRef → SynClasses → SynPreds → Result SystemParts Refusal
-system_behind text statements params init classes preds = defined_by text statements params >>= block_behind text init classes preds
-
--- these statements without a block
-unfoldable pub no_system : ScopeParts → List SynStmtsItem → Result SystemParts Refusal
-no_system text statements = defined_by text statements [] >>= λ d. refused NoBlock (length text.tokens)

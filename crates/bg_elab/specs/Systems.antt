@@ -12,12 +12,15 @@ use Rattle.bg_rules.specs.Rules.{RuleParts}
 use Rattle.bg_rules.specs.Systems.{SystemParts}
 use Rattle.bg_statements.specs.Defined.{Defined}
 use Rattle.bg_statements.specs.InTurn.{in_turn}
-use Rattle.bg_statements.specs.Sound.{nothing}
-use Rattle.bg_statements.specs.Statements.{with_parameters, with_statements}
-use Rattle.bg_statements.specs.Uses.{host_used, predicate_used, rule_used, spaces_of}
+use Rattle.bg_statements.specs.Uses.{defined_by, host_used, predicate_used, rule_used, spaces_of}
+use Rattle.bg_syntax.specs.declared.tree.expressions.SynRef.{SynRef}
 use Rattle.bg_syntax.specs.declared.tree.models.SynBlock.{SynBlock}
 use Rattle.bg_syntax.specs.declared.tree.models.SynBlock.TheVariants as blocks
+use Rattle.bg_syntax.specs.declared.tree.models.SynClasses.{SynClasses}
 use Rattle.bg_syntax.specs.declared.tree.models.SynModel.{SynModel}
+use Rattle.bg_syntax.specs.declared.tree.models.SynParamsItem.{SynParamsItem}
+use Rattle.bg_syntax.specs.declared.tree.models.SynPreds.{SynPreds}
+use Rattle.bg_syntax.specs.declared.tree.models.SynStmtsItem.{SynStmtsItem}
 use Rattle.bg_values.specs.declared.refusal.Refusal.{Refusal}
 use Rattle.bg_values.specs.declared.refusal.LimitWord.{LimitWord}
 use Rattle.bg_values.specs.declared.refusal.LimitWord.TheVariants.{Rules, Preds}
@@ -77,13 +80,26 @@ block_valued d block =
     predicates_valued d block.preds rules.1 >>= λ preds.
     Ok (record { signature = preds.1; init = host.0; rules = rules.0; classes = block.classes; preds = preds.0 })
 
--- the block behind these definitions: its parameters, then its names, then its values; a missing block is refused at the end
--- of input
-abbrev pub block_elaborated : ScopeParts → SynBlock → Defined → Result SystemParts Refusal
-block_elaborated text (blocks.Way1 begin brs params word init end rules equals bracket classes close end2 preds last) d =
-    with_parameters text params.items d >>= λ e. block_read text init classes preds (spaces_of e) >>= block_valued e
-block_elaborated text blocks.Way2 d = refused NoBlock (length text.tokens)
+-- ---- the model
+
+-- the block behind these definitions: its names are looked up, then its values are found
+abbrev pub block_behind : ScopeParts → SynRef → SynClasses → SynPreds → Defined → Result SystemParts Refusal
+block_behind text init classes preds d = block_read text init classes preds (spaces_of d) >>= block_valued d
+
+-- the block behind these statements and its own parameters
+unfoldable pub system_behind : ScopeParts → List SynStmtsItem → List SynParamsItem → SynRef → SynClasses → SynPreds → Result SystemParts Refusal
+system_behind text statements params init classes preds = defined_by text statements params >>= block_behind text init classes preds
+
+-- these statements, behind which no block stands: that is refused at the end of input
+unfoldable pub no_system : ScopeParts → List SynStmtsItem → Result SystemParts Refusal
+no_system text statements = defined_by text statements [] >>= λ d. refused NoBlock (length text.tokens)
+
+-- what stands behind these statements
+abbrev pub elaborated_behind : ScopeParts → List SynStmtsItem → SynBlock → Result SystemParts Refusal
+elaborated_behind text statements (blocks.Way1 begin brs params word init end rules equals bracket classes close end2 preds last) =
+    system_behind text statements params.items init classes preds
+elaborated_behind text statements blocks.Way2 = no_system text statements
 
 -- the model: its statements in the order of the text, then its block
 abbrev pub elaborated : ScopeParts → SynModel → Result SystemParts Refusal
-elaborated text tree = with_statements text tree.part1.items nothing >>= block_elaborated text tree.part2
+elaborated text tree = elaborated_behind text tree.part1.items tree.part2

@@ -1,5 +1,5 @@
 //! The block of a model, with its names looked up.
-ghost use Rattle.std.specs.Prelude.{◌≡◌, ◌+◌, IfOk};
+ghost use Rattle.std.specs.Prelude.{◌≡◌};
 ghost use Rattle.bg_elab.specs.Blocks as definition;
 ghost use Rattle.bg_elab.specs.Calls.{Adds, AddsClasses, block_code, classes_code, listed_codes, reference_codes};
 ghost use Rattle.bg_statements.specs.Calls.{ReadsAs};
@@ -8,7 +8,7 @@ ghost use Rattle.bg_syntax.specs.declared.tree.models.SynMoreClItem.{SynMoreClIt
 ghost use Rattle.bg_syntax.specs.declared.tree.models.SynMoreRefItem.{SynMoreRefItem as MoreReferences};
 
 use crate::references::{Reference, reference_of};
-use bg_lists::{Mem, OutOfMemory, Rows};
+use bg_lists::Rows;
 use bg_statements::NameSpaces;
 use bg_syntax::tree::expressions::SynRef;
 use bg_syntax::tree::models::{
@@ -111,7 +111,7 @@ fn add_classes(
     Ok(())
 }
 
-/// Adds the references of one class, and counts it.
+/// Adds the references of one class, and counts it, where 32 bits can.
 fn add_class(
     alloc: Global,
     text: &Scope,
@@ -123,7 +123,9 @@ fn add_class(
     ensures { AddsClasses result listed.old.items class.old listed.new.items class.new (definition.with_class text.now spaces.now tree.now) }
 {
     add_listed(alloc, text, spaces, *class, refs_of(tree), listed)?;
-    let next = one_more(*class)?;
+    let Some(next) = class.checked_add(1) else {
+        return Err(Stop::OutOfMemory);
+    };
     *class = next;
     Ok(())
 }
@@ -135,16 +137,6 @@ fn refs_of(tree: &SynClass) -> &SynRefs
     match tree {
         SynClass::Way1(_, refs, _) => refs,
         SynClass::Way2(_, refs, _) => refs,
-    }
-}
-
-/// One more, where 32 bits can count it.
-fn one_more(count: u32) -> Mem<u32>
-    ensures { IfOk result (λ more. more ≡ count + 1) }
-{
-    match count.checked_add(1) {
-        Some(more) => Ok(more),
-        None => Err(OutOfMemory),
     }
 }
 

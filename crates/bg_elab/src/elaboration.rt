@@ -1,13 +1,12 @@
 //! From a model to the system that it describes.
 ghost use Rattle.std.specs.Prelude.{◌≡◌, ◌<◌, length};
 ghost use Rattle.bg_elab.specs.Elaboration as definition;
-ghost use Rattle.bg_elab.specs.Systems.{elaborated};
-ghost use Rattle.bg_rules.specs.Systems.{IsSystem};
+ghost use Rattle.bg_elab.specs.Systems.{elaborated, no_system, system_behind};
 ghost use Rattle.bg_values.specs.Outcome.{Gives};
 
 use crate::blocks::block_of;
 use crate::fault::{ModelFault, fault_of};
-use crate::systems::{Parts, parts_of};
+use crate::systems::system_of_block;
 use bg_rules::System;
 use bg_statements::Uses;
 use bg_syntax::tree::expressions::SynRef;
@@ -79,18 +78,17 @@ fn system_behind(
     classes: &SynClasses,
     preds: &SynPreds,
 ) -> Result<System, Stop>
-    ensures { Gives result (definition.system_behind text.now statements.now params.now init.now classes.now preds.now) }
+    ensures { Gives result (system_behind text.now statements.now params.now init.now classes.now preds.now) }
 {
     let uses = Uses::of(alloc, text, statements, params)?;
     let block = block_of(alloc, text, &uses.spaces(), init, classes, preds)?;
-    let parts = parts_of(alloc, &uses, block)?;
-    Ok(system(parts))
+    system_of_block(alloc, &uses, block)
 }
 
 /// The refusal of a model without a block: of a statement, or at the end of input.
 fn no_system(alloc: Global, text: &Scope, statements: &[SynStmtsItem]) -> Result<System, Stop>
     requires { length text.now.tokens < 4294967295 }
-    ensures { Gives result (definition.no_system text.now statements.now) }
+    ensures { Gives result (no_system text.now statements.now) }
 {
     let _uses = Uses::of(alloc, text, statements, &[])?;
     Err(Stop::refuse(Cause::NoBlock, end_of(text)))
@@ -102,19 +100,4 @@ fn end_of(text: &Scope) -> u32
     ensures { result ≡ length text.now.tokens }
 {
     text.tokens.len() as u32
-}
-
-/// The system of these parts.
-fn system(parts: Parts) -> System
-    requires { IsSystem (definition.system_parts parts) }
-    ensures { result ≡ definition.system_parts parts }
-{
-    let Parts {
-        signature,
-        init,
-        rules,
-        classes,
-        preds,
-    } = parts;
-    System::new(signature, init, rules, classes, preds)
 }

@@ -1,51 +1,35 @@
 //! What the block of a model comes to.
 ghost use Rattle.std.specs.Prelude.{◌≡◌, ◌+◌, ◌<◌, ◌≤◌, List, length, IfOk};
 ghost use Rattle.bg_elab.specs.Blocks.{Block as BlockValue, Listed as ListedValue};
-ghost use Rattle.bg_elab.specs.Calls.{block_code, listed_code, listed_codes, reference_code, reference_codes};
+ghost use Rattle.bg_elab.specs.Calls.{IsBlockCode, block_code, listed_code, listed_codes, reference_code, reference_codes};
 ghost use Rattle.bg_elab.specs.References.{Reference as ReferenceValue};
-ghost use Rattle.bg_elab.specs.Elaboration.{GivesParts};
 ghost use Rattle.bg_elab.specs.Systems as definition;
-ghost use Rattle.bg_statements.specs.Calls.{GivesAnd, kept};
+ghost use Rattle.bg_statements.specs.Calls.{kept};
 ghost use Rattle.bg_statements.specs.Defined.{Defined};
 ghost use Rattle.bg_statements.specs.InTurn.{in_turn};
-ghost use Rattle.bg_values.specs.Outcome.{Gives, Goes};
+ghost use Rattle.bg_values.specs.Outcome.{Gives, GivesAnd, Goes};
 
 use crate::blocks::{Block, Listed};
 use crate::choice;
 use crate::references::Reference;
 use bg_base::{Signature, Value};
 use bg_lists::{Duplicate, Rows};
-use bg_rules::{Host, Predicate, Rule};
+use bg_rules::{Host, Predicate, Rule, System};
 use bg_statements::Uses;
-use bg_values::{Cause, LimitWord, Stop};
+use bg_values::{Cause, LimitWord, Refusal, Stop};
 use std::alloc::Global;
 
-/// The parts of a system.
-#[derive(Drop)]
-pub(crate) struct Parts {
-    pub(crate) signature: Signature,
-    pub(crate) init: Host,
-    pub(crate) rules: Rows<Rule>,
-    pub(crate) classes: u32,
-    pub(crate) preds: Rows<Predicate>,
-}
-
-/// The parts of the system that the block is, or its first refusal: `init`, the rules and the predicates are evaluated
-/// in this order. Costs what the evaluation of each use costs.
-pub(crate) fn parts_of(alloc: Global, uses: &Uses, block: Block) -> Result<Parts, Stop>
-    ensures { (d : Defined) (b : BlockValue) → uses.now ≡ kept d → block ≡ block_code b → GivesParts result (definition.block_valued d b) }
+/// The system that the block is, or its first refusal: `init`, the rules and the predicates are evaluated in this order.
+/// Costs what the evaluation of each use costs.
+pub(crate) fn system_of_block(alloc: Global, uses: &Uses, block: Block) -> Result<System, Stop>
+    requires { IsBlockCode block }
+    ensures { (d : Defined) (b : BlockValue) → uses.now ≡ kept d → block ≡ block_code b → Gives result (definition.block_valued d b) }
 {
     let mut signature = uses.signature().copy(alloc)?;
     let init = init_of(alloc, uses, &block.init, &mut signature)?;
     let rules = rules_of(alloc, uses, block.rules.as_slice(), &mut signature)?;
     let preds = predicates_of(alloc, uses, block.preds.as_slice(), &mut signature)?;
-    Ok(Parts {
-        signature,
-        init,
-        rules,
-        classes: block.classes,
-        preds,
-    })
+    Ok(System::new(signature, init, rules, block.classes, preds))
 }
 
 /// What a run begins with.
@@ -62,14 +46,14 @@ fn init_of(
 }
 
 /// Refuses where there are 4,096 already.
-fn check_room(limit: LimitWord, at: u32, count: usize) -> Result<(), Stop>
-    ensures room { Gives result (definition.room_at limit at count) }
+fn check_room(limit: LimitWord, at: u32, count: usize) -> Result<(), Refusal>
+    ensures room { result ≡ definition.room_at limit at count }
     ensures few { IfOk result (λ _. count < 4096) }
 {
     if count < 4096 {
         Ok(())
     } else {
-        Err(Stop::refuse(Cause::TooLarge(limit), at))
+        Err(Refusal::new(Cause::TooLarge(limit), at))
     }
 }
 

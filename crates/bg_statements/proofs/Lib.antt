@@ -7,3 +7,4 @@ pub mod TestsPassed
 pub mod UsesFit
 pub mod WholeValues
 pub mod UsesAre
+mod UsesKnown

@@ -15,10 +15,12 @@ use Rattle.bg_statements.specs.declared.rule_values.RuleValue.{RuleValue}
 use Rattle.bg_statements.specs.Defined.{Defined, visible_with}
 use Rattle.bg_statements.specs.Rules.{ConditionExpression, RuleExpression, condition_read, with_condition, with_conditions, conditions_read, later_conditions, map_read, later_map, tail_read, rule_read}
 use Rattle.bg_statements.specs.RuleValues.{Setting, term_in, whole_value, with_value, conditions_valued, rule_tested, map_or_identity, rule_valued}
-use Rattle.bg_statements.specs.Sound.{IsRuleRead, IsSound}
-use Rattle.bg_statements.specs.Statements.{new_word, formals_read, setting_of, signature_after, rule_tried, and_rule, with_rule_expression, with_rule, with_after_fun, with_statement, with_statements}
-use Rattle.bg_statements.proofs.Sounds.{AreRulesRead, Entered, grown, control_sound, bigraph_sound, parameter_sound}
+use Rattle.bg_statements.specs.Sound.{IsRuleRead, IsSound, nothing}
+use Rattle.bg_statements.specs.Statements.{new_word, formals_read, setting_of, signature_after, rule_tried, and_rule, with_rule_expression, with_rule, with_parameter, with_after_fun, with_statement, with_statements, with_parameters}
+use Rattle.bg_statements.specs.Uses.{defined_by}
+use Rattle.bg_statements.proofs.Sounds.{AreRulesRead, Entered, as_many_more, bigraphs_still, rules_still, grown, nothing_sound, control_sound, bigraph_sound, parameter_sound}
 use Rattle.bg_statements.proofs.Turns.{turns_keep}
+use Rattle.bg_syntax.specs.declared.tree.models.SynParamsItem.{SynParamsItem}
 use Rattle.bg_syntax.specs.declared.tree.models.SynStmtsItem.{SynStmtsItem}
 use Rattle.bg_syntax.specs.declared.tree.statements.SynAfterFun.{SynAfterFun}
 use Rattle.bg_syntax.specs.declared.tree.statements.SynAfterFun.TheVariants as after_fun
@@ -177,6 +179,9 @@ module _ (before : Defined) (sound : IsSound before) where
       let same = sym so.controls_same in
       subst IsSound (ok_same b.goes_on)
       (record {
+        bigraphs_paired = bigraphs_still (shapes_of before.controls) before b.found so sound.bigraphs_paired;
+        rules_paired = as_many_more b.found.rule_expressions b.found.rules rule (word, formals)
+            (rules_still (shapes_of before.controls) before b.found so sound.rules_paired);
         read = subst (λ cs. AreRead cs b.found.expressions) same (subst (AreRead before.controls) (sym so.expressions_same) sound.read);
         rules_read = subst (λ cs. AreRulesRead (shapes_of cs) (b.found.rule_expressions ++ rule ∷ [])) same
             (subst (λ rules. AreRulesRead (shapes_of before.controls) (rules ++ rule ∷ [])) (sym so.rules_same) (with_one before.rule_expressions rule sound.rules_read read));
@@ -211,3 +216,16 @@ pub statements_sound : (text : ScopeParts) (items : List SynStmtsItem) (before a
     → IsSound after
 statements_sound text items before after sound is =
     turns_keep (λ (item : SynStmtsItem). with_statement text item.part1) IsSound items (λ item m s t. statement_sound text item.part1 s t) before after sound is
+
+-- ---- a whole text
+
+pub parameters_sound : (text : ScopeParts) (items : List SynParamsItem) (before after : Defined) → IsSound before
+    → with_parameters text items before ≡ Ok after → IsSound after
+parameters_sound text items before after sound is =
+    turns_keep (λ (item : SynParamsItem). with_parameter text item.part1) IsSound items (λ item m s t. parameter_sound text item.part1 s t) before after sound is
+
+pub defined_sound : (text : ScopeParts) (statements : List SynStmtsItem) (parameters : List SynParamsItem) (d : Defined)
+    → defined_by text statements parameters ≡ Ok d → IsSound d
+defined_sound text statements parameters d is =
+    let a = bound (with_statements text statements nothing) (with_parameters text parameters) d is in
+    parameters_sound text parameters a.found d (statements_sound text statements nothing a.found nothing_sound a.is) a.goes_on

@@ -2,7 +2,7 @@
 use Rattle.std.proofs.Common.{◌≡◌, ◌≤◌, ◌++◌, ◌∷◌, [], ℕ, zero, suc, Bool, true, false, List, length, Option, Some, None, Result, Ok, Err, refl, sym, ap, subst, ◌∙◌, is_some, is_none, arith}
 use Rattle.std.specs.Prelude.{nat_abs, nat_lt, if◌then◌else◌}
 use Rattle.std.proofs.lemmas.Bool.Decides.{nat_tests}
-use Rattle.std.proofs.lemmas.List.{map-append}
+use Rattle.std.proofs.lemmas.List.{length-append, map-append}
 use Rattle.bg_base.specs.declared.big.Big.{Big}
 use Rattle.bg_base.specs.declared.labels.Value.{Value}
 use Rattle.bg_base.specs.declared.signature.Control.{Control}
@@ -39,7 +39,19 @@ use Rattle.bg_values.specs.Reading.{number_token, number_at}
 use Rattle.bg_values.specs.Scopes.{ScopeParts, spelling}
 
 pub nothing_sound : IsSound nothing
-nothing_sound = record { read = read_none; rules_read = λ rule m. elim m [ ]; signature = no_controls; of_shapes = λ control m. elim m [ ] }
+nothing_sound =
+    record {
+      bigraphs_paired = refl;
+      rules_paired = refl;
+      read = read_none;
+      rules_read = λ rule m. elim m [ ];
+      signature = no_controls;
+      of_shapes = λ control m. elim m [ ];
+    }
+
+-- lists that are equally long are so with one more each
+pub as_many_more : {A B : Type 0} (xs : List A) (ys : List B) (x : A) (y : B) → length xs ≡ length ys → length (xs ++ x ∷ []) ≡ length (ys ++ y ∷ [])
+as_many_more xs ys x y same = omega (arith, same, length-append xs (x ∷ []), length-append ys (y ∷ []))
 
 -- ---- what an Ok says of a name and of an arity
 
@@ -90,9 +102,12 @@ rules_more shapes others rules are rule m =
 
 -- ---- the signature alone grows
 
+-- nothing but the signature differs, and it is one of these controls
 pub record Entered (shapes : List Shape) (before after : Defined) : Type 0 where
   pub controls_same : after.controls ≡ before.controls
+  pub bigraphs_same : after.bigraphs ≡ before.bigraphs
   pub expressions_same : after.expressions ≡ before.expressions
+  pub rule_names_same : after.rules ≡ before.rules
   pub rules_same : after.rule_expressions ≡ before.rule_expressions
   pub signature : IsSignature after.signature
   pub of_shapes : AreOfShapes shapes after.signature
@@ -100,7 +115,25 @@ pub record Entered (shapes : List Shape) (before after : Defined) : Type 0 where
 pub grown : (shapes : List Shape) (before after : Defined) (signature : List Control) → ◌≡◌ {A = Result Defined Refusal} (Ok (record before { signature = signature })) (Ok after)
     → IsSignature signature → AreOfShapes shapes signature → Entered shapes before after
 grown shapes before after signature is kept of_shapes =
-    subst (Entered shapes before) (ok_same is) (record { controls_same = refl; expressions_same = refl; rules_same = refl; signature = kept; of_shapes = of_shapes })
+    subst (Entered shapes before) (ok_same is)
+    (record {
+      controls_same = refl;
+      bigraphs_same = refl;
+      expressions_same = refl;
+      rule_names_same = refl;
+      rules_same = refl;
+      signature = kept;
+      of_shapes = of_shapes;
+    })
+
+-- there are as many expressions as names, of bigraphs and of rules
+pub bigraphs_still : (shapes : List Shape) (before after : Defined) → Entered shapes before after → length before.expressions ≡ length before.bigraphs
+    → length after.expressions ≡ length after.bigraphs
+bigraphs_still shapes before after so paired = ap length so.expressions_same ∙ paired ∙ sym (ap length so.bigraphs_same)
+
+pub rules_still : (shapes : List Shape) (before after : Defined) → Entered shapes before after → length before.rule_expressions ≡ length before.rules
+    → length after.rule_expressions ≡ length after.rules
+rules_still shapes before after so paired = ap length so.rules_same ∙ paired ∙ sym (ap length so.rule_names_same)
 
 -- ---- controls
 
@@ -127,6 +160,8 @@ module _ (before : Defined) (sound : IsSound before) (word : List ℕ) (none : i
       let same : longer ≡ b.found.controls ++ (word, entry) ∷ [] = ap (λ cs. cs ++ (word, entry) ∷ []) (sym so.controls_same) in
       subst IsSound (ok_same b.goes_on)
       (record {
+        bigraphs_paired = bigraphs_still (shapes_of longer) before b.found so sound.bigraphs_paired;
+        rules_paired = rules_still (shapes_of longer) before b.found so sound.rules_paired;
         read = subst (λ cs. AreRead cs b.found.expressions) same (subst (AreRead longer) (sym so.expressions_same) are);
         rules_read = subst (λ cs. AreRulesRead (shapes_of cs) b.found.rule_expressions) same
             (subst (AreRulesRead (shapes_of longer)) (sym so.rules_same)
@@ -175,6 +210,8 @@ module _ (before : Defined) (sound : IsSound before) where
       let same = sym so.controls_same in
       subst IsSound (ok_same b.goes_on)
       (record {
+        bigraphs_paired = as_many_more b.found.expressions b.found.bigraphs e (word, formals) (bigraphs_still shapes before b.found so sound.bigraphs_paired);
+        rules_paired = rules_still shapes before b.found so sound.rules_paired;
         read = subst (λ cs. AreRead cs (b.found.expressions ++ e ∷ [])) same
             (subst (λ es. AreRead before.controls (es ++ e ∷ [])) (sym so.expressions_same) (read_definition before.controls before.expressions e sound.read read));
         rules_read = subst (λ cs. AreRulesRead (shapes_of cs) b.found.rule_expressions) same (subst (AreRulesRead shapes) (sym so.rules_same) sound.rules_read);
@@ -197,4 +234,12 @@ pub parameter_sound : (text : ScopeParts) (tree : SynParam) (before after : Defi
 parameter_sound text tree before after sound is =
     let a = bound (new_word text before.parameters (name_token tree)) _ after is in
     let b = bound (parameter_values text tree) (λ values. Ok (record before { parameters = before.parameters ++ (a.found, values) ∷ [] })) after a.goes_on in
-    subst IsSound (ok_same b.goes_on) (record { read = sound.read; rules_read = sound.rules_read; signature = sound.signature; of_shapes = sound.of_shapes })
+    subst IsSound (ok_same b.goes_on)
+    (record {
+      bigraphs_paired = sound.bigraphs_paired;
+      rules_paired = sound.rules_paired;
+      read = sound.read;
+      rules_read = sound.rules_read;
+      signature = sound.signature;
+      of_shapes = sound.of_shapes;
+    })

@@ -18,11 +18,12 @@ use Rattle.bg_machine.specs.declared.met.Met.{Met}
 use Rattle.bg_machine.specs.Calls.{begun}
 use Rattle.bg_rules.specs.declared.condition.Condition.{Condition}
 use Rattle.bg_rules.specs.declared.predicate.Predicate.{Predicate}
-use Rattle.bg_rules.specs.Hosts.{IsHost, IsHostBig, AreSmallNumbers, fresh_host}
+use Rattle.bg_rules.specs.Hosts.{IsHost, IsHostBig, fresh_host}
+use Rattle.bg_rules.specs.Limits.{IsWithinLimits}
 use Rattle.bg_rules.specs.Reaction.{HostParts, AreSides}
 use Rattle.bg_rules.specs.Rules.{RuleParts, IsNumberedFromZero, IsRule}
 use Rattle.bg_rules.specs.Solid.{IsPattern, IsSolid}
-use Rattle.bg_rules.proofs.Counters.{IsHost-fresh}
+use Rattle.bg_rules.proofs.Counters.{IsHost-fresh, fresh_within}
 use Rattle.bg_rules.proofs.SolidLaws.{nil_from_test}
 use Rattle.bg_statements.specs.declared.rule_values.ConditionValue.{ConditionValue}
 use Rattle.bg_statements.specs.declared.rule_values.RuleValue.{RuleValue}
@@ -53,10 +54,10 @@ numbers_small numbers count same few n m =
     let below : n < 0 + count = k.1 in
     omega (arith, few, below)
 
--- the bigraph of a host, with small numbers
+-- the bigraph of a host, within the limits
 pub record IsHostValue (big : Big) : Type 0 where
   pub fits : IsHostBig big
-  pub small : AreSmallNumbers big
+  pub small : IsWithinLimits (fresh_host big)
 
 pub host_value_is : (big : Big) → IsWholeValue big → is_ground big ≡ true → IsHostValue big
 host_value_is big is ground =
@@ -66,16 +67,13 @@ host_value_is big is ground =
         ground = record { valid = is.whole.valid; no_sites = nil_from_test big.sites empty.0; no_inner = nil_from_test big.inner empty.1 };
         names_plain = is.names_plain;
         edges_used = is.whole.edges_used;
-        few_nodes = is.few_nodes;
-        few_edges = is.few_edges;
       };
-      small = record {
-        small_nodes = All-from_members (λ (row : NodeRow). row.id < 2147483648) big.nodes
-            (λ row m. numbers_small (node_numbers big.nodes) (length big.nodes) is.numbered.nodes_counted is.few_nodes row.id
-            (Mem-map (λ (r : NodeRow). r.id) m));
-        small_edges = All-from_members (λ (edge : ℕ). edge < 2147483648) big.edges
-            (λ edge m. numbers_small big.edges (length big.edges) is.numbered.edges_counted is.few_edges edge m);
-      };
+      small = fresh_within big is.few_nodes is.few_edges
+          (All-from_members (λ (row : NodeRow). row.id < 2147483648) big.nodes
+          (λ row m. numbers_small (node_numbers big.nodes) (length big.nodes) is.numbered.nodes_counted is.few_nodes row.id
+          (Mem-map (λ (r : NodeRow). r.id) m)))
+          (All-from_members (λ (edge : ℕ). edge < 2147483648) big.edges
+          (λ edge m. numbers_small big.edges (length big.edges) is.numbered.edges_counted is.few_edges edge m));
     }
 
 -- ---- rules

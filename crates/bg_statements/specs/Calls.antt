@@ -11,6 +11,7 @@ use Rattle.bg_statements.specs.Defined.{Defined}
 use Rattle.bg_statements.specs.Rules.{ConditionExpression, RuleExpression}
 use Rattle.bg_statements.specs.RuleValues.{Setting}
 use Rattle.bg_statements.specs.Settings.{SettingParts}
+use Rattle.bg_statements.specs.Sound.{IsSound}
 use Rattle.bg_terms.specs.declared.shape.ControlEntry.{ControlEntry}
 use Rattle.bg_values.specs.declared.refusal.Refusal.{Refusal}
 use Rattle.bg_values.specs.declared.refusal.Stop.{Stop}
@@ -49,12 +50,7 @@ abbrev pub Adds : {X : Type 0} → Result X Stop → List ConditionCode → List
     → (List ConditionExpression → Result (List ConditionExpression) Refusal) → Type 0
 Adds result old new more = (done : List ConditionExpression) → old ≡ condition_codes done → Goes result new (behind condition_codes [] (more done))
 
--- a call gives a value and leaves a state, or stops
-abbrev pub GivesAnd : {A S : Type 0} → Result A Stop → S → Result (A × S) Refusal → Type 0
-GivesAnd (Ok x) new wanted = wanted ≡ Ok (x, new)
-GivesAnd (Err stop) new wanted = Stops stop wanted
-
--- the same, for a list
+-- a call gives a list and leaves a state, or stops
 abbrev pub GivesListAnd : {X S : Type 0} → Result (Vec X Global) Stop → S → Result (List X × S) Refusal → Type 0
 GivesListAnd (Ok list) new wanted = wanted ≡ Ok (list.items, new)
 GivesListAnd (Err stop) new wanted = Stops stop wanted
@@ -96,7 +92,8 @@ kept_after defined = defined >>= λ d. Ok (kept d)
 abbrev pub Defines : {X : Type 0} → Result X Stop → Kept → Kept → (Defined → Result Defined Refusal) → Type 0
 Defines result old new statement = (d : Defined) → old ≡ kept d → Goes result new (kept_after (statement d))
 
--- it is what is kept of some definitions
+-- it is what is kept of some sound definitions
 pub record IsKept (k : Kept) : Type 0 where
   pub defined : Defined
+  pub sound : IsSound defined
   pub is : k ≡ kept defined

@@ -1,5 +1,5 @@
 //! Statements of bigraphs.
-use crate::Definitions;
+use crate::definitions::Definitions;
 use crate::names::{check_new, formals_of};
 use bg_base::Signature;
 use bg_code::{Operation, Visible, code_of};
@@ -26,7 +26,7 @@ impl Definitions {
     /// A bigraph. It refuses with the first cause: 42 at its name where it is there, 42 at a formal that repeats, then
     /// the names of its expression; where it has no formals, what its evaluation refuses. Linear in the statement,
     /// where it has formals; else it costs what `evaluate` costs.
-    pub fn add_bigraph(
+    pub(crate) fn add_bigraph(
         &mut self,
         alloc: Global,
         text: &Scope,

@@ -1,10 +1,9 @@
 //! Statements of controls.
 ghost use Rattle.std.specs.Prelude.{◌≡◌, ◌≤◌, IfOk};
 ghost use Rattle.bg_statements.specs.Statements as definition;
-ghost use Rattle.bg_values.specs.Outcome.{Gives};
 ghost use Rattle.bg_values.specs.Reading.{number_token};
 
-use crate::Definitions;
+use crate::definitions::Definitions;
 use crate::names::{check_new, formals_of};
 use bg_base::{Ident, Kind, Value};
 use bg_code::{Visible, word_at};
@@ -12,7 +11,7 @@ use bg_machine::enter;
 use bg_syntax::tree::names::SynNumber;
 use bg_syntax::tree::statements::SynControl;
 use bg_terms::{ControlEntry, Shape};
-use bg_values::{Cause, LimitWord, NameTable, Scope, Stop, number_at, number_token};
+use bg_values::{Cause, LimitWord, NameTable, Refusal, Scope, Stop, number_at, number_token};
 use std::alloc::Global;
 
 impl Definitions {
@@ -28,7 +27,7 @@ impl Definitions {
     /// repeats, 52 at the number where the arity is above 16, 52 at its name where it would be the 4,097th control of
     /// the signature, which it enters where it has no formals. Linear in the statement, but for a look-up in the
     /// signature.
-    pub fn add_control(
+    pub(crate) fn add_control(
         &mut self,
         alloc: Global,
         text: &Scope,
@@ -98,14 +97,14 @@ impl Definitions {
 }
 
 /// The arity that a number says. Refuses with 52 what is above 16.
-fn arity_at(text: &Scope, tree: &SynNumber) -> Result<u32, Stop>
-    ensures value { Gives result (definition.arity_at text.now (number_token tree.now)) }
+fn arity_at(text: &Scope, tree: &SynNumber) -> Result<u32, Refusal>
+    ensures value { result ≡ definition.arity_at text.now (number_token tree.now) }
     ensures small { IfOk result (λ arity. arity ≤ 16) }
 {
     let token = number_token(tree);
     let number = number_at(text, token)?.unsigned_abs();
     if number > 16 {
-        return Err(Stop::refuse(Cause::TooLarge(LimitWord::Arity), token));
+        return Err(Refusal::new(Cause::TooLarge(LimitWord::Arity), token));
     }
     Ok(number as u32)
 }

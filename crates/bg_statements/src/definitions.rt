@@ -13,7 +13,7 @@ use std::marker::Model;
 /// above 16. All statements are those of one text: the codes keep the numbers of its tokens. The names that a text has
 /// visible are not looked at. After a call that stops, what is kept is of no further use: a model ends there.
 #[derive(Drop)]
-pub struct Definitions {
+pub(crate) struct Definitions {
     pub(crate) controls: NameTable<ControlEntry>,
     pub(crate) bigraphs: NameTable<u32>,
     pub(crate) codes: Vec<Rows<Operation>>,
@@ -47,7 +47,7 @@ impl Definitions {
 
     /// Nothing is defined. Takes no memory.
     #[tactic(auto, using(bg_machine::proofs::Small::none_small))]
-    pub fn new(alloc: Global) -> Definitions
+    pub(crate) fn new(alloc: Global) -> Definitions
         ensures { result ≡ record { controls = []; bigraphs = []; codes = []; rules = []; rule_codes = []; parameters = []; signature = [] } }
     {
         Definitions {
@@ -59,12 +59,5 @@ impl Definitions {
             parameters: NameTable::new(alloc),
             signature: Signature::new(alloc),
         }
-    }
-
-    /// The controls that have entered the signature.
-    pub fn signature(&self) -> &Signature
-        ensures { result.now ≡ self.now.signature }
-    {
-        &self.signature
     }
 }

@@ -1,15 +1,20 @@
 //! Laws of statements. A call does nothing.
-ghost use Rattle.std.specs.Prelude.{◌≡◌, ℕ, List, Ok};
+ghost use Rattle.std.specs.Prelude.{◌≡◌, ◌<◌, ◌≤◌, ℕ, List, length, slice_get, Some, Ok};
 ghost use Rattle.bg_base.specs.declared.big.Big.{Big};
+ghost use Rattle.bg_base.specs.declared.labels.Label.{Label};
 ghost use Rattle.bg_base.specs.declared.labels.Value.{Value};
+ghost use Rattle.bg_base.specs.declared.signature.Control.{Control};
 ghost use Rattle.bg_base.specs.declared.signature.Kind.{Kind};
 ghost use Rattle.bg_machine.specs.declared.met.Met.{Met};
 ghost use Rattle.bg_statements.specs.Defined.{Defined, visible_with};
+ghost use Rattle.bg_statements.specs.Rules.{RuleExpression};
 ghost use Rattle.bg_statements.specs.RuleValues.{Setting, whole_value};
 ghost use Rattle.bg_statements.specs.Settings.{IsWholeValue};
 ghost use Rattle.bg_statements.specs.Sound.{IsSound, nothing};
 ghost use Rattle.bg_statements.specs.Statements.{with_control, with_bigraph, with_rule, with_parameter, with_statements};
+ghost use Rattle.bg_statements.specs.Uses.{bigraph_used, defined_by, rule_used};
 ghost use Rattle.bg_syntax.specs.declared.tree.expressions.SynE.{SynE};
+ghost use Rattle.bg_syntax.specs.declared.tree.models.SynParamsItem.{SynParamsItem};
 ghost use Rattle.bg_syntax.specs.declared.tree.models.SynStmtsItem.{SynStmtsItem};
 ghost use Rattle.bg_syntax.specs.declared.tree.statements.SynBigraph.{SynBigraph};
 ghost use Rattle.bg_syntax.specs.declared.tree.statements.SynControl.{SynControl};
@@ -21,12 +26,14 @@ ghost use Rattle.bg_terms.specs.Read.{shapes_of};
 ghost use Rattle.bg_terms.specs.Shapes.{FitsShapes};
 ghost use Rattle.bg_terms.specs.Trees.{e_read};
 ghost use Rattle.bg_terms.specs.Values.{Reached, value};
+ghost use Rattle.bg_values.specs.declared.refusal.Cause.TheVariants.{UnknownName};
 ghost use Rattle.bg_values.specs.Names.{Entry};
+ghost use Rattle.bg_values.specs.Outcome.{refused};
 ghost use Rattle.bg_values.specs.Scopes.{ScopeParts};
 
 /// What statements define one after the other is sound, from nothing on: no word stands for two controls and no arity
-/// is above 16; the signature is one, of these controls with some arguments; each expression, of a bigraph or of a
-/// rule, was read from a tree.
+/// is above 16; the signature is one, of these controls with some arguments; there are as many expressions as names, of
+/// bigraphs and of rules, and each was read from a tree.
 pub fn definitions_stay_sound()
     ensures none { IsSound nothing }
     ensures control { (text : ScopeParts) (kind : Kind) (tree : SynControl) (before after : Defined) → IsSound before
@@ -39,11 +46,27 @@ pub fn definitions_stay_sound()
         → with_statements text items before ≡ Ok after → IsSound after }
     ensures parameter { (text : ScopeParts) (tree : SynParam) (before after : Defined) → IsSound before
         → with_parameter text tree before ≡ Ok after → IsSound after }
+    ensures text { (text : ScopeParts) (statements : List SynStmtsItem) (parameters : List SynParamsItem) (d : Defined)
+        → defined_by text statements parameters ≡ Ok d → IsSound d }
+{}
+
+/// Behind sound definitions a number that a name has is the number of an expression, so its use is what this expression
+/// comes to, and is never refused for want of a definition; the use of a number that no name has is, with 41 at the place
+/// of the use.
+pub fn numbers_of_names_have_expressions()
+    ensures bigraph { (d : Defined) → IsSound d → (number : ℕ) → number < length d.bigraphs
+        → (e : Expression) × (slice_get d.expressions number ≡ Some e) }
+    ensures rule { (d : Defined) → IsSound d → (number : ℕ) → number < length d.rules
+        → (e : RuleExpression) × (slice_get d.rule_expressions number ≡ Some e) }
+    ensures no_bigraph { (d : Defined) → IsSound d → (number : ℕ) → length d.bigraphs ≤ number
+        → (at : ℕ) (values : List Value) (signature : List Control) → bigraph_used d at number values signature ≡ refused UnknownName at }
+    ensures no_rule { (d : Defined) → IsSound d → (number : ℕ) → length d.rules ≤ number
+        → (at : ℕ) (label : Label) (class : ℕ) (signature : List Control) → rule_used d at number label class signature ≡ refused UnknownName at }
 {}
 
 /// Behind sound definitions, the bigraph that an expression of the text comes to is valid under the signature reached,
 /// whose controls are those of the text with some arguments.
-pub fn values_fit_the_signature_reached()
+pub fn expressions_fit_the_signature_reached()
     ensures { (d : Defined) → IsSound d → (text : ScopeParts) (formals : List (Entry (Unit {0}))) (tree : SynE) (expression : Expression)
         → (e_read tree).1 (visible_with text formals d) ≡ Ok expression
         → (env : List Value) (depth nodes edges terms : ℕ) (big : Big) (after : Reached)

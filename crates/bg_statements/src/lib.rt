@@ -1,13 +1,9 @@
 //! The statements of a model: what each defines behind those before it, or its first refusal.
 //!
-//! - [`Definitions`]: what the statements so far define: controls, bigraphs, rules, parameters, and the signature
-//!   reached.
-//! - [`laws`]: definitions stay sound, and what expressions come to is valid.
-//! - [`Definitions::add_statement`], [`Definitions::add_statements`]: a statement of any kind, and statements in their
-//!   order.
-//! - [`Definitions::add_control`], [`Definitions::add_bigraph`], [`Definitions::add_rule`],
-//!   [`Definitions::add_parameter`]: one statement of each kind.
+//! - [`Uses::of`]: what statements define, in the order of the text, with the parameters of a block: controls, bigraphs,
+//!   rules, parameters, and the signature reached.
 //! - [`Uses`]: what the block refers to: the host of `init`, rules and predicates, each for some values of the formals.
+//! - [`laws`]: definitions stay sound, and what expressions come to is valid.
 //! - [`RuleValue`], [`Whole`]: what a rule comes to, and the bigraph of a whole expression.
 #![tactic(auto)]
 
@@ -23,6 +19,5 @@ mod rules;
 mod statements;
 mod uses;
 
-pub use definitions::Definitions;
 pub use rule_values::{RuleValue, Whole};
 pub use uses::{NameSpaces, Uses};

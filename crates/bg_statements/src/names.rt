@@ -1,10 +1,11 @@
 //! The names that statements define.
+ghost use Rattle.std.specs.Prelude.{◌≡◌, Ok, Err, MatchResult};
 ghost use Rattle.bg_statements.specs.Statements as definition;
 ghost use Rattle.bg_values.specs.Outcome.{Gives, Goes};
 ghost use Rattle.bg_values.specs.Scopes.{spelling};
 
 use bg_syntax::tree::names::{SynFormals, SynMoreLowItem};
-use bg_values::{Cause, NameTable, Scope, Stop};
+use bg_values::{Cause, NameTable, Refusal, Scope, Stop};
 use std::alloc::Global;
 
 /// Refuses with 42 where the word of the token is there already.
@@ -12,11 +13,11 @@ pub(crate) fn check_new<T: Drop>(
     text: &Scope,
     entries: &NameTable<T>,
     token: u32,
-) -> Result<(), Stop>
-    ensures { Goes result (spelling text.now token) (definition.new_word text.now entries.now token) }
+) -> Result<(), Refusal>
+    ensures { let wanted = definition.new_word text.now entries.now token in MatchResult result (λ _. wanted ≡ Ok (spelling text.now token)) (λ refusal. wanted ≡ Err refusal) }
 {
     match entries.find(text.spelling(token)) {
-        Some(_) => Err(Stop::refuse(Cause::DuplicateName, token)),
+        Some(_) => Err(Refusal::new(Cause::DuplicateName, token)),
         None => Ok(()),
     }
 }

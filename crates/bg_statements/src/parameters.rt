@@ -1,5 +1,5 @@
 //! Statements of parameters.
-use crate::Definitions;
+use crate::definitions::Definitions;
 use crate::names::check_new;
 use bg_lists::Rows;
 use bg_syntax::tree::models::SynParamsItem;
@@ -13,7 +13,7 @@ impl Definitions {
 
     /// The parameters of a block in the order of the text, or the first refusal of one of them. Costs what they cost
     /// one by one.
-    pub fn add_parameters(
+    pub(crate) fn add_parameters(
         &mut self,
         alloc: Global,
         text: &Scope,
@@ -29,7 +29,7 @@ impl Definitions {
 
     /// A parameter with its values. It refuses with the first cause: 42 at its name where it is there, then what
     /// [`parameter_values`] refuses. Linear in the statement and the values.
-    pub fn add_parameter(
+    pub(crate) fn add_parameter(
         &mut self,
         alloc: Global,
         text: &Scope,

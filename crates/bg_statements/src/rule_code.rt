@@ -17,7 +17,7 @@ use bg_syntax::tree::statements::{
     SynCond, SynEta, SynEtaTail, SynIfTail, SynMoreNumItem, SynNot, SynNumbers, SynReact, SynSide,
     SynTail, SynTest, SynTestsItem,
 };
-use bg_values::{Scope, Stop, number_at, number_token};
+use bg_values::{Refusal, Scope, Stop, number_at, number_token};
 use std::alloc::Global;
 
 /// A condition of a rule: whether its pattern has to occur, on which side, the token of its `in`, and the code of its
@@ -149,8 +149,8 @@ fn add_entry(text: &Scope, tree: &SynNumber, entries: &mut Vec<u32>) -> Result<(
 }
 
 /// An entry of a map. One that 32 bits do not number is no site of any bigraph, and all those are alike.
-fn entry_at(text: &Scope, tree: &SynNumber) -> Result<u32, Stop>
-    ensures { Gives result (definition.entry_at text.now tree.now) }
+fn entry_at(text: &Scope, tree: &SynNumber) -> Result<u32, Refusal>
+    ensures { result ≡ definition.entry_at text.now tree.now }
 {
     let number = number_at(text, number_token(tree))?;
     Ok(cut(number.unsigned_abs()))

@@ -11,7 +11,7 @@ use bg_lists::{Duplicate, Mem, Rows};
 use bg_machine::{Met, evaluate, numbers_below, whole};
 use bg_rules::{Condition, Pattern, Side, map_fits, sides_agree};
 use bg_terms::ControlEntry;
-use bg_values::{Cause, NameTable, Stop};
+use bg_values::{Cause, NameTable, Refusal, Stop};
 use std::alloc::Global;
 use std::collections::VecDeque;
 use std::marker::Model;
@@ -108,12 +108,12 @@ impl<'a> Model for Setting<'a> {
 impl<'a> Setting<'a> {
     ghost use Rattle.std.specs.Prelude.{◌≡◌, List};
     ghost use Rattle.bg_code.specs.Code.{code_of};
-    ghost use Rattle.bg_statements.specs.Calls.{GivesAnd, GivesListAnd, coded_setting, condition_codes, condition_code, rule_code};
+    ghost use Rattle.bg_statements.specs.Calls.{GivesListAnd, coded_setting, condition_codes, condition_code, rule_code};
     ghost use Rattle.bg_statements.specs.InTurn.{in_turn};
     ghost use Rattle.bg_statements.specs.RuleValues as definition;
     ghost use Rattle.bg_statements.specs.Rules.{ConditionExpression, RuleExpression};
     ghost use Rattle.bg_terms.specs.Expressions.{Expression};
-    ghost use Rattle.bg_values.specs.Outcome.{Goes};
+    ghost use Rattle.bg_values.specs.Outcome.{GivesAnd, Goes};
 
     /// What a rule comes to, or its first refusal. Its expressions count their terms together.
     pub(crate) fn rule_value(
@@ -239,25 +239,25 @@ fn rule_tested(
     })
 }
 
-fn redex_tested(at: u32, redex: Whole, reactum: &Big, map: &Map) -> Result<Pattern, Stop>
-    ensures { Gives result (definition.redex_tested at redex reactum.now map.now) }
+fn redex_tested(at: u32, redex: Whole, reactum: &Big, map: &Map) -> Result<Pattern, Refusal>
+    ensures { result ≡ definition.redex_tested at redex reactum.now map.now }
 {
     if !sides_agree(redex.big(), reactum) {
-        return Err(Stop::refuse(Cause::SidesDiffer, at));
+        return Err(Refusal::new(Cause::SidesDiffer, at));
     }
     if !map_fits(redex.big(), reactum, map) {
-        return Err(Stop::refuse(Cause::BadMap, at));
+        return Err(Refusal::new(Cause::BadMap, at));
     }
     solid_at(at, redex)
 }
 
 /// The pattern that the bigraph is, or 49.
-pub(crate) fn solid_at(at: u32, big: Whole) -> Result<Pattern, Stop>
-    ensures { Gives result (definition.solid_at at big) }
+pub(crate) fn solid_at(at: u32, big: Whole) -> Result<Pattern, Refusal>
+    ensures { result ≡ definition.solid_at at big }
 {
     match Pattern::new(big.into_big()) {
         Ok(pattern) => Ok(pattern),
-        Err(fault) => Err(Stop::refuse(Cause::NotSolid(fault.clause), at)),
+        Err(fault) => Err(Refusal::new(Cause::NotSolid(fault.clause), at)),
     }
 }
 

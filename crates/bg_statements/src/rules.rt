@@ -8,7 +8,7 @@ ghost use Rattle.bg_statements.specs.Rules.{RuleExpression};
 ghost use Rattle.bg_statements.specs.Statements as definition;
 ghost use Rattle.bg_values.specs.Outcome.{Gives};
 
-use crate::Definitions;
+use crate::definitions::Definitions;
 use crate::names::{check_new, formals_of};
 use crate::rule_code::{RuleCode, rule_of};
 use crate::rule_values::Setting;
@@ -37,7 +37,12 @@ impl Definitions {
     /// where the map does not fit, 49 where the redex is not solid; then 49 at the `in` of a condition that is not.
     /// Linear in the statement, where it has formals; else it costs what `evaluate` costs for each expression, and what
     /// the tests of `bg_rules` cost.
-    pub fn add_rule(&mut self, alloc: Global, text: &Scope, tree: &SynReact) -> Result<(), Stop>
+    pub(crate) fn add_rule(
+        &mut self,
+        alloc: Global,
+        text: &Scope,
+        tree: &SynReact,
+    ) -> Result<(), Stop>
         ensures { Defines result self.old self.new (definition.with_rule text.now tree.now) }
     {
         check_new(text, &self.rules, tree.part1)?;

@@ -1,5 +1,5 @@
 //! Any statement, and statements in the order of the text.
-use crate::Definitions;
+use crate::definitions::Definitions;
 use bg_base::Kind;
 use bg_syntax::tree::models::SynStmtsItem;
 use bg_syntax::tree::statements::{SynAfterFun, SynStmt};
@@ -11,7 +11,7 @@ impl Definitions {
     ghost use Rattle.bg_statements.specs.Statements as definition;
 
     /// Statements in the order of the text, or the first refusal of one of them. Costs what they cost one by one.
-    pub fn add_statements(
+    pub(crate) fn add_statements(
         &mut self,
         alloc: Global,
         text: &Scope,
@@ -27,7 +27,12 @@ impl Definitions {
 
     /// A statement of any kind: what `add_control`, `add_bigraph`, `add_rule` or `add_parameter` does. `fun` has no
     /// effect of its own.
-    pub fn add_statement(&mut self, alloc: Global, text: &Scope, tree: &SynStmt) -> Result<(), Stop>
+    pub(crate) fn add_statement(
+        &mut self,
+        alloc: Global,
+        text: &Scope,
+        tree: &SynStmt,
+    ) -> Result<(), Stop>
         ensures { Defines result self.old self.new (definition.with_statement text.now tree.now) }
     {
         match tree {

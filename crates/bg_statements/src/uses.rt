@@ -3,9 +3,8 @@ ghost use Rattle.std.specs.Prelude.{◌≡◌};
 ghost use Rattle.bg_rules.specs.Rules.{IsRule};
 ghost use Rattle.bg_statements.specs.Settings.{IsWholeValue};
 ghost use Rattle.bg_statements.specs.Uses as definition;
-ghost use Rattle.bg_values.specs.Outcome.{Gives};
 
-use crate::Definitions;
+use crate::definitions::Definitions;
 use crate::rule_code::RuleCode;
 use crate::rule_values::{RuleValue, Setting, Whole, solid_at};
 use bg_base::{Big, Label, Signature, Value};
@@ -14,7 +13,7 @@ use bg_lists::Rows;
 use bg_machine::Met;
 use bg_rules::{Host, Predicate, Rule};
 use bg_syntax::tree::models::{SynParamsItem, SynStmtsItem};
-use bg_values::{Cause, NameTable, Scope, Stop};
+use bg_values::{Cause, NameTable, Refusal, Scope, Stop};
 use std::alloc::Global;
 use std::marker::Model;
 use std::mem::replace;
@@ -40,9 +39,11 @@ impl<'a> Model for NameSpaces<'a> {
     } };
 }
 
-/// The definitions of a whole text, for their uses. A use may meet controls that were not met before, so each takes the
-/// signature reached before it and leaves the one reached behind it; after a use that stops, the signature is of no
-/// further use. A contract sees what is kept of the definitions.
+/// The definitions of a whole text, for their uses: each name of a bigraph, or of a rule, has an expression. A use may
+/// meet controls that were not met before, so each takes the signature reached before it and leaves the one reached
+/// behind it; after a use that stops, the signature is of no further use. A number that no name has is refused with 41 at
+/// the place of the use; one that a name has never is for that reason ([`crate::laws`]). A contract sees what is kept of
+/// the definitions.
 #[derive(Drop)]
 pub struct Uses {
     definitions: Definitions,
@@ -60,11 +61,11 @@ impl Model for Uses {
 
 impl Uses {
     ghost use Rattle.std.specs.Prelude.{◌≡◌, IfOk};
-    ghost use Rattle.bg_statements.specs.Calls.{GivesAnd, IsKept, coded_setting, kept, kept_after};
+    ghost use Rattle.bg_statements.specs.Calls.{IsKept, coded_setting, kept, kept_after};
     ghost use Rattle.bg_statements.specs.Defined.{Defined};
     ghost use Rattle.bg_statements.specs.Settings.{IsWholeValue};
     ghost use Rattle.bg_statements.specs.Uses as definition;
-    ghost use Rattle.bg_values.specs.Outcome.{Gives};
+    ghost use Rattle.bg_values.specs.Outcome.{Gives, GivesAnd};
 
     /// What these statements define, and these parameters of a block behind them, for their uses; or the first refusal
     /// of one of them. Costs what they cost one by one.
@@ -84,7 +85,8 @@ impl Uses {
 
     /// The names that the block may use.
     pub fn spaces(&self) -> NameSpaces<'_>
-        ensures { result ≡ record { bigraphs = self.now.bigraphs; rules = self.now.rules; parameters = self.now.parameters } }
+        ensures same { result ≡ record { bigraphs = self.now.bigraphs; rules = self.now.rules; parameters = self.now.parameters } }
+        ensures kept { IsKept self.now }
     {
         NameSpaces {
             bigraphs: &self.definitions.bigraphs,
@@ -95,7 +97,8 @@ impl Uses {
 
     /// The controls that the statements have met.
     pub fn signature(&self) -> &Signature
-        ensures { result.now ≡ self.now.signature }
+        ensures same { result.now ≡ self.now.signature }
+        ensures kept { IsKept self.now }
     {
         &self.definitions.signature
     }
@@ -113,7 +116,8 @@ impl Uses {
         ensures { (d : Defined) → self.now ≡ kept d → GivesAnd result signature.new (definition.host_used d at number values.now signature.old) }
     {
         let whole = self.bigraph(alloc, at, number, values, signature)?;
-        host_of(at, whole)
+        let host = host_of(at, whole)?;
+        Ok(host)
     }
 
     /// The predicate that the bigraph with that number is, where its formals have the values of the label. Refuses what
@@ -133,8 +137,10 @@ impl Uses {
         Ok(Predicate { label, pattern })
     }
 
-    /// The rule with that number, where its formals have the values of the label. Refuses what
-    /// [`Definitions::add_rule`] refuses of a rule without formals, at the same places. Costs the same.
+    /// The rule with that number, where its formals have the values of the label. It refuses with the first cause: what
+    /// the evaluation of its redex, its reactum and its conditions refuses, in this order; then at its name 47 where the
+    /// sides differ, 48 where the map does not fit, 49 where the redex is not solid; then 49 at the `in` of a condition
+    /// that is not. Costs what `evaluate` costs for each expression, and what the tests of `bg_rules` cost.
     pub fn rule(
         &self,
         alloc: Global,
@@ -209,14 +215,14 @@ impl Uses {
 }
 
 /// The host of the bigraph, or 46 where it is not ground.
-fn host_of(at: u32, whole: Whole) -> Result<Host, Stop>
+fn host_of(at: u32, whole: Whole) -> Result<Host, Refusal>
     requires { IsWholeValue whole }
-    ensures { Gives result (definition.ground_at at whole) }
+    ensures { result ≡ definition.ground_at at whole }
 {
     if is_ground(whole.big()) {
         Ok(Host::new(whole.into_big()))
     } else {
-        Err(Stop::refuse(Cause::NotGround, at))
+        Err(Refusal::new(Cause::NotGround, at))
     }
 }
 

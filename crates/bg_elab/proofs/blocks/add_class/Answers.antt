@@ -12,4 +12,4 @@ returns-in_err-add_listed c = λ done starts.
 pub returns : goal.returns
 returns c = λ done starts.
     class_so c.args.text.now c.args.spaces.now c.args.tree.now (trees_of_refs c.refs_of.result.now) c.refs_of.ensures c.args.class.now done
-    c.add_listed.new.listed.items c.in_ok-next.next (c.in_ok-add_listed.ensures done starts) c.in_ok-next.ensures
+    c.add_listed.new.listed.items c.in-Some.next (c.in_ok-add_listed.ensures done starts) c.in-Some.ensures.1

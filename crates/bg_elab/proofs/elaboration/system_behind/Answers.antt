@@ -1,7 +1,7 @@
-use Rattle.std.proofs.Common.{◌∙◌, Ok, ap, subst, sym, rules}
-use Rattle.bg_elab.specs.Elaboration.{system_parts}
-use Rattle.bg_elab.proofs.Elaborated.{behind_is_system, block_goes_on, block_stops, defines, definitions_stop}
-use Rattle.bg_values.specs.Outcome.{Stops}
+use Rattle.std.proofs.Common.{subst, sym, rules}
+use Rattle.bg_elab.proofs.Elaborated.{block_goes_on, block_stops, defines, definitions_stop}
+use Rattle.bg_elab.proofs.SystemsKept.{block_below}
+use Rattle.bg_values.specs.Outcome.{Gives}
 use Rattle.bg_elab.proofs.elaboration.system_behind.Goals as goal
 
 pub returns-in_err-uses : goal.returns-in_err-uses
@@ -13,34 +13,24 @@ returns-in_err-uses c =
 pub returns-in_err-block : goal.returns-in_err-block
 returns-in_err-block c =
     let stopped = block_stops c.args.text.now c.args.statements.now c.args.params.now c.in_ok-uses.uses c.in_ok-uses.ensures
-    c.args.init.now c.args.classes.now c.args.preds.now c.spaces.result c.spaces.ensures c.in_err-block.field-0.0 c.in_err-block.ensures in
+    c.args.init.now c.args.classes.now c.args.preds.now c.spaces.result c.spaces.ensures.same c.in_err-block.field-0.0 c.in_err-block.ensures in
     search (rules, stopped, c.from_residual-in_err-block.ensures)
 
-pub returns-in_err-parts : goal.returns-in_err-parts
-returns-in_err-parts c =
-    let text = c.args.text.now in
-    let d = defines text c.args.statements.now c.args.params.now c.in_ok-uses.uses c.in_ok-uses.ensures in
+pub system_of_block-requires : goal.system_of_block-requires
+system_of_block-requires c =
     let b = c.in_ok-block.ensures in
-    let stopped = subst (λ r. Stops c.in_err-parts.field-0.0 r)
-    (sym (block_goes_on text c.args.statements.now c.args.params.now c.in_ok-uses.uses c.in_ok-uses.ensures
-    c.args.init.now c.args.classes.now c.args.preds.now c.spaces.result c.spaces.ensures b.0 b.1))
-    (c.in_err-parts.ensures d.found b.0 d.keeps b.2) in
-    search (rules, stopped, c.from_residual-in_err-parts.ensures)
-
-pub system-requires : goal.system-requires
-system-requires c =
-    let text = c.args.text.now in
-    let d = defines text c.args.statements.now c.args.params.now c.in_ok-uses.uses c.in_ok-uses.ensures in
-    let b = c.in_ok-block.ensures in
-    behind_is_system text c.args.statements.now c.args.params.now c.args.init.now c.args.classes.now c.args.preds.now (system_parts c.in_ok-parts.parts)
-    (block_goes_on text c.args.statements.now c.args.params.now c.in_ok-uses.uses c.in_ok-uses.ensures
-    c.args.init.now c.args.classes.now c.args.preds.now c.spaces.result c.spaces.ensures b.0 b.1 ∙ c.in_ok-parts.ensures d.found b.0 d.keeps b.2)
+    record {
+      block = b.0;
+      is = b.2;
+      below = block_below c.args.text.now c.args.init.now c.args.classes.now c.args.preds.now c.spaces.result b.0 b.1;
+    }
 
 pub returns : goal.returns
 returns c =
     let text = c.args.text.now in
     let d = defines text c.args.statements.now c.args.params.now c.in_ok-uses.uses c.in_ok-uses.ensures in
     let b = c.in_ok-block.ensures in
-    block_goes_on text c.args.statements.now c.args.params.now c.in_ok-uses.uses c.in_ok-uses.ensures
-    c.args.init.now c.args.classes.now c.args.preds.now c.spaces.result c.spaces.ensures b.0 b.1 ∙ c.in_ok-parts.ensures d.found b.0 d.keeps b.2
-    ∙ ap (λ system. Ok system) (sym c.system.ensures)
+    subst (Gives c.system_of_block.result)
+    (sym (block_goes_on text c.args.statements.now c.args.params.now c.in_ok-uses.uses c.in_ok-uses.ensures
+    c.args.init.now c.args.classes.now c.args.preds.now c.spaces.result c.spaces.ensures.same b.0 b.1))
+    (c.system_of_block.ensures d.found b.0 d.keeps b.2)

@@ -1,6 +1,6 @@
 use Rattle.std.proofs.Common.{subst, rules}
 use Rattle.bg_elab.proofs.BlockValued.{init_now, init_stops}
-use Rattle.bg_statements.specs.Calls.{GivesAnd}
+use Rattle.bg_values.specs.Outcome.{GivesAnd}
 use Rattle.bg_elab.proofs.systems.init_of.Goals as goal
 
 pub returns-in_err-values : goal.returns-in_err-values

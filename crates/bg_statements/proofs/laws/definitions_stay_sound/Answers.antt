@@ -1,5 +1,5 @@
 use Rattle.bg_statements.proofs.Sounds.{nothing_sound, control_sound, bigraph_sound, parameter_sound}
-use Rattle.bg_statements.proofs.RulesSound.{rule_sound, statements_sound}
+use Rattle.bg_statements.proofs.RulesSound.{rule_sound, statements_sound, defined_sound}
 use Rattle.bg_statements.proofs.laws.definitions_stay_sound.Goals as goal
 
 pub returns-clause-none : goal.returns-clause-none
@@ -19,3 +19,6 @@ returns-clause-statements c = statements_sound
 
 pub returns-clause-parameter : goal.returns-clause-parameter
 returns-clause-parameter c = parameter_sound
+
+pub returns-clause-text : goal.returns-clause-text
+returns-clause-text c = defined_sound

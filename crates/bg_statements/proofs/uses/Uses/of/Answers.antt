@@ -3,6 +3,8 @@ use Rattle.bg_statements.specs.Calls.{kept_after}
 use Rattle.bg_statements.specs.Sound.{nothing}
 use Rattle.bg_statements.specs.Statements.{with_parameters, with_statements}
 use Rattle.bg_statements.proofs.Codes.{tried_so, tried_stops}
+use Rattle.bg_statements.proofs.RulesSound.{parameters_sound, statements_sound}
+use Rattle.bg_statements.proofs.Sounds.{nothing_sound}
 use Rattle.bg_values.specs.Outcome.{◌>>=◌, Stops}
 use Rattle.bg_statements.proofs.uses.Uses.of.Goals as goal
 
@@ -32,4 +34,9 @@ invariant_of-result c =
     (c.in_ok-add_statements.ensures nothing c.new-definitions.ensures) in
     let u = tried_so (with_parameters c.args.text.now c.args.parameters.now t.found) c.add_parameters.new.self
     (c.in_ok-add_parameters.ensures t.found t.keeps) in
-    record { defined = u.found; is = u.keeps }
+    record {
+      defined = u.found;
+      sound = parameters_sound c.args.text.now c.args.parameters.now t.found u.found
+          (statements_sound c.args.text.now c.args.statements.now nothing t.found nothing_sound t.is) u.is;
+      is = u.keeps;
+    }

@@ -1,7 +1,7 @@
 use Rattle.bg_statements.specs.Defined.{visible_with}
 use Rattle.bg_statements.proofs.Sounds.{value_fits}
 use Rattle.bg_terms.proofs.InTurn.{IsRead-now}
-use Rattle.bg_statements.proofs.laws.values_fit_the_signature_reached.Goals as goal
+use Rattle.bg_statements.proofs.laws.expressions_fit_the_signature_reached.Goals as goal
 
 pub returns : goal.returns
 returns c = λ d sound text formals tree expression is env depth nodes edges terms big after comes.
