@@ -36,24 +36,23 @@ pub enum Call {
     React(Change),
 }
 
-impl Call {
-    pub fn all() -> [Call; 12] {
-        [
-            Call::Made,
-            Call::Forest,
-            Call::Children,
-            Call::Depth,
-            Call::Subtree,
-            Call::Pair,
-            Call::Compose,
-            Call::Tensor,
-            Call::Host,
-            Call::React(Change::Keep),
-            Call::React(Change::Twice),
-            Call::React(Change::Drop),
-        ]
-    }
+/// Each call.
+pub const CALLS: [Call; 12] = [
+    Call::Made,
+    Call::Forest,
+    Call::Children,
+    Call::Depth,
+    Call::Subtree,
+    Call::Pair,
+    Call::Compose,
+    Call::Tensor,
+    Call::Host,
+    Call::React(Change::Keep),
+    Call::React(Change::Twice),
+    Call::React(Change::Drop),
+];
 
+impl Call {
     pub fn word(self) -> &'static str {
         match self {
             Call::Made => "made",

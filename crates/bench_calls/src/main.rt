@@ -13,7 +13,7 @@ mod reactions;
 mod rules;
 mod shapes;
 
-use calls::{Call, Tally, tally_of};
+use calls::{CALLS, Call, Tally, tally_of};
 use shapes::Shape;
 use std::process::ExitCode;
 use std::{env, io};
@@ -46,8 +46,8 @@ fn is_measured(rt: &HostRuntime, shape: Shape, call: Call, rows: u32) -> bool {
 }
 
 fn are_all_measured(rt: &HostRuntime, rows: u32) -> bool {
-    for shape in [Shape::Chain, Shape::Star] {
-        for call in Call::all() {
+    for &shape in [Shape::Chain, Shape::Star].iter() {
+        for &call in CALLS.iter() {
             if !is_measured(rt, shape, call, rows) {
                 return false;
             }

@@ -1,13 +1,11 @@
 //! Tests of bigraphs and what is made of them, by public calls alone: lists, bigraphs and signatures, places, links,
-//! composition and products, bigraphs built in place, rules.
+//! elementary bigraphs, operations, also in place, rules.
 #![tactic(auto)]
 
 #[cfg(test)]
 mod bigraphs;
 #[cfg(test)]
-mod builder;
-#[cfg(test)]
-mod composition;
+mod elementary;
 #[cfg(test)]
 mod links;
 #[cfg(test)]
@@ -15,8 +13,8 @@ mod lists;
 #[cfg(test)]
 mod made;
 #[cfg(test)]
-mod places;
+mod operations;
 #[cfg(test)]
-mod products;
+mod places;
 #[cfg(test)]
 mod rules;

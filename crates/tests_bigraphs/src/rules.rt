@@ -3,8 +3,8 @@ ghost use Rattle.std.specs.Prelude.{◌≡◌, [], IfOk};
 ghost use Rattle.bg_base.specs.Bigraph.{IsValid};
 ghost use Rattle.bg_rules.specs.Rules.{IsNumberedFromZero};
 
-use crate::made::{label, plain_name};
-use bg_algebra::{AlgebraFault, atom, barren, compose, empty, idle, ion, merge, merger};
+use crate::made::{Ended, big_of, label, plain_name};
+use bg_algebra::{atom, barren, ion};
 use bg_base::{Big, Name, Signature};
 use bg_lists::{Duplicate, Mem, OutOfMemory, Rows};
 use bg_rules::{Host, Pattern, Rule, RuleFault, System, first_unsolid};
@@ -14,88 +14,63 @@ use std::process::Abort;
 /// The controls of these cases by number: A without ports, K with one.
 const A: u32 = 0;
 
-const K: u32 = 1;
+const K: u32 = 3;
 
-/// The merge of two bigraphs of at most one region and one site each.
-fn merged(alloc: Global, f: &Big, g: &Big) -> Result<Big, AlgebraFault>
-    requires f_valid { IsValid f.now }
-    requires g_valid { IsValid g.now }
-    ensures { IfOk result IsValid }
-{
-    if f.regions > 1 || g.regions > 1 || f.sites.len() > 1 || g.sites.len() > 1 {
-        return Err(AlgebraFault::OutOfMemory);
+/// Bigraphs, and the least clause of a solid bigraph that fails.
+const SOLID: [(&str, Option<u8>); 9] = [
+    // a node with a site in it
+    (
+        "bigraph 1\nsites 1\nn0\ninner 0\nouter 0\nedges 0\nnodes 1\n0 A r0\n",
+        None,
+    ),
+    // a region without a node
+    (
+        "bigraph 1\nsites 0\ninner 0\nouter 0\nedges 0\nnodes 0\n",
+        Some(1),
+    ),
+    // a region without a node, and a name without a point
+    (
+        "bigraph 1\nsites 1\nr0\ninner 0\nouter 1\nx\nedges 0\nnodes 0\n",
+        Some(1),
+    ),
+    // a name without a point
+    (
+        "bigraph 1\nsites 0\ninner 0\nouter 1\nx\nedges 0\nnodes 1\n0 A r0\n",
+        Some(2),
+    ),
+    // two sites in a node
+    (
+        "bigraph 1\nsites 2\nn0\nn0\ninner 0\nouter 0\nedges 0\nnodes 1\n0 A r0\n",
+        Some(3),
+    ),
+    // a site in a region
+    (
+        "bigraph 1\nsites 1\nr0\ninner 0\nouter 0\nedges 0\nnodes 1\n0 A r0\n",
+        Some(4),
+    ),
+    // no node
+    (
+        "bigraph 0\nsites 0\ninner 0\nouter 0\nedges 0\nnodes 0\n",
+        Some(5),
+    ),
+    // a name that no user writes
+    (
+        "bigraph 1\nsites 0\ninner 0\nouter 1\n~3\nedges 0\nnodes 1\n0 K r0 =~3\n",
+        Some(6),
+    ),
+    // an inner name
+    (
+        "bigraph 1\nsites 0\ninner 1\nx =x\nouter 1\nx\nedges 0\nnodes 1\n0 K r0 =x\n",
+        Some(6),
+    ),
+];
+
+#[test]
+fn the_least_clause_is_named(rt: HostRuntime) -> Result<(), Ended> {
+    for &(text, clause) in SOLID.iter() {
+        let big = big_of(rt.alloc(), text)?;
+        assert!(rt; first_unsolid(&big) == clause, "{text}");
     }
-    merge(alloc, f, g)
-}
-
-/// The name x, to which nothing is tied.
-fn idle_name(alloc: Global) -> Mem<Big>
-    ensures { IfOk result IsValid }
-{
-    let names = [plain_name(alloc, "x")?];
-    let big = idle(alloc, &names)?;
-    Ok(big)
-}
-
-#[test]
-fn a_node_with_a_site_is_solid(rt: HostRuntime) -> Mem<()> {
-    let room = ion(rt.alloc(), A, 0, &[])?;
-    assert!(rt; first_unsolid(&room) == None);
-    Ok(())
-}
-
-#[test]
-fn a_region_wants_a_node(rt: HostRuntime) -> Mem<()> {
-    assert!(rt; first_unsolid(&barren(rt.alloc())) == Some(1));
-    Ok(())
-}
-
-#[test]
-fn nothing_has_no_node(rt: HostRuntime) -> Mem<()> {
-    assert!(rt; first_unsolid(&empty(rt.alloc())) == Some(5));
-    Ok(())
-}
-
-#[test]
-fn a_site_lies_in_no_region(rt: HostRuntime) -> Result<(), AlgebraFault> {
-    let alloc = rt.alloc();
-    let beside_a_site = merged(alloc, &atom(alloc, A, 0, &[])?, &merger(alloc, 1)?)?;
-    assert!(rt; first_unsolid(&beside_a_site) == Some(4));
-    Ok(())
-}
-
-#[test]
-fn sites_lie_apart(rt: HostRuntime) -> Result<(), AlgebraFault> {
-    let alloc = rt.alloc();
-    let two_sites = compose(alloc, &ion(alloc, A, 0, &[])?, &merger(alloc, 2)?)?;
-    assert!(rt; first_unsolid(&two_sites) == Some(3));
-    Ok(())
-}
-
-#[test]
-fn a_name_wants_a_point(rt: HostRuntime) -> Result<(), AlgebraFault> {
-    let alloc = rt.alloc();
-    let beside_a_name = merged(alloc, &idle_name(alloc)?, &atom(alloc, A, 0, &[])?)?;
-    assert!(rt; first_unsolid(&beside_a_name) == Some(2));
-    Ok(())
-}
-
-#[test]
-fn names_are_plain(rt: HostRuntime) -> Mem<()> {
-    let alloc = rt.alloc();
-    let names = [Name::Opened(3)];
-    let tied = atom(alloc, K, 0, names.as_slice())?;
-    assert!(rt; first_unsolid(&tied) == Some(6));
-    Ok(())
-}
-
-#[test]
-fn the_least_clause_is_named(rt: HostRuntime) -> Result<(), AlgebraFault> {
-    let alloc = rt.alloc();
-    let site = merger(alloc, 1)?;
-    assert!(rt; first_unsolid(&site) == Some(1));
-    let beside_a_name = merged(alloc, &site, &idle_name(alloc)?)?;
-    assert!(rt; first_unsolid(&beside_a_name) == Some(1));
     Ok(())
 }
 

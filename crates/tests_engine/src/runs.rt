@@ -1,8 +1,7 @@
 use bg_io::{MemorySink, MemorySource};
-use bg_top::engine;
+use bg_top::{NO_MEMORY, engine};
 use std::alloc::{AllocError, Global};
 use std::process::Abort;
-use std::test::Fail;
 
 /// A signature with a normal and an atomic control, a bigraph with a site in its node, and one with a
 /// node.
@@ -49,6 +48,19 @@ fn words_of(alloc: Global, texts: &[&str]) -> Result<Vec<String>, AllocError> {
     Ok(words)
 }
 
+/// The call ended with that status, and wrote that text. Want of memory is passed on; what was written until then is
+/// the start of the text.
+fn expect(rt: &impl Abort, end: &End, status: u8, text: &[u8]) -> Result<(), AllocError> {
+    let written = end.written.as_slice();
+    if end.status == NO_MEMORY {
+        assert!(rt; text.starts_with(written));
+        return Err(AllocError);
+    }
+    assert!(rt; end.status == status);
+    assert!(rt; written == text);
+    Ok(())
+}
+
 /// Calls `engine` with a sink that takes a byte a write, and fails at these calls.
 fn end_of(
     alloc: Global,
@@ -78,60 +90,59 @@ fn composed(alloc: Global, bytes: Vec<u8>) -> Result<End, AllocError> {
 }
 
 #[test]
-fn composes_a_node_into_a_site(rt: HostRuntime) -> Result<(), Fail> {
+fn composes_a_node_into_a_site(rt: HostRuntime) -> Result<(), AllocError> {
     let alloc = rt.alloc();
     let end = composed(alloc, edited(alloc, &[])?)?;
-    assert!(rt; end.status == 0);
-    assert!(rt; end.written.as_slice() == COMPOSED.as_bytes());
-    Ok(())
+    expect(&rt, &end, 0, COMPOSED.as_bytes())
 }
 
+/// Edits of the input, and how it is then refused.
+const NOT_COMPOSED: [(&[Edit], &str); 12] = [
+    (&[(2, "A 1 normal\n")], "refused 5 WrongPorts at 11\n"),
+    (&[(3, "A 0 atomic\n")], "refused 9 DuplicateLabel at 3\n"),
+    (&[(4, "bigraph 300000\n")], "refused 2 TooMany at 4\n"),
+    (&[(5, "sites 01\n")], "refused 1 BadLine at 5\n"),
+    (&[(6, "n3\n")], "refused 4 Unknown at 6\n"),
+    (&[(11, "0 B r0\n")], "refused 6 AtomicHasChild at 6\n"),
+    (&[(11, "0 A n0\n")], "refused 7 Cycle at 11\n"),
+    (
+        &[(6, "n1\n"), (10, "nodes 2\n"), (11, "1 A r0\n1 A r0\n")],
+        "refused 3 NotAscending at 12\n",
+    ),
+    (&[(18, "1 B r0\nx\n")], "refused 8 Extra at 19\n"),
+    (&[(15, "outer 1\nx\n")], "refused 11 FacesDiffer\n"),
+    (&[(18, "0 B r0\n")], "refused 12 SupportMeets\n"),
+    (&[(18, "")], "refused 1 BadLine at 18\n"),
+];
+
 #[test]
-fn what_cannot_be_composed_is_refused_with_its_line(rt: HostRuntime) -> Result<(), Fail> {
+fn what_cannot_be_composed_is_refused_with_its_line(rt: HostRuntime) -> Result<(), AllocError> {
     let alloc = rt.alloc();
-    let refused: [(&[Edit], &str); 12] = [
-        (&[(2, "A 1 normal\n")], "refused 5 WrongPorts at 11\n"),
-        (&[(3, "A 0 atomic\n")], "refused 9 DuplicateLabel at 3\n"),
-        (&[(4, "bigraph 300000\n")], "refused 2 TooMany at 4\n"),
-        (&[(5, "sites 01\n")], "refused 1 BadLine at 5\n"),
-        (&[(6, "n3\n")], "refused 4 Unknown at 6\n"),
-        (&[(11, "0 B r0\n")], "refused 6 AtomicHasChild at 6\n"),
-        (&[(11, "0 A n0\n")], "refused 7 Cycle at 11\n"),
-        (
-            &[(6, "n1\n"), (10, "nodes 2\n"), (11, "1 A r0\n1 A r0\n")],
-            "refused 3 NotAscending at 12\n",
-        ),
-        (&[(18, "1 B r0\nx\n")], "refused 8 Extra at 19\n"),
-        (&[(15, "outer 1\nx\n")], "refused 11 FacesDiffer\n"),
-        (&[(18, "0 B r0\n")], "refused 12 SupportMeets\n"),
-        (&[(18, "")], "refused 1 BadLine at 18\n"),
-    ];
-    for (edits, line) in refused {
+    for &(edits, line) in NOT_COMPOSED.iter() {
         let end = composed(alloc, edited(alloc, edits)?)?;
-        assert!(rt; end.status == 1);
-        assert!(rt; end.written.as_slice() == line.as_bytes());
+        expect(&rt, &end, 1, line.as_bytes())?;
     }
     Ok(())
 }
 
+/// Words that ask for nothing.
+const WORDS: [&[&str]; 8] = [
+    &[],
+    &["bigengine"],
+    &["bigengine", "checks"],
+    &["bigengine", "check", "--workers", "65"],
+    &["bigengine", "show", "--help"],
+    &["bigengine", "match", "--most", "x"],
+    &["bigengine", "compose", "compose"],
+    &["bigengine", "compose "],
+];
+
 #[test]
-fn other_words_are_refused_and_nothing_is_read(rt: HostRuntime) -> Result<(), Fail> {
+fn other_words_are_refused_and_nothing_is_read(rt: HostRuntime) -> Result<(), AllocError> {
     let alloc = rt.alloc();
-    let refused: [&[&str]; 8] = [
-        &[],
-        &["bigengine"],
-        &["bigengine", "checks"],
-        &["bigengine", "check", "--workers", "65"],
-        &["bigengine", "show", "--help"],
-        &["bigengine", "match", "--most", "x"],
-        &["bigengine", "compose", "compose"],
-        &["bigengine", "compose "],
-    ];
-    for texts in refused {
-        let source = source_of(alloc, &[1])?;
-        let end = end_of(alloc, texts, source, &[])?;
-        assert!(rt; end.status == 2);
-        assert!(rt; end.written.as_slice() == b"words\n".as_slice());
+    for &texts in WORDS.iter() {
+        let end = end_of(alloc, texts, source_of(alloc, &[1])?, &[])?;
+        expect(&rt, &end, 2, b"words\n")?;
     }
     Ok(())
 }
@@ -276,27 +287,26 @@ fn checked(alloc: Global, bytes: Vec<u8>) -> Result<End, AllocError> {
 }
 
 /// Calls `engine` for `check` on each of these texts.
-fn check_all(rt: &impl Abort, alloc: Global, texts: &[Checked]) -> Result<(), Fail> {
+fn check_all(rt: &impl Abort, alloc: Global, texts: &[Checked]) -> Result<(), AllocError> {
     for (text, status, line) in texts {
         let end = checked(alloc, text.as_bytes().to_vec(alloc)?)?;
-        assert!(rt; end.status == *status);
-        assert!(rt; end.written.as_slice() == line.as_bytes());
+        expect(rt, &end, *status, line.as_bytes())?;
     }
     Ok(())
 }
 
 #[test]
-fn what_is_no_model_is_refused_at_its_first_fault(rt: HostRuntime) -> Result<(), Fail> {
+fn what_is_no_model_is_refused_at_its_first_fault(rt: HostRuntime) -> Result<(), AllocError> {
     check_all(&rt, rt.alloc(), &NO_MODELS)
 }
 
 #[test]
-fn the_first_refusal_of_the_statements_is_told(rt: HostRuntime) -> Result<(), Fail> {
+fn the_first_refusal_of_the_statements_is_told(rt: HostRuntime) -> Result<(), AllocError> {
     check_all(&rt, rt.alloc(), &REFUSED)
 }
 
 #[test]
-fn a_model_is_counted(rt: HostRuntime) -> Result<(), Fail> {
+fn a_model_is_counted(rt: HostRuntime) -> Result<(), AllocError> {
     check_all(&rt, rt.alloc(), &MODELS)
 }
 
@@ -312,14 +322,12 @@ reactum\nbigraph 1\nsites 1\nr0\ninner 0\nouter 0\nedges 0\nnodes 0\n\
 map 0\nconditions 0\npreds 0\n";
 
 #[test]
-fn a_system_is_listed(rt: HostRuntime) -> Result<(), Fail> {
+fn a_system_is_listed(rt: HostRuntime) -> Result<(), AllocError> {
     let alloc = rt.alloc();
     let source = MemorySource::new(SMALL.as_bytes().to_vec(alloc)?, 4096, Vec::new(alloc));
     let words = ["bigengine", "--steps=5", "show", "--explain"];
     let end = end_of(alloc, &words, source, &[])?;
-    assert!(rt; end.status == 0);
-    assert!(rt; end.written.as_slice() == LISTED.as_bytes());
-    Ok(())
+    expect(&rt, &end, 0, LISTED.as_bytes())
 }
 
 /// Options of `match`, a model, the status, and what it writes.
@@ -376,12 +384,11 @@ fn matched(alloc: Global, options: &[&str], text: &str) -> Result<End, AllocErro
 }
 
 #[test]
-fn occurrences_are_listed(rt: HostRuntime) -> Result<(), Fail> {
+fn occurrences_are_listed(rt: HostRuntime) -> Result<(), AllocError> {
     let alloc = rt.alloc();
     for &(options, text, status, line) in MATCHED.iter() {
         let end = matched(alloc, options, text)?;
-        assert!(rt; end.status == status);
-        assert!(rt; end.written.as_slice() == line.as_bytes());
+        expect(&rt, &end, status, line.as_bytes())?;
     }
     Ok(())
 }
@@ -401,73 +408,76 @@ fn doubled(alloc: Global) -> Result<Vec<u8>, AllocError> {
 }
 
 #[test]
-fn a_model_has_at_most_65536_nodes(rt: HostRuntime) -> Result<(), Fail> {
+fn a_model_has_at_most_65536_nodes(rt: HostRuntime) -> Result<(), AllocError> {
     let alloc = rt.alloc();
     let end = checked(alloc, doubled(alloc)?)?;
-    assert!(rt; end.status == 1);
-    assert!(rt; end.written.as_slice() == b"refused 52 TooLarge nodes at 19:15\n".as_slice());
-    Ok(())
+    expect(&rt, &end, 1, b"refused 52 TooLarge nodes at 19:15\n")
 }
 
 #[test]
-fn a_proper_prefix_of_a_model_is_refused(rt: HostRuntime) -> Result<(), Fail> {
+fn a_proper_prefix_of_a_model_is_refused(rt: HostRuntime) -> Result<(), AllocError> {
     let alloc = rt.alloc();
     let bytes = BUILDING.as_bytes();
     let behind = bytes.len().saturating_sub(1);
     for size in 0..behind {
         let end = checked(alloc, bytes[..size].to_vec(alloc)?)?;
+        if end.status == NO_MEMORY {
+            return Err(AllocError);
+        }
         assert!(rt; end.status == 1);
     }
-    let end = checked(alloc, bytes[..behind].to_vec(alloc)?)?;
-    assert!(rt; end.status == 0);
     Ok(())
 }
 
 #[test]
-fn spaces_alone_have_no_block(rt: HostRuntime) -> Result<(), Fail> {
+fn a_model_needs_no_last_line_feed(rt: HostRuntime) -> Result<(), AllocError> {
+    let alloc = rt.alloc();
+    let bytes = BUILDING.as_bytes();
+    let behind = bytes.len().saturating_sub(1);
+    let end = checked(alloc, bytes[..behind].to_vec(alloc)?)?;
+    expect(
+        &rt,
+        &end,
+        0,
+        b"ok controls 3 rules 1 classes 1 preds 0 nodes 6 edges 0\n",
+    )
+}
+
+#[test]
+fn spaces_alone_have_no_block(rt: HostRuntime) -> Result<(), AllocError> {
     let alloc = rt.alloc();
     let end = checked(alloc, vec![in alloc; b' '; 8_388_608]?)?;
-    assert!(rt; end.status == 1);
-    assert!(rt; end.written.as_slice() == b"refused 53 NoBlock at 1:8388609\n".as_slice());
-    Ok(())
+    expect(&rt, &end, 1, b"refused 53 NoBlock at 1:8388609\n")
 }
 
 #[test]
-fn an_input_of_a_byte_too_many_is_too_long(rt: HostRuntime) -> Result<(), Fail> {
+fn an_input_of_a_byte_too_many_is_too_long(rt: HostRuntime) -> Result<(), AllocError> {
     let alloc = rt.alloc();
     let end = composed(alloc, vec![in alloc; b' '; 8_388_609]?)?;
-    assert!(rt; end.status == 8);
-    assert!(rt; end.written.as_slice() == b"too long\n".as_slice());
-    Ok(())
+    expect(&rt, &end, 8, b"too long\n")
 }
 
 #[test]
-fn an_input_of_the_most_bytes_is_judged(rt: HostRuntime) -> Result<(), Fail> {
+fn an_input_of_the_most_bytes_is_judged(rt: HostRuntime) -> Result<(), AllocError> {
     let alloc = rt.alloc();
     let bytes = vec![in alloc; b' '; 8_388_608]?;
     let source = MemorySource::new(bytes, 1, Vec::new(alloc));
     let end = end_of(alloc, &["bigengine", "compose"], source, &[])?;
-    assert!(rt; end.status == 1);
-    assert!(rt; end.written.as_slice() == b"refused 1 BadLine at 1\n".as_slice());
-    Ok(())
+    expect(&rt, &end, 1, b"refused 1 BadLine at 1\n")
 }
 
 #[test]
-fn a_read_that_fails_leaves_nothing_written(rt: HostRuntime) -> Result<(), Fail> {
+fn a_read_that_fails_leaves_nothing_written(rt: HostRuntime) -> Result<(), AllocError> {
     let alloc = rt.alloc();
     let source = source_of(alloc, &[2])?;
     let end = end_of(alloc, &["bigengine", "compose"], source, &[])?;
-    assert!(rt; end.status == 3);
-    assert!(rt; end.written.is_empty());
-    Ok(())
+    expect(&rt, &end, 3, b"")
 }
 
 #[test]
-fn a_write_that_fails_leaves_the_start_of_the_text(rt: HostRuntime) -> Result<(), Fail> {
+fn a_write_that_fails_leaves_the_start_of_the_text(rt: HostRuntime) -> Result<(), AllocError> {
     let alloc = rt.alloc();
     let source = source_of(alloc, &[])?;
     let end = end_of(alloc, &["bigengine", "compose"], source, &[4])?;
-    assert!(rt; end.status == 4);
-    assert!(rt; end.written.as_slice() == b"big".as_slice());
-    Ok(())
+    expect(&rt, &end, 4, b"big")
 }

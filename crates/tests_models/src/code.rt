@@ -1,13 +1,12 @@
 use bg_base::{Ident, Kind};
 use bg_code::*;
-use bg_lists::Mem;
-use bg_syntax::parse;
+use bg_lists::{Mem, OutOfMemory};
 use bg_syntax::tree::statements::SynStmt;
-use bg_terms::{ControlEntry, Product, Shape};
-use bg_text::tokens;
+use bg_syntax::{SyntaxFault, parse};
+use bg_terms::{BinaryOperation, ControlEntry, Shape};
+use bg_text::{LexFault, tokens};
 use bg_values::{Cause, NameTable, Scope, Stop};
 use std::alloc::Global;
-use std::test::*;
 
 /// What the expression of a text is as code.
 #[derive(Clone, Copy, PartialEq, Eq)]
@@ -16,7 +15,6 @@ enum Outcome {
     Code(bool),
     /// The cause, and the token.
     Refused(Cause, u32),
-    NoMemory,
     NoExpression,
 }
 
@@ -29,15 +27,15 @@ fn letter_of(operation: &Operation) -> u8 {
         Operation::Names { .. } => b'W',
         Operation::Identity { width, .. } => identity_letter(*width),
         Operation::Merger { .. } => b'M',
-        Operation::One(_) => b'1',
-        Operation::Nothing(_) => b'0',
+        Operation::Barren(_) => b'1',
+        Operation::Empty(_) => b'0',
         Operation::Count(_) => b'(',
         Operation::Enter(_) => b'>',
         Operation::Leave => b'<',
         Operation::Open => b'/',
         Operation::Close { .. } => b'x',
         Operation::Nest { is_atom, .. } => nest_letter(*is_atom),
-        Operation::Join { product, .. } => product_letter(*product),
+        Operation::Join { operation, .. } => operation_letter(*operation),
     }
 }
 
@@ -55,12 +53,12 @@ fn nest_letter(is_atom: bool) -> u8 {
 }
 
 /// The operator, and `P` for `||`.
-fn product_letter(product: Product) -> u8 {
-    match product {
-        Product::Composition => b'*',
-        Product::Tensor => b'+',
-        Product::Parallel => b'P',
-        Product::Merge => b'|',
+fn operation_letter(operation: BinaryOperation) -> u8 {
+    match operation {
+        BinaryOperation::Composition => b'*',
+        BinaryOperation::Tensor => b'+',
+        BinaryOperation::Parallel => b'P',
+        BinaryOperation::Merge => b'|',
     }
 }
 
@@ -76,11 +74,11 @@ fn is_spelled(code: &[Operation], letters: &[u8]) -> bool {
     true
 }
 
-fn outcome_of(read: Result<Vec<Operation>, Stop>, letters: &str) -> Outcome {
+fn outcome_of(read: Result<Vec<Operation>, Stop>, letters: &str) -> Mem<Outcome> {
     match read {
-        Ok(code) => Outcome::Code(is_spelled(code.as_slice(), letters.as_bytes())),
-        Err(Stop::Refused(refusal)) => Outcome::Refused(refusal.cause, refusal.token),
-        Err(Stop::OutOfMemory) => Outcome::NoMemory,
+        Ok(code) => Ok(Outcome::Code(is_spelled(code.as_slice(), letters.as_bytes()))),
+        Err(Stop::Refused(refusal)) => Ok(Outcome::Refused(refusal.cause, refusal.token)),
+        Err(Stop::OutOfMemory) => Err(OutOfMemory),
     }
 }
 
@@ -118,18 +116,22 @@ fn tables_here(alloc: Global) -> Mem<Tables> {
 }
 
 /// What the expression of the text's first statement is, a bigraph's, as code.
-fn read(alloc: Global, tables: &Tables, text: &str, letters: &str) -> Outcome {
+fn read(alloc: Global, tables: &Tables, text: &str, letters: &str) -> Mem<Outcome> {
     if text.len() > 10_000 {
-        return Outcome::NoExpression;
+        return Ok(Outcome::NoExpression);
     }
-    let Ok(tokens) = tokens(alloc, text.as_bytes()) else {
-        return Outcome::NoExpression;
+    let tokens = match tokens(alloc, text.as_bytes()) {
+        Ok(tokens) => tokens,
+        Err(LexFault::Bad { .. }) => return Ok(Outcome::NoExpression),
+        Err(LexFault::OutOfMemory) => return Err(OutOfMemory),
     };
     if tokens.len() > 10_000 {
-        return Outcome::NoExpression;
+        return Ok(Outcome::NoExpression);
     }
-    let Ok(tree) = parse(alloc, &tokens) else {
-        return Outcome::NoExpression;
+    let tree = match parse(alloc, &tokens) {
+        Ok(tree) => tree,
+        Err(SyntaxFault::OutOfMemory) => return Err(OutOfMemory),
+        Err(_) => return Ok(Outcome::NoExpression),
     };
     let visible = Visible {
         scope: Scope {
@@ -145,9 +147,9 @@ fn read(alloc: Global, tables: &Tables, text: &str, letters: &str) -> Outcome {
             SynStmt::Way4(_, bigraph) => {
                 outcome_of(code_of(alloc, &visible, &bigraph.part4), letters)
             }
-            _ => Outcome::NoExpression,
+            _ => Ok(Outcome::NoExpression),
         },
-        None => Outcome::NoExpression,
+        None => Ok(Outcome::NoExpression),
     }
 }
 
@@ -180,27 +182,25 @@ const REFUSED: [(&str, Cause, u32); 8] = [
 ];
 
 #[test]
-fn finds_the_code_of_expressions(rt: HostRuntime) {
-    let Ok(tables) = tables_here(rt.alloc()) else {
-        return;
-    };
+fn finds_the_code_of_expressions(rt: HostRuntime) -> Mem<()> {
+    let tables = tables_here(rt.alloc())?;
     for &(text, letters) in CODES.iter() {
         assert!(rt;
-            read(rt.alloc(), &tables, text, letters) == Outcome::Code(true),
+            read(rt.alloc(), &tables, text, letters)? == Outcome::Code(true),
             "{text}"
         );
     }
+    Ok(())
 }
 
 #[test]
-fn refuses_the_first_name_that_cannot_stand(rt: HostRuntime) {
-    let Ok(tables) = tables_here(rt.alloc()) else {
-        return;
-    };
+fn refuses_the_first_name_that_cannot_stand(rt: HostRuntime) -> Mem<()> {
+    let tables = tables_here(rt.alloc())?;
     for &(text, cause, token) in REFUSED.iter() {
         assert!(rt;
-            read(rt.alloc(), &tables, text, "") == Outcome::Refused(cause, token),
+            read(rt.alloc(), &tables, text, "")? == Outcome::Refused(cause, token),
             "{text}"
         );
     }
+    Ok(())
 }

@@ -1,10 +1,9 @@
 use bg_base::Value;
 use bg_elab::*;
-use bg_lists::{Mem, Rows};
+use bg_lists::{Mem, OutOfMemory, Rows};
 use bg_rules::{Rule, System};
 use bg_values::LimitWord;
-use std::alloc::{AllocError, Global};
-use std::test::*;
+use std::alloc::Global;
 
 fn list(alloc: Global, first: i64, count: i64) -> Mem<Rows<Value>> {
     let mut values = Vec::new(alloc);
@@ -20,12 +19,10 @@ fn of_three(alloc: Global, number: u32) -> Mem<Option<Rows<Value>>> {
     choice(alloc, &lists, number)
 }
 
-/// The three values as one number, 0 where there is no choice, -1 where there was no memory.
-fn digits(found: Mem<Option<Rows<Value>>>) -> i64 {
-    let values = match found {
-        Ok(Some(values)) => values,
-        Ok(None) => return 0,
-        Err(_) => return -1,
+/// The three values as one number, 0 where there is no choice.
+fn digits(found: Option<Rows<Value>>) -> i64 {
+    let Some(values) = found else {
+        return 0;
     };
     match values.as_slice() {
         [Value::Int(x), Value::Int(y), Value::Int(z)] => x
@@ -37,7 +34,7 @@ fn digits(found: Mem<Option<Rows<Value>>>) -> i64 {
 }
 
 #[test]
-fn the_first_list_varies_slowest(rt: HostRuntime) {
+fn the_first_list_varies_slowest(rt: HostRuntime) -> Mem<()> {
     let alloc = rt.alloc();
     for &(number, digits_of_it) in [
         (0, 134),
@@ -50,23 +47,31 @@ fn the_first_list_varies_slowest(rt: HostRuntime) {
     ]
     .iter()
     {
-        assert!(rt; digits(of_three(alloc, number)) == digits_of_it);
+        assert!(rt; digits(of_three(alloc, number)?) == digits_of_it);
+    }
+    Ok(())
+}
+
+/// How many values the choice with that number of these lists has, if there is one.
+fn chosen(alloc: Global, lists: &[Rows<Value>], number: u32) -> Mem<Option<u32>> {
+    match choice(alloc, lists, number)? {
+        Some(values) => Ok(Some(values.len())),
+        None => Ok(None),
     }
 }
 
 #[test]
-fn of_no_lists_there_is_one_choice(rt: HostRuntime) {
-    let alloc = rt.alloc();
-    assert!(rt; matches!(choice(alloc, &[], 0), Ok(Some(values)) if values.is_empty()));
-    assert!(rt; matches!(choice(alloc, &[], 1), Ok(None)));
+fn of_no_lists_there_is_one_choice(rt: HostRuntime) -> Mem<()> {
+    assert!(rt; chosen(rt.alloc(), &[], 0)? == Some(0));
+    assert!(rt; chosen(rt.alloc(), &[], 1)? == None);
+    Ok(())
 }
 
 #[test]
-fn of_an_empty_list_there_is_no_choice(rt: HostRuntime) {
-    let alloc = rt.alloc();
-    let empty = Rows::from_vec(Vec::new(alloc));
-    let lists = [Rows::from_vec(Vec::new(alloc)), empty];
-    assert!(rt; matches!(choice(alloc, &lists, 0), Ok(None)));
+fn of_an_empty_list_there_is_no_choice(rt: HostRuntime) -> Mem<()> {
+    let lists = [Rows::from_vec(Vec::new(rt.alloc()))];
+    assert!(rt; chosen(rt.alloc(), &lists, 0)? == None);
+    Ok(())
 }
 
 /// What a model comes to.
@@ -92,21 +97,22 @@ fn model(alloc: Global, bytes: &[u8]) -> Result<System, ModelFault> {
 }
 
 /// What the text comes to.
-fn comes_to(alloc: Global, bytes: &[u8]) -> Outcome {
+fn comes_to(alloc: Global, bytes: &[u8]) -> Mem<Outcome> {
     match model(alloc, bytes) {
-        Ok(system) => Outcome::System {
+        Ok(system) => Ok(Outcome::System {
             controls: system.signature().len(),
             rules: system.rules().len(),
             classes: system.classes(),
             preds: system.preds().len(),
             next_node: system.init().next_node(),
-        },
-        Err(fault) => Outcome::Fault(fault),
+        }),
+        Err(ModelFault::OutOfMemory) => Err(OutOfMemory),
+        Err(fault) => Ok(Outcome::Fault(fault)),
     }
 }
 
 /// The text without the mark `$`, and where the mark stood.
-fn unmarked(alloc: Global, marked: &str) -> Result<(Vec<u8>, u32), AllocError> {
+fn unmarked(alloc: Global, marked: &str) -> Mem<(Vec<u8>, u32)> {
     let mut bytes = Vec::new(alloc);
     let mut mark: u32 = 0;
     let mut count: u32 = 0;
@@ -248,7 +254,7 @@ const SYSTEMS: [(&str, u32, usize, u32, usize, u32); 5] = [
 ];
 
 #[test]
-fn refuses_at_the_first_place(rt: HostRuntime) -> Result<(), Fail> {
+fn refuses_at_the_first_place(rt: HostRuntime) -> Mem<()> {
     for &(marked, code, detail) in REFUSED.iter() {
         let (text, offset) = unmarked(rt.alloc(), marked)?;
         let wanted = Outcome::Fault(ModelFault::Bad {
@@ -256,13 +262,16 @@ fn refuses_at_the_first_place(rt: HostRuntime) -> Result<(), Fail> {
             detail,
             offset,
         });
-        assert!(rt; comes_to(rt.alloc(), text.as_slice()) == wanted, "{marked}");
+        assert!(rt;
+            comes_to(rt.alloc(), text.as_slice())? == wanted,
+            "{marked}"
+        );
     }
     Ok(())
 }
 
 #[test]
-fn models_are_systems(rt: HostRuntime) {
+fn models_are_systems(rt: HostRuntime) -> Mem<()> {
     for &(text, controls, rules, classes, preds, next_node) in SYSTEMS.iter() {
         let wanted = Outcome::System {
             controls,
@@ -271,8 +280,9 @@ fn models_are_systems(rt: HostRuntime) {
             preds,
             next_node,
         };
-        assert!(rt; comes_to(rt.alloc(), text.as_bytes()) == wanted, "{text}");
+        assert!(rt; comes_to(rt.alloc(), text.as_bytes())? == wanted, "{text}");
     }
+    Ok(())
 }
 
 /// The class and the two arguments of the rule as one number, 0 where the arguments are not two numbers.
@@ -289,25 +299,20 @@ fn digits_of(rule: Option<&Rule>) -> i64 {
     }
 }
 
-/// The number of the rule with that place, 0 where there is no such rule, -1 where the model is no system.
-fn digits_at(found: &Result<System, ModelFault>, place: usize) -> i64 {
-    match found {
-        Ok(system) => digits_of(system.rules().get(place)),
-        _ => -1,
-    }
-}
+/// Rules with two parameters.
+const TWO_PARAMETERS: &str =
+    "ctrl D = 0; big s = D.1; fun react r(x, y) = D --> D; begin brs int n = {1, 2}; int m = {3, 4}; \
+    init s; rules = [ {r(n, m)}, {r(m, n)}, {r(n + n, 0), r(5, 6)} ]; end";
 
 #[test]
-fn the_first_parameter_varies_slowest(rt: HostRuntime) {
-    let text =
-        "ctrl D = 0; big s = D.1; fun react r(x, y) = D --> D; begin brs int n = {1, 2}; int m = {3, 4}; \
-        init s; rules = [ {r(n, m)}, {r(m, n)}, {r(n + n, 0), r(5, 6)} ]; end";
-    let found = model(rt.alloc(), text.as_bytes());
+fn the_first_parameter_varies_slowest(rt: HostRuntime) -> Result<(), ModelFault> {
+    let system = model(rt.alloc(), TWO_PARAMETERS.as_bytes())?;
     for (place, digits) in [13, 14, 23, 24, 131, 132, 141, 142, 220, 240, 256]
         .iter()
         .enumerate()
     {
-        assert!(rt; digits_at(&found, place) == *digits);
+        assert!(rt; digits_of(system.rules().get(place)) == *digits);
     }
-    assert!(rt; digits_at(&found, 11) == 0);
+    assert!(rt; system.rules().len() == 11);
+    Ok(())
 }

@@ -1,13 +1,12 @@
-use bg_base::{Ident, Label, Signature};
-use bg_lists::{Duplicate, Rows};
+use bg_base::{Ident, Label};
+use bg_lists::{Duplicate, Mem, OutOfMemory, Rows};
 use bg_rules::{Condition, Rule, Side};
 use bg_statements::*;
-use bg_syntax::parse;
 use bg_syntax::tree::models::SynBlock;
-use bg_text::tokens;
+use bg_syntax::{SyntaxFault, parse};
+use bg_text::{LexFault, tokens};
 use bg_values::{Cause, LimitWord, NameTable, Refusal, Scope, Stop};
-use std::alloc::{AllocError, Global};
-use std::test::*;
+use std::alloc::Global;
 
 /// What the statements of a text come to.
 #[derive(Clone, Copy, PartialEq, Eq)]
@@ -16,24 +15,27 @@ enum Outcome {
     Defined(u32),
     /// The cause, and the first byte of the token.
     Refused(Cause, usize),
-    NoMemory,
     /// The text is no model.
     NoModel,
 }
 
 /// What the statements of the text come to.
-fn come(alloc: Global, bytes: &[u8]) -> Outcome {
+fn come(alloc: Global, bytes: &[u8]) -> Mem<Outcome> {
     if bytes.len() > 100_000_000 {
-        return Outcome::NoModel;
+        return Ok(Outcome::NoModel);
     }
-    let Ok(tokens) = tokens(alloc, bytes) else {
-        return Outcome::NoModel;
+    let tokens = match tokens(alloc, bytes) {
+        Ok(tokens) => tokens,
+        Err(LexFault::Bad { .. }) => return Ok(Outcome::NoModel),
+        Err(LexFault::OutOfMemory) => return Err(OutOfMemory),
     };
     if tokens.len() > 100_000_000 {
-        return Outcome::NoModel;
+        return Ok(Outcome::NoModel);
     }
-    let Ok(tree) = parse(alloc, &tokens) else {
-        return Outcome::NoModel;
+    let tree = match parse(alloc, &tokens) {
+        Ok(tree) => tree,
+        Err(SyntaxFault::OutOfMemory) => return Err(OutOfMemory),
+        Err(_) => return Ok(Outcome::NoModel),
     };
     let nothing = NameTable::new(alloc);
     let text = Scope {
@@ -41,11 +43,12 @@ fn come(alloc: Global, bytes: &[u8]) -> Outcome {
         tokens: tokens.as_slice(),
         names: &nothing,
     };
-    let mut definitions = Definitions::new(alloc);
-    match definitions.add_statements(alloc, &text, tree.part1.as_slice()) {
-        Ok(()) => Outcome::Defined(definitions.signature().len()),
-        Err(Stop::Refused(refusal)) => Outcome::Refused(refusal.cause, byte_of(&text, &refusal)),
-        Err(Stop::OutOfMemory) => Outcome::NoMemory,
+    match Uses::of(alloc, &text, tree.part1.as_slice(), &[]) {
+        Ok(uses) => Ok(Outcome::Defined(uses.signature().len())),
+        Err(Stop::Refused(refusal)) => {
+            Ok(Outcome::Refused(refusal.cause, byte_of(&text, &refusal)))
+        }
+        Err(Stop::OutOfMemory) => Err(OutOfMemory),
     }
 }
 
@@ -58,17 +61,17 @@ fn byte_of(text: &Scope, refusal: &Refusal) -> usize {
 }
 
 /// The text without the mark `$`, and where the mark stood.
-fn unmarked(alloc: Global, marked: &str) -> Option<(Vec<u8>, usize)> {
+fn unmarked(alloc: Global, marked: &str) -> Mem<(Vec<u8>, usize)> {
     let mut bytes = Vec::new(alloc);
     let mut mark = 0;
     for byte in marked.as_bytes() {
         if *byte == b'$' {
             mark = bytes.len();
-        } else if bytes.push(*byte).is_err() {
-            return None;
+        } else {
+            bytes.push(*byte)?;
         }
     }
-    Some((bytes, mark))
+    Ok((bytes, mark))
 }
 
 /// What defines the names that the cases use.
@@ -76,20 +79,28 @@ const BEFORE: &str =
     "ctrl A = 0; ctrl B = 2; atomic ctrl D = 0; atomic ctrl E = 1; fun ctrl K(n) = 1; \
     fun big c(n) = K(n){x}; big d = D; ";
 
-/// The case behind the names that it uses.
-fn outcome_behind(alloc: Global, marked: &str) -> Option<(Outcome, usize)> {
-    let (case, mark) = unmarked(alloc, marked)?;
+/// The text behind the names that it uses.
+fn behind(alloc: Global, text: &[u8]) -> Mem<Vec<u8>> {
     let mut bytes = Vec::new(alloc);
-    if bytes.extend_from_slice(BEFORE.as_bytes()).is_err() {
-        return None;
-    }
-    if bytes.extend_from_slice(case.as_slice()).is_err() {
-        return None;
-    }
-    Some((
-        come(alloc, bytes.as_slice()),
-        mark.wrapping_add(BEFORE.len()),
-    ))
+    bytes.extend_from_slice(BEFORE.as_bytes())?;
+    bytes.extend_from_slice(text)?;
+    Ok(bytes)
+}
+
+/// Whether the case is refused for that cause at its mark.
+fn is_refused(alloc: Global, marked: &str, cause: Cause) -> Mem<bool> {
+    let (case, mark) = unmarked(alloc, marked)?;
+    let bytes = behind(alloc, case.as_slice())?;
+    let wanted = Outcome::Refused(cause, mark.wrapping_add(BEFORE.len()));
+    Ok(come(alloc, bytes.as_slice())? == wanted)
+}
+
+/// Whether the case is accepted, and so many controls enter the signature by it.
+fn is_defined(alloc: Global, case: &str, controls: u32) -> Mem<bool> {
+    let bytes = behind(alloc, case.as_bytes())?;
+    // A, B, D and E enter at their statements.
+    let wanted = Outcome::Defined(controls.wrapping_add(4));
+    Ok(come(alloc, bytes.as_slice())? == wanted)
 }
 
 /// Statements that are refused, with a mark before the token of the refusal.
@@ -300,64 +311,63 @@ const DEFINED: [(&str, u32); 25] = [
 ];
 
 #[test]
-fn refuses_at_the_first_place(rt: HostRuntime) {
+fn refuses_at_the_first_place(rt: HostRuntime) -> Mem<()> {
     for &(case, cause) in REFUSED.iter() {
-        let Some((found, mark)) = outcome_behind(rt.alloc(), case) else {
-            return;
-        };
-        assert!(rt; found == Outcome::Refused(cause, mark), "{case}");
+        assert!(rt; is_refused(rt.alloc(), case, cause)?, "{case}");
     }
+    Ok(())
 }
 
 #[test]
-fn accepts_what_is_allowed(rt: HostRuntime) {
+fn accepts_what_is_allowed(rt: HostRuntime) -> Mem<()> {
     for &(case, controls) in DEFINED.iter() {
-        let Some((found, _)) = outcome_behind(rt.alloc(), case) else {
-            return;
-        };
-        // A, B, D and E enter at their statements.
-        assert!(rt;
-            found == Outcome::Defined(controls.wrapping_add(4)),
-            "{case}"
-        );
+        assert!(rt; is_defined(rt.alloc(), case, controls)?, "{case}");
     }
+    Ok(())
 }
 
 #[test]
-fn refuses_rules_at_the_first_place(rt: HostRuntime) {
+fn refuses_rules_at_the_first_place(rt: HostRuntime) -> Mem<()> {
     for &(case, cause) in REFUSED_RULES.iter() {
-        let Some((found, mark)) = outcome_behind(rt.alloc(), case) else {
-            return;
-        };
-        assert!(rt; found == Outcome::Refused(cause, mark), "{case}");
+        assert!(rt; is_refused(rt.alloc(), case, cause)?, "{case}");
     }
+    Ok(())
 }
 
 #[test]
-fn accepts_rules(rt: HostRuntime) {
+fn accepts_rules(rt: HostRuntime) -> Mem<()> {
     for &(case, controls) in DEFINED_RULES.iter() {
-        let Some((found, _)) = outcome_behind(rt.alloc(), case) else {
-            return;
-        };
-        assert!(rt;
-            found == Outcome::Defined(controls.wrapping_add(4)),
-            "{case}"
-        );
+        assert!(rt; is_defined(rt.alloc(), case, controls)?, "{case}");
     }
+    Ok(())
 }
 
-/// The rule of the text, which defines no other.
-fn rule_behind(alloc: Global, rule: &str) -> Option<Rule> {
-    let mut bytes = Vec::new(alloc);
-    bytes.extend_from_slice(BEFORE.as_bytes()).ok()?;
-    bytes.extend_from_slice(rule.as_bytes()).ok()?;
-    let uses = uses_of(alloc, bytes.as_slice())?;
-    let mut signature = uses.signature().copy(alloc).ok()?;
-    let label = Label {
-        name: Ident::new(alloc, "r").ok()??,
-        args: Rows::from_vec(Vec::new(alloc)),
+/// The label `r`.
+fn label_of(alloc: Global) -> Mem<Option<Label>> {
+    let Some(name) = Ident::new(alloc, "r")? else {
+        return Ok(None);
     };
-    uses.rule(alloc, 0, 0, label, 0, &mut signature).ok()
+    Ok(Some(Label {
+        name,
+        args: Rows::from_vec(Vec::new(alloc)),
+    }))
+}
+
+/// The rule of the text, which defines no other; none where it is refused.
+fn rule_behind(alloc: Global, rule: &str) -> Mem<Option<Rule>> {
+    let bytes = behind(alloc, rule.as_bytes())?;
+    let Some(uses) = uses_of(alloc, bytes.as_slice())? else {
+        return Ok(None);
+    };
+    let Some(label) = label_of(alloc)? else {
+        return Ok(None);
+    };
+    let mut signature = uses.signature().copy(alloc)?;
+    match uses.rule(alloc, 0, 0, label, 0, &mut signature) {
+        Ok(rule) => Ok(Some(rule)),
+        Err(Stop::OutOfMemory) => Err(OutOfMemory),
+        Err(_) => Ok(None),
+    }
 }
 
 /// Whether the pattern has to occur, and 2 more where it is looked for in the parameter; 9 for no condition.
@@ -408,42 +418,45 @@ fn summary(rule: &Rule) -> [u32; 10] {
     ]
 }
 
-fn summary_behind(alloc: Global, rule: &str) -> Option<[u32; 10]> {
-    let found = rule_behind(alloc, rule)?;
-    Some(summary(&found))
+fn summary_behind(alloc: Global, rule: &str) -> Mem<Option<[u32; 10]>> {
+    match rule_behind(alloc, rule)? {
+        Some(found) => Ok(Some(summary(&found))),
+        None => Ok(None),
+    }
 }
 
+/// Rules, and their summaries.
+const SUMMARIES: [(&str, [u32; 10]); 7] = [
+    ("react r = D --> 1;", [1, 0, 0, 0, 0, 9, 9, 0, 9, 9]),
+    ("react r = A | A --> A | A;", [2, 0, 2, 0, 2, 0, 1, 0, 9, 9]),
+    (
+        "react r = A | A --> A | A @ [1, 0];",
+        [2, 0, 2, 0, 2, 1, 0, 0, 9, 9],
+    ),
+    (
+        "react r = A | A --> A | A.A @ [1, 1];",
+        [2, 0, 3, 0, 2, 1, 1, 0, 9, 9],
+    ),
+    (
+        "react r = /x /y B{x,y}.1 | /z ({z} | D) --> /x E{x} | /y (E{y} | {y});",
+        [2, 2, 2, 2, 0, 9, 9, 0, 9, 9],
+    ),
+    (
+        "react r = D --> D if !D in ctx, E{x} in param;",
+        [1, 0, 1, 0, 0, 9, 9, 2, 0, 3],
+    ),
+    (
+        "react r = A --> A if D in ctx, D in ctx, !D in param @ [0];",
+        [1, 0, 1, 0, 1, 0, 0, 3, 1, 2],
+    ),
+];
+
 #[test]
-fn rules_come_to_their_parts(rt: HostRuntime) {
-    let alloc = rt.alloc();
-    for &(rule, parts) in [
-        ("react r = D --> 1;", [1, 0, 0, 0, 0, 9, 9, 0, 9, 9]),
-        ("react r = A | A --> A | A;", [2, 0, 2, 0, 2, 0, 1, 0, 9, 9]),
-        (
-            "react r = A | A --> A | A @ [1, 0];",
-            [2, 0, 2, 0, 2, 1, 0, 0, 9, 9],
-        ),
-        (
-            "react r = A | A --> A | A.A @ [1, 1];",
-            [2, 0, 3, 0, 2, 1, 1, 0, 9, 9],
-        ),
-        (
-            "react r = /x /y B{x,y}.1 | /z ({z} | D) --> /x E{x} | /y (E{y} | {y});",
-            [2, 2, 2, 2, 0, 9, 9, 0, 9, 9],
-        ),
-        (
-            "react r = D --> D if !D in ctx, E{x} in param;",
-            [1, 0, 1, 0, 0, 9, 9, 2, 0, 3],
-        ),
-        (
-            "react r = A --> A if D in ctx, D in ctx, !D in param @ [0];",
-            [1, 0, 1, 0, 1, 0, 0, 3, 1, 2],
-        ),
-    ]
-    .iter()
-    {
-        assert!(rt; summary_behind(alloc, rule) == Some(parts), "{rule}");
+fn rules_come_to_their_parts(rt: HostRuntime) -> Mem<()> {
+    for &(rule, parts) in SUMMARIES.iter() {
+        assert!(rt; summary_behind(rt.alloc(), rule)? == Some(parts), "{rule}");
     }
+    Ok(())
 }
 
 /// A text that is written piece by piece.
@@ -459,12 +472,13 @@ impl Writing {
         }
     }
 
-    fn word(&mut self, word: &str) -> Result<(), AllocError> {
-        self.bytes.extend_from_slice(word.as_bytes())
+    fn word(&mut self, word: &str) -> Mem<()> {
+        self.bytes.extend_from_slice(word.as_bytes())?;
+        Ok(())
     }
 
     /// A number below 100,000, in five digits.
-    fn number(&mut self, number: u32) -> Result<(), AllocError> {
+    fn number(&mut self, number: u32) -> Mem<()> {
         for &unit in [10_000, 1000, 100, 10, 1].iter() {
             self.bytes.push((number / unit % 10) as u8 + b'0')?;
         }
@@ -477,12 +491,7 @@ impl Writing {
 }
 
 /// `first`, which defines p00000, and so many bigraphs behind it, each of which joins the one before it with itself.
-fn doublings(
-    alloc: Global,
-    first: &str,
-    operator: &str,
-    count: u32,
-) -> Result<Writing, AllocError> {
+fn doublings(alloc: Global, first: &str, operator: &str, count: u32) -> Mem<Writing> {
     let mut text = Writing::new(alloc);
     text.word(first)?;
     for number in 0..count {
@@ -499,7 +508,7 @@ fn doublings(
 }
 
 /// A bigraph, and so many behind it, each of which refers to the one before it.
-fn references(alloc: Global, count: u32) -> Result<Writing, AllocError> {
+fn references(alloc: Global, count: u32) -> Mem<Writing> {
     let mut text = Writing::new(alloc);
     text.word("ctrl A = 0; big p00000 = A;\n")?;
     for number in 0..count {
@@ -513,7 +522,7 @@ fn references(alloc: Global, count: u32) -> Result<Writing, AllocError> {
 }
 
 /// So many controls.
-fn controls(alloc: Global, count: u32) -> Result<Writing, AllocError> {
+fn controls(alloc: Global, count: u32) -> Mem<Writing> {
     let mut text = Writing::new(alloc);
     for number in 0..count {
         text.word("ctrl K")?;
@@ -524,7 +533,7 @@ fn controls(alloc: Global, count: u32) -> Result<Writing, AllocError> {
 }
 
 /// A control with so many arguments.
-fn arguments(alloc: Global, count: u32) -> Result<Writing, AllocError> {
+fn arguments(alloc: Global, count: u32) -> Mem<Writing> {
     let mut text = Writing::new(alloc);
     text.word("fun ctrl K(n) = 0; big s = 1")?;
     for number in 0..count {
@@ -536,120 +545,108 @@ fn arguments(alloc: Global, count: u32) -> Result<Writing, AllocError> {
     Ok(text)
 }
 
-fn outcome_of(alloc: Global, text: &Writing) -> Outcome {
+fn outcome_of(alloc: Global, text: &Writing) -> Mem<Outcome> {
     come(alloc, text.bytes.as_slice())
 }
 
-fn is_too_large(found: Outcome, limit: LimitWord, place: usize) -> bool {
-    found == Outcome::Refused(Cause::TooLarge(limit), place)
+/// Whether the text is refused for that limit at that byte, counted from its end.
+fn is_too_large(alloc: Global, text: &Writing, limit: LimitWord, behind: usize) -> Mem<bool> {
+    let place = text.len().wrapping_sub(behind);
+    is_too_large_at(alloc, text, limit, place)
+}
+
+/// Whether the text is refused for that limit at that byte.
+fn is_too_large_at(alloc: Global, text: &Writing, limit: LimitWord, place: usize) -> Mem<bool> {
+    Ok(outcome_of(alloc, text)? == Outcome::Refused(Cause::TooLarge(limit), place))
 }
 
 #[test]
-fn values_have_limits(rt: HostRuntime) {
-    let alloc = rt.alloc();
-    let Ok(nodes) = doublings(alloc, "atomic ctrl A = 0; big p00000 = A;\n", " |", 17) else {
-        return;
-    };
-    let bar = nodes.len().wrapping_sub(10);
-    assert!(rt; is_too_large(outcome_of(alloc, &nodes), LimitWord::Nodes, bar));
-    let Ok(edges) = doublings(alloc, "big p00000 = /x {x};\n", " ||", 17) else {
-        return;
-    };
-    let bars = edges.len().wrapping_sub(11);
-    assert!(rt; is_too_large(outcome_of(alloc, &edges), LimitWord::Edges, bars));
-    let Ok(most) = doublings(alloc, "atomic ctrl A = 0; big p00000 = A;\n", " |", 16) else {
-        return;
-    };
-    assert!(rt; outcome_of(alloc, &most) == Outcome::Defined(1));
+fn nodes_have_a_limit(rt: HostRuntime) -> Mem<()> {
+    let first = "atomic ctrl A = 0; big p00000 = A;\n";
+    let most = doublings(rt.alloc(), first, " |", 16)?;
+    assert!(rt; outcome_of(rt.alloc(), &most)? == Outcome::Defined(1));
+    let more = doublings(rt.alloc(), first, " |", 17)?;
+    assert!(rt; is_too_large(rt.alloc(), &more, LimitWord::Nodes, 10)?);
+    Ok(())
 }
 
 #[test]
-fn terms_have_a_limit(rt: HostRuntime) {
-    let alloc = rt.alloc();
-    let Ok(most) = doublings(alloc, "big p00000 = 1;\n", " |", 18) else {
-        return;
-    };
-    assert!(rt; outcome_of(alloc, &most) == Outcome::Defined(0));
-    let Ok(more) = doublings(alloc, "big p00000 = 1;\n", " |", 19) else {
-        return;
-    };
+fn edges_have_a_limit(rt: HostRuntime) -> Mem<()> {
+    let more = doublings(rt.alloc(), "big p00000 = /x {x};\n", " ||", 17)?;
+    assert!(rt; is_too_large(rt.alloc(), &more, LimitWord::Edges, 11)?);
+    Ok(())
+}
+
+#[test]
+fn terms_have_a_limit(rt: HostRuntime) -> Mem<()> {
+    let most = doublings(rt.alloc(), "big p00000 = 1;\n", " |", 18)?;
+    assert!(rt; outcome_of(rt.alloc(), &most)? == Outcome::Defined(0));
+    let more = doublings(rt.alloc(), "big p00000 = 1;\n", " |", 19)?;
     // The term that is one too many is a `1` in the text of the first definition.
-    assert!(rt; is_too_large(outcome_of(alloc, &more), LimitWord::Terms, 13));
+    assert!(rt; is_too_large_at(rt.alloc(), &more, LimitWord::Terms, 13)?);
+    Ok(())
 }
 
 #[test]
-fn the_sides_of_a_rule_count_their_terms_together(rt: HostRuntime) {
-    let alloc = rt.alloc();
-    let Ok(mut text) = doublings(alloc, "big p00000 = 1;\n", " |", 18) else {
-        return;
-    };
-    if text.word("react r = p00018 --> p00017;\n").is_err() {
-        return;
-    }
+fn the_sides_of_a_rule_count_their_terms_together(rt: HostRuntime) -> Mem<()> {
+    let mut text = doublings(rt.alloc(), "big p00000 = 1;\n", " |", 18)?;
+    text.word("react r = p00018 --> p00017;\n")?;
     // The term that is one too many is the second p00000 in the text of p00001.
-    assert!(rt; is_too_large(outcome_of(alloc, &text), LimitWord::Terms, 38));
+    assert!(rt; is_too_large_at(rt.alloc(), &text, LimitWord::Terms, 38)?);
+    Ok(())
 }
 
 #[test]
-fn depth_begins_anew_for_each_side_of_a_rule(rt: HostRuntime) {
-    let alloc = rt.alloc();
-    let Ok(mut text) = references(alloc, 1023) else {
-        return;
-    };
-    if text
-        .word("react r = p01022 --> p01022 if p01022 in ctx;\n")
-        .is_err()
-    {
-        return;
-    }
-    assert!(rt; outcome_of(alloc, &text) == Outcome::Defined(1));
+fn depth_begins_anew_for_each_side_of_a_rule(rt: HostRuntime) -> Mem<()> {
+    let mut text = references(rt.alloc(), 1023)?;
+    text.word("react r = p01022 --> p01022 if p01022 in ctx;\n")?;
+    assert!(rt; outcome_of(rt.alloc(), &text)? == Outcome::Defined(1));
+    Ok(())
 }
 
 #[test]
-fn references_have_limits(rt: HostRuntime) {
-    let alloc = rt.alloc();
-    let Ok(deepest) = references(alloc, 1023) else {
-        return;
-    };
-    assert!(rt; outcome_of(alloc, &deepest) == Outcome::Defined(1));
-    let Ok(deeper) = references(alloc, 1024) else {
-        return;
-    };
-    assert!(rt; is_too_large(outcome_of(alloc, &deeper), LimitWord::Depth, 25));
+fn references_have_a_limit(rt: HostRuntime) -> Mem<()> {
+    let deepest = references(rt.alloc(), 1023)?;
+    assert!(rt; outcome_of(rt.alloc(), &deepest)? == Outcome::Defined(1));
+    let deeper = references(rt.alloc(), 1024)?;
+    assert!(rt; is_too_large_at(rt.alloc(), &deeper, LimitWord::Depth, 25)?);
+    Ok(())
 }
 
 #[test]
-fn a_signature_has_a_limit(rt: HostRuntime) {
-    let alloc = rt.alloc();
-    let Ok(most) = controls(alloc, 4096) else {
-        return;
-    };
-    assert!(rt; outcome_of(alloc, &most) == Outcome::Defined(4096));
-    let Ok(more) = controls(alloc, 4097) else {
-        return;
-    };
-    let name = more.len().wrapping_sub(12);
-    assert!(rt; is_too_large(outcome_of(alloc, &more), LimitWord::Controls, name));
-    let Ok(evaluated) = arguments(alloc, 4097) else {
-        return;
-    };
-    let symbol = evaluated.len().wrapping_sub(10);
-    assert!(rt; is_too_large(outcome_of(alloc, &evaluated), LimitWord::Controls, symbol));
+fn a_signature_has_a_limit(rt: HostRuntime) -> Mem<()> {
+    let most = controls(rt.alloc(), 4096)?;
+    assert!(rt; outcome_of(rt.alloc(), &most)? == Outcome::Defined(4096));
+    let more = controls(rt.alloc(), 4097)?;
+    assert!(rt; is_too_large(rt.alloc(), &more, LimitWord::Controls, 12)?);
+    Ok(())
 }
 
-/// The definitions of the statements and of the block's parameters of a model, for their uses.
-fn uses_of(alloc: Global, bytes: &[u8]) -> Option<Uses> {
+#[test]
+fn symbols_count_as_controls(rt: HostRuntime) -> Mem<()> {
+    let evaluated = arguments(rt.alloc(), 4097)?;
+    assert!(rt; is_too_large(rt.alloc(), &evaluated, LimitWord::Controls, 10)?);
+    Ok(())
+}
+
+/// The definitions of the statements and of the block's parameters of a model, for their uses; none where the text is
+/// no model, or a statement is refused.
+fn uses_of(alloc: Global, bytes: &[u8]) -> Mem<Option<Uses>> {
     if bytes.len() > 100_000_000 {
-        return None;
+        return Ok(None);
     }
-    let Ok(tokens) = tokens(alloc, bytes) else {
-        return None;
+    let tokens = match tokens(alloc, bytes) {
+        Ok(tokens) => tokens,
+        Err(LexFault::Bad { .. }) => return Ok(None),
+        Err(LexFault::OutOfMemory) => return Err(OutOfMemory),
     };
     if tokens.len() > 100_000_000 {
-        return None;
+        return Ok(None);
     }
-    let Ok(tree) = parse(alloc, &tokens) else {
-        return None;
+    let tree = match parse(alloc, &tokens) {
+        Ok(tree) => tree,
+        Err(SyntaxFault::OutOfMemory) => return Err(OutOfMemory),
+        Err(_) => return Ok(None),
     };
     let nothing = NameTable::new(alloc);
     let text = Scope {
@@ -662,8 +659,9 @@ fn uses_of(alloc: Global, bytes: &[u8]) -> Option<Uses> {
         SynBlock::Way2 => &[],
     };
     match Uses::of(alloc, &text, tree.part1.as_slice(), parameters) {
-        Ok(uses) => Some(uses),
-        Err(_) => None,
+        Ok(uses) => Ok(Some(uses)),
+        Err(Stop::OutOfMemory) => Err(OutOfMemory),
+        Err(_) => Ok(None),
     }
 }
 
@@ -673,12 +671,12 @@ const USED: &[u8] =
     fun react r(n) = K(n){x} --> K(n + 1){x}; int m = 3; begin brs int k = 4; init s; rules = []; end";
 
 #[test]
-fn the_parameters_of_a_block_are_defined_behind_the_others(rt: HostRuntime) {
-    let alloc = rt.alloc();
-    let uses = uses_of(alloc, USED).expect(&rt, "uses");
+fn the_parameters_of_a_block_are_defined_behind_the_others(rt: HostRuntime) -> Mem<()> {
+    let uses = uses_of(rt.alloc(), USED)?.expect(&rt, "uses");
     let spaces = uses.spaces();
     assert!(rt; spaces.bigraphs.len() == 4);
     assert!(rt; spaces.rules.len() == 1);
     assert!(rt; spaces.parameters.find(b"m") == Some(0));
     assert!(rt; spaces.parameters.find(b"k") == Some(1));
+    Ok(())
 }

@@ -1,6 +1,7 @@
 //! The listing of a small system, and of one with rules in two classes, labels with arguments, a condition of each
 //! kind, maps and a predicate.
-ghost use Rattle.std.specs.Prelude.{◌≡◌, ◌<◌, [], All, IfOk};
+ghost use Rattle.std.specs.Prelude.{◌≡◌, ◌<◌, ◌↔◌, [], ◌∷◌, All, IfOk, IsTrue};
+ghost use Rattle.bg_base.specs.declared.big.NodeRow.{NodeRow as RowOfNode};
 ghost use Rattle.bg_base.specs.Bigraph.{IsValidUnder};
 ghost use Rattle.bg_listing.specs.Limits.{IsReadableBig};
 ghost use Rattle.bg_rules.specs.declared.condition.Condition.{Condition as ConditionValue};
@@ -10,54 +11,87 @@ ghost use Rattle.bg_rules.specs.Rules.{RuleParts, IsNumberedFromZero};
 ghost use Rattle.bg_rules.specs.Solid.{IsPattern};
 ghost use Rattle.bg_rules.specs.Systems.{IsRuleUnder};
 
-use bg_base::{Big, Ident, Label, Signature, Text, Value};
-use bg_listing::{Cursor, read_big, read_signature};
-use bg_lists::Rows;
+use bg_base::{Big, Ident, Label, NodeRow, Signature, Text, Value};
+use bg_listing::{Cursor, ListingFault, read_big, read_signature};
+use bg_lists::{Mem, OutOfMemory, Rows};
 use bg_rules::{Condition, Host, Pattern, Predicate, Rule, Side, System};
 use bg_show::write_system;
-use std::alloc::Global;
-use std::test::Fail;
+use std::alloc::{AllocFailed, Global};
+
+/// Why a test ends before its last assertion.
+#[derive(Clone, Copy, Debug, PartialEq, Eq)]
+enum Ended {
+    /// There was no memory.
+    OutOfMemory,
+    /// A call refused what the test made for it.
+    Refused,
+}
+
+impl From<OutOfMemory> for Ended {
+    fn from(_fault: OutOfMemory) -> Ended {
+        Ended::OutOfMemory
+    }
+}
+
+impl<T: Drop> From<AllocFailed<T>> for Ended {
+    fn from(_failed: AllocFailed<T>) -> Ended {
+        Ended::OutOfMemory
+    }
+}
+
+impl From<ListingFault> for Ended {
+    fn from(fault: ListingFault) -> Ended {
+        match fault {
+            ListingFault::OutOfMemory => Ended::OutOfMemory,
+            ListingFault::Bad { .. } => Ended::Refused,
+        }
+    }
+}
 
 const START: Cursor = Cursor { offset: 0, line: 1 };
 
 /// The signature of a listing.
-fn signature_of(alloc: Global, text: &str) -> Result<Signature, Fail> {
+fn signature_of(alloc: Global, text: &str) -> Result<Signature, Ended> {
     if text.len() > 1_000 {
-        return Err(Fail::from("a long listing"));
+        return Err(Ended::Refused);
     }
     let (signature, _end) = read_signature(alloc, text.as_bytes(), START)?;
     Ok(signature)
 }
 
 /// The bigraph of a listing, which has no edge.
-fn big_of(alloc: Global, signature: &Signature, text: &str) -> Result<Big, Fail>
+fn big_of(alloc: Global, signature: &Signature, text: &str) -> Result<Big, Ended>
     ensures readable { IfOk result (λ big. IsReadableBig signature.now big) }
     ensures no_edges { IfOk result (λ big. big.edges ≡ []) }
 {
     if text.len() > 1_000 {
-        return Err(Fail::from("a long listing"));
+        return Err(Ended::Refused);
     }
     let (big, _end) = read_big(alloc, text.as_bytes(), START, signature)?;
     if big.edges.is_empty() {
         Ok(big)
     } else {
-        Err(Fail::from("an edge"))
+        Err(Ended::Refused)
     }
 }
 
 /// The pattern of a listing.
-fn pattern_of(alloc: Global, signature: &Signature, text: &str) -> Result<Pattern, Fail>
+fn pattern_of(alloc: Global, signature: &Signature, text: &str) -> Result<Pattern, Ended>
     ensures kept { IfOk result (λ pattern. IsPattern pattern) }
     ensures fits { IfOk result (λ pattern. IsValidUnder signature.now pattern) }
 {
     let big = big_of(alloc, signature, text)?;
-    let pattern = Pattern::new(big)?;
-    let _big = pattern.big();
-    Ok(pattern)
+    match Pattern::new(big) {
+        Ok(pattern) => {
+            let _big = pattern.big();
+            Ok(pattern)
+        }
+        Err(_) => Err(Ended::Refused),
+    }
 }
 
 /// The reactum of a listing, which has no node.
-fn reactum_of(alloc: Global, signature: &Signature, text: &str) -> Result<Big, Fail>
+fn reactum_of(alloc: Global, signature: &Signature, text: &str) -> Result<Big, Ended>
     ensures fits { IfOk result (λ big. IsValidUnder signature.now big) }
     ensures numbered { IfOk result (λ big. IsNumberedFromZero big) }
 {
@@ -65,30 +99,49 @@ fn reactum_of(alloc: Global, signature: &Signature, text: &str) -> Result<Big, F
     if big.nodes.is_empty() {
         Ok(big)
     } else {
-        Err(Fail::from("a node"))
+        Err(Ended::Refused)
     }
 }
 
+/// Whether the numbers of the nodes are below that.
+fn are_below(rows: &[NodeRow], number: u32) -> bool
+    ensures { IsTrue result ↔ All (λ (row : RowOfNode). row.id < number) rows.now }
+{
+    rows.iter().all(|row| row.id < number)
+}
+
 /// The host of a listing, which has no outer name.
-fn host_of(alloc: Global, signature: &Signature, text: &str) -> Result<Host, Fail>
+fn host_of(alloc: Global, signature: &Signature, text: &str) -> Result<Host, Ended>
     ensures kept { IfOk result (λ host. IsHost host) }
     ensures fits { IfOk result (λ host. IsValidUnder signature.now host.big) }
 {
     let big = big_of(alloc, signature, text)?;
-    if big.sites.is_empty() && big.inner.is_empty() && big.outer.is_empty() {
+    let is_small = are_below(&big.nodes, 2_147_483_648);
+    if is_small && big.sites.is_empty() && big.inner.is_empty() && big.outer.is_empty() {
         let host = Host::new(big);
         let _big = host.big();
         Ok(host)
     } else {
-        Err(Fail::from("a site or a name"))
+        Err(Ended::Refused)
     }
 }
 
 /// The label of that identifier and these arguments.
-fn label_of(alloc: Global, name: &str, args: Vec<Value>) -> Result<Label, Fail> {
-    let name = Ident::new(alloc, name)?.ok_or("a word")?;
+fn label_of(alloc: Global, name: &str, args: Vec<Value>) -> Result<Label, Ended> {
+    let Some(name) = Ident::new(alloc, name)? else {
+        return Err(Ended::Refused);
+    };
     let args = Rows::try_from_vec(args)?;
     Ok(Label { name, args })
+}
+
+/// The list of that one.
+fn only<T: Drop>(alloc: Global, item: T) -> Mem<Vec<T>>
+    ensures { IfOk result (λ made. made.items ≡ item ∷ []) }
+{
+    let mut made = Vec::new(alloc);
+    made.push(item)?;
+    Ok(made)
 }
 
 /// The listings of a redex and of a reactum.
@@ -107,7 +160,7 @@ fn rule_of(
     map: Vec<u32>,
     conditions: Rows<Condition>,
     class: u32,
-) -> Result<Rule, Fail>
+) -> Result<Rule, Ended>
     requires conditions_are { All (λ (condition : ConditionValue). IsPattern condition.pattern) conditions }
     requires conditions_fit { All (λ (condition : ConditionValue). IsValidUnder signature.now condition.pattern) conditions }
     requires class_below { class < 2 }
@@ -116,9 +169,13 @@ fn rule_of(
     let redex = pattern_of(alloc, signature, sides.redex)?;
     let reactum = reactum_of(alloc, signature, sides.reactum)?;
     let map = Rows::try_from_vec(map)?;
-    let rule = Rule::new(label, redex, reactum, map, conditions, class)?;
-    let _redex = rule.redex();
-    Ok(rule)
+    match Rule::new(label, redex, reactum, map, conditions, class) {
+        Ok(rule) => {
+            let _redex = rule.redex();
+            Ok(rule)
+        }
+        Err(_) => Err(Ended::Refused),
+    }
 }
 
 /// The system of these parts, with two classes.
@@ -127,7 +184,7 @@ fn system_of(
     init: Host,
     rules: Vec<Rule>,
     preds: Vec<Predicate>,
-) -> Result<System, Fail>
+) -> Result<System, Ended>
     requires init_is { IsHost init }
     requires init_fits { IsValidUnder signature init.big }
     requires rules_fit { All (λ (rule : RuleParts). IsRuleUnder signature 2 rule) rules.items }
@@ -135,7 +192,7 @@ fn system_of(
     requires preds_fit { All (λ (predicate : PredicateValue). IsValidUnder signature predicate.pattern) preds.items }
 {
     if rules.len() > 10 || preds.len() > 10 {
-        return Err(Fail::from("many rules or predicates"));
+        return Err(Ended::Refused);
     }
     let rules = Rows::from_vec(rules);
     let preds = Rows::from_vec(preds);
@@ -155,18 +212,18 @@ const A_WITH_SITE: &str = "bigraph 1\nsites 1\nn0\ninner 0\nouter 0\nedges 0\nno
 const SITE: &str = "bigraph 1\nsites 1\nr0\ninner 0\nouter 0\nedges 0\nnodes 0\n";
 
 /// The system of the host `A.B.1` and the rule `r = A.id --> id`.
-fn small_system(alloc: Global) -> Result<System, Fail> {
+fn small_system(alloc: Global) -> Result<System, Ended> {
     let signature = signature_of(alloc, SMALL_SIGNATURE)?;
     let init = host_of(alloc, &signature, A_WITH_B)?;
     let label = label_of(alloc, "r", Vec::new(alloc))?;
-    let map = vec![in alloc; 0]?;
+    let map = only(alloc, 0)?;
     let sides = Sides {
         redex: A_WITH_SITE,
         reactum: SITE,
     };
     let conditions = Rows::from_vec(Vec::new(alloc));
     let rule = rule_of(alloc, &signature, label, &sides, map, conditions, 0)?;
-    let rules = vec![in alloc; rule]?;
+    let rules = only(alloc, rule)?;
     system_of(signature, init, rules, Vec::new(alloc))
 }
 
@@ -179,10 +236,9 @@ const SMALL_LISTING: &str = "signature 2\nA 0 normal\nB 0 normal\n\
     map 0\nconditions 0\npreds 0\n";
 
 #[test]
-fn writes_a_small_system(rt: HostRuntime) -> Result<(), Fail> {
+fn writes_a_small_system(rt: HostRuntime) -> Result<(), Ended> {
     let system = small_system(rt.alloc())?;
-    let mut written = Vec::new(rt.alloc());
-    written.push(b'>')?;
+    let mut written = only(rt.alloc(), b'>')?;
     write_system(rt.alloc(), &system, &mut written)?;
     assert!(rt; &written[..1] == b">".as_slice());
     assert!(rt; &written[1..] == SMALL_LISTING.as_bytes());
@@ -211,7 +267,7 @@ const ONE_REGION: Sides<'static> = Sides {
 };
 
 /// A condition of each kind.
-fn conditions_of(alloc: Global, signature: &Signature) -> Result<Rows<Condition>, Fail>
+fn conditions_of(alloc: Global, signature: &Signature) -> Result<Rows<Condition>, Ended>
     ensures are { IfOk result (λ conditions. All (λ (condition : ConditionValue). IsPattern condition.pattern) conditions) }
     ensures fit { IfOk result (λ conditions. All (λ (condition : ConditionValue). IsValidUnder signature.now condition.pattern) conditions) }
 {
@@ -234,20 +290,34 @@ fn conditions_of(alloc: Global, signature: &Signature) -> Result<Rows<Condition>
     Ok(Rows::from_vec(conditions))
 }
 
+/// A number and a text.
+fn two_values(alloc: Global) -> Result<Vec<Value>, Ended> {
+    let Some(words) = Text::new(alloc, "a, b")? else {
+        return Err(Ended::Refused);
+    };
+    let mut values = only(alloc, Value::Int(-7))?;
+    values.push(Value::Words(words))?;
+    Ok(values)
+}
+
+/// A map that exchanges two parts.
+fn two_entries(alloc: Global) -> Mem<Vec<u32>> {
+    let map = Vec::from_slice(alloc, &[1, 0])?;
+    Ok(map)
+}
+
 /// A rule with two arguments, a map that exchanges two parts of a parameter, and conditions.
-fn exchange(alloc: Global, signature: &Signature) -> Result<Rule, Fail>
+fn exchange(alloc: Global, signature: &Signature) -> Result<Rule, Ended>
     ensures { IfOk result (λ rule. IsRuleUnder signature.now 2 rule) }
 {
-    let words = Text::new(alloc, "a, b")?.ok_or("a word")?;
-    let args = vec![in alloc; Value::Int(-7), Value::Words(words)]?;
-    let label = label_of(alloc, "go", args)?;
-    let map = vec![in alloc; 1, 0]?;
+    let label = label_of(alloc, "go", two_values(alloc)?)?;
+    let map = two_entries(alloc)?;
     let conditions = conditions_of(alloc, signature)?;
     rule_of(alloc, signature, label, &TWO_REGIONS, map, conditions, 1)
 }
 
 /// A rule without arguments, entries and conditions.
-fn removal(alloc: Global, signature: &Signature) -> Result<Rule, Fail>
+fn removal(alloc: Global, signature: &Signature) -> Result<Rule, Ended>
     ensures { IfOk result (λ rule. IsRuleUnder signature.now 2 rule) }
 {
     let label = label_of(alloc, "Stop_1", Vec::new(alloc))?;
@@ -264,17 +334,17 @@ fn removal(alloc: Global, signature: &Signature) -> Result<Rule, Fail>
 }
 
 /// The predicate of that identifier which holds where `K(2){x}` occurs.
-fn predicate_of(alloc: Global, signature: &Signature, name: &str) -> Result<Predicate, Fail>
+fn predicate_of(alloc: Global, signature: &Signature, name: &str) -> Result<Predicate, Ended>
     ensures kept { IfOk result (λ predicate. IsPattern predicate.pattern) }
     ensures fits { IfOk result (λ predicate. IsValidUnder signature.now predicate.pattern) }
 {
-    let label = label_of(alloc, name, vec![in alloc; Value::Int(3)]?)?;
+    let label = label_of(alloc, name, only(alloc, Value::Int(3))?)?;
     let pattern = pattern_of(alloc, signature, K_AT_X)?;
     Ok(Predicate { label, pattern })
 }
 
 /// Both rules.
-fn rules_of(alloc: Global, signature: &Signature) -> Result<Vec<Rule>, Fail>
+fn rules_of(alloc: Global, signature: &Signature) -> Result<Vec<Rule>, Ended>
     ensures { IfOk result (λ rules. All (λ (rule : RuleParts). IsRuleUnder signature.now 2 rule) rules.items) }
 {
     let mut rules = Vec::new(alloc);
@@ -284,12 +354,12 @@ fn rules_of(alloc: Global, signature: &Signature) -> Result<Vec<Rule>, Fail>
 }
 
 /// A system of two rules and a predicate.
-fn large_system(alloc: Global) -> Result<System, Fail> {
+fn large_system(alloc: Global) -> Result<System, Ended> {
     let signature = signature_of(alloc, LARGE_SIGNATURE)?;
     let init = host_of(alloc, &signature, A_ALONE)?;
     let rules = rules_of(alloc, &signature)?;
     let predicate = predicate_of(alloc, &signature, "seen")?;
-    let preds = vec![in alloc; predicate]?;
+    let preds = only(alloc, predicate)?;
     system_of(signature, init, rules, preds)
 }
 
@@ -312,7 +382,7 @@ const LARGE_LISTING: &str = "signature 2\nA 0 normal\nK(2) 1 atomic\n\
     pred seen(3)\nbigraph 1\nsites 0\ninner 0\nouter 1\nx\nedges 0\nnodes 1\n0 K(2) r0 =x\n";
 
 #[test]
-fn writes_rules_conditions_and_predicates(rt: HostRuntime) -> Result<(), Fail> {
+fn writes_rules_conditions_and_predicates(rt: HostRuntime) -> Result<(), Ended> {
     let system = large_system(rt.alloc())?;
     let mut written = Vec::new(rt.alloc());
     write_system(rt.alloc(), &system, &mut written)?;

@@ -1,14 +1,12 @@
-use bg_base::{Big, Signature};
+use bg_base::{Big, CheckFault, Signature};
 use bg_listing::*;
 use std::alloc::Global;
-use std::test::*;
 
 const START: Cursor = Cursor { offset: 0, line: 1 };
 
-/// A signature, the context `A` with a site in it, and the atom `B`, one after the other.
-const TWO_BIGRAPHS: &str = "signature 2\nA 0 normal\nB 0 atomic\n\
-    bigraph 1\nsites 1\nn0\ninner 0\nouter 0\nedges 0\nnodes 1\n0 A r0\n\
-    bigraph 1\nsites 0\ninner 0\nouter 0\nedges 0\nnodes 1\n1 B r0\n";
+/// A signature, and `A` with a site in it.
+const ONE_BIGRAPH: &str = "signature 2\nA 0 normal\nB 0 atomic\n\
+    bigraph 1\nsites 1\nn0\ninner 0\nouter 0\nedges 0\nnodes 1\n0 A r0\n";
 
 /// Every spelling of a listing, one after the other.
 const SPELLINGS: &str =
@@ -26,54 +24,37 @@ fn read_both(alloc: Global, text: &[u8]) -> Result<(Signature, Big, Cursor), Lis
     Ok((signature, big, end))
 }
 
-#[test]
-fn reads_a_signature_and_two_bigraphs(rt: HostRuntime) -> Result<(), Fail> {
-    let text = TWO_BIGRAPHS.as_bytes();
-    let (signature, first) = read_signature(rt.alloc(), text, START)
-        .ok()
-        .ok_or("the signature is read")?;
-    assert!(rt;
-        first
-            == Cursor {
-                offset: 34,
-                line: 4
-            }
-    );
-    let (outer, second) = read_big(rt.alloc(), text, first, &signature)
-        .ok()
-        .ok_or("the first bigraph is read")?;
-    assert!(rt; second.line == 12);
-    assert!(rt; outer.sites.len() == 1);
-    let (inner, end) = read_big(rt.alloc(), text, second, &signature)
-        .ok()
-        .ok_or("the second bigraph is read")?;
-    assert!(rt;
-        end == Cursor {
-            offset: 151,
-            line: 19
-        }
-    );
-    assert!(rt; inner.nodes.len() == 1);
-    Ok(())
+/// The code and the line with which a text of a signature and a bigraph is refused; none where both are read.
+fn refusal_of(alloc: Global, text: &[u8]) -> Result<Option<(u8, u32)>, ListingFault> {
+    match read_both(alloc, text) {
+        Ok(_) => Ok(None),
+        Err(ListingFault::Bad { code, line }) => Ok(Some((code, line))),
+        Err(ListingFault::OutOfMemory) => Err(ListingFault::OutOfMemory),
+    }
 }
 
+/// The listing of a signature and of a bigraph, where it is valid under the signature.
+fn written(alloc: Global, signature: &Signature, big: &Big) -> Result<Vec<u8>, ListingFault> {
+    let mut written = Vec::new(alloc);
+    write_signature(alloc, signature, &mut written)?;
+    match big.check(alloc, signature) {
+        Ok(()) => write_big(alloc, signature, big, &mut written)?,
+        Err(CheckFault::Malformed { .. }) => {}
+        Err(CheckFault::OutOfMemory) => return Err(ListingFault::OutOfMemory),
+    }
+    Ok(written)
+}
+
+/// Texts that are read to their end, and the line behind it.
+const READ: [(&str, u32); 2] = [(SPELLINGS, 27), (ONE_BIGRAPH, 12)];
+
 #[test]
-fn writes_what_it_reads(rt: HostRuntime) -> Result<(), Fail> {
-    for &text in [SPELLINGS, &TWO_BIGRAPHS[..94]].iter() {
-        let (signature, big, end) = read_both(rt.alloc(), text.as_bytes())
-            .ok()
-            .ok_or("both are read")?;
+fn writes_what_it_reads(rt: HostRuntime) -> Result<(), ListingFault> {
+    for &(text, line) in READ.iter() {
+        let (signature, big, end) = read_both(rt.alloc(), text.as_bytes())?;
         assert!(rt; end.offset as usize == text.len());
-        let mut written = Vec::new(rt.alloc());
-        write_signature(rt.alloc(), &signature, &mut written)
-            .ok()
-            .ok_or("the signature is written")?;
-        if big.check(rt.alloc(), &signature).is_ok() {
-            write_big(rt.alloc(), &signature, &big, &mut written)
-                .ok()
-                .ok_or("the bigraph is written")?;
-        }
-        assert!(rt; written.as_slice() == text.as_bytes());
+        assert!(rt; end.line == line);
+        assert!(rt; written(rt.alloc(), &signature, &big)?.as_slice() == text.as_bytes());
     }
     Ok(())
 }
@@ -149,97 +130,112 @@ const REFUSED: [(&str, u8, u32); 30] = [
 ];
 
 #[test]
-fn refuses_with_the_code_and_the_line(rt: HostRuntime) {
+fn refuses_with_the_code_and_the_line(rt: HostRuntime) -> Result<(), ListingFault> {
     for &(text, code, line) in REFUSED.iter() {
-        let refused = match read_both(rt.alloc(), text.as_bytes()) {
-            Err(ListingFault::Bad { code, line }) => (code, line),
-            Err(ListingFault::OutOfMemory) => (0, 0),
-            Ok(_) => (0, 1),
-        };
-        assert!(rt; refused == (code, line), "{text}");
+        assert!(rt;
+            refusal_of(rt.alloc(), text.as_bytes())? == Some((code, line)),
+            "{text}"
+        );
     }
+    Ok(())
 }
 
 /// Every proper prefix of a text that is read is refused with 1 at the line of its end.
 #[test]
-fn refuses_every_prefix_at_its_end(rt: HostRuntime) {
+fn refuses_every_prefix_at_its_end(rt: HostRuntime) -> Result<(), ListingFault> {
     let text = SPELLINGS.as_bytes();
     let mut line = 1;
     for (length, byte) in text.iter().enumerate() {
-        let refused = match read_both(rt.alloc(), &text[..length]) {
-            Err(ListingFault::Bad { code, line }) => (code, line),
-            Err(ListingFault::OutOfMemory) => (0, 0),
-            Ok(_) => (0, 1),
-        };
-        assert!(rt; refused == (BAD_LINE, line), "the first {length} bytes");
+        let refused = refusal_of(rt.alloc(), &text[..length])?;
+        assert!(rt;
+            refused == Some((BAD_LINE, line)),
+            "the first {length} bytes"
+        );
         if *byte == b'\n' && line < 1000 {
             line += 1;
         }
     }
+    Ok(())
+}
+
+/// Texts, and the labels that they begin with.
+const LABELS: [(&str, &str); 12] = [
+    ("K", "K"),
+    ("Room'_2 16", "Room'_2"),
+    ("K(3)(4)", "K(3)"),
+    ("K(3,\"a, b) \")x", "K(3,\"a, b) \")"),
+    ("K(-9223372036854775808)", "K(-9223372036854775808)"),
+    ("K(9223372036854775808)", "K"),
+    ("K(\"\")", "K(\"\")"),
+    ("K()", "K"),
+    ("K(-0)", "K"),
+    ("K(03)", "K"),
+    ("K(3,x", "K"),
+    ("K(3 )", "K"),
+];
+
+/// The label that the text begins with, as it is written, where as many bytes of the text were read; none where the
+/// text begins with none.
+fn label_in(alloc: Global, text: &str) -> Result<Option<Vec<u8>>, ListingFault> {
+    if text.len() > 1_000 {
+        return Ok(None);
+    }
+    let Some((label, end)) = read_label(alloc, text.as_bytes(), 0)? else {
+        return Ok(None);
+    };
+    let mut written = Vec::new(alloc);
+    write_label(alloc, &label, &mut written)?;
+    if written.len() == end as usize {
+        Ok(Some(written))
+    } else {
+        Ok(None)
+    }
 }
 
 #[test]
-fn reads_the_longest_label(rt: HostRuntime) -> Result<(), Fail> {
-    let table = [
-        ("K", 1),
-        ("Room'_2 16", 7),
-        ("K(3)(4)", 4),
-        ("K(3,\"a, b) \")x", 13),
-        ("K(-9223372036854775808)", 23),
-        ("K(9223372036854775808)", 1),
-        ("K(\"\")", 5),
-        ("K()", 1),
-        ("K(-0)", 1),
-        ("K(03)", 1),
-        ("K(3,x", 1),
-        ("K(3 )", 1),
-    ];
-    for &(text, length) in table.iter() {
-        let found = read_label(rt.alloc(), text.as_bytes(), 0)
-            .ok()
-            .ok_or("there is memory")?;
-        let (label, end) = found.ok_or("a label stands there")?;
-        assert!(rt; end == length, "{text}");
-        let mut written = Vec::new(rt.alloc());
-        write_label(rt.alloc(), &label, &mut written)
-            .ok()
-            .ok_or("the label is written")?;
-        assert!(rt; written.as_slice() == &text.as_bytes()[..length as usize]);
-    }
-    for &text in ["", "k", "3", "'K", "(3)"].iter() {
-        let found = read_label(rt.alloc(), text.as_bytes(), 0)
-            .ok()
-            .ok_or("there is memory")?;
-        assert!(rt; found.is_none(), "{text}");
+fn reads_the_longest_label(rt: HostRuntime) -> Result<(), ListingFault> {
+    for &(text, label) in LABELS.iter() {
+        let written = label_in(rt.alloc(), text)?.expect(&rt, "a label");
+        assert!(rt; written.as_slice() == label.as_bytes(), "{text}");
     }
     Ok(())
 }
 
 #[test]
-fn reads_and_writes_numbers(rt: HostRuntime) -> Result<(), Fail> {
-    let table = [
-        ("0", 9, Some((0, 1))),
-        ("12x", 12, Some((12, 2))),
-        ("13", 12, None),
-        ("00", 9, None),
-        ("07", 9, None),
-        ("", 9, None),
-        ("x", 9, None),
-        ("-1", 9, None),
-        ("4294967295", 4294967295, Some((4294967295, 10))),
-        ("4294967296", 4294967295, None),
-        ("99999999999999999999999999", 4294967295, None),
-    ];
-    for &(text, most, found) in table.iter() {
+fn reads_no_label(rt: HostRuntime) -> Result<(), ListingFault> {
+    for &text in ["", "k", "3", "'K", "(3)"].iter() {
+        assert!(rt; label_in(rt.alloc(), text)?.is_none(), "{text}");
+    }
+    Ok(())
+}
+
+/// Texts, the most that a number may be, and the number that the text begins with and its end.
+const NUMBERS: [(&str, u32, Option<(u32, u32)>); 11] = [
+    ("0", 9, Some((0, 1))),
+    ("12x", 12, Some((12, 2))),
+    ("13", 12, None),
+    ("00", 9, None),
+    ("07", 9, None),
+    ("", 9, None),
+    ("x", 9, None),
+    ("-1", 9, None),
+    ("4294967295", 4294967295, Some((4294967295, 10))),
+    ("4294967296", 4294967295, None),
+    ("99999999999999999999999999", 4294967295, None),
+];
+
+#[test]
+fn reads_numbers(rt: HostRuntime) {
+    for &(text, most, found) in NUMBERS.iter() {
         assert!(rt; read_number(text.as_bytes(), 0, most) == found, "{text}");
     }
+}
+
+#[test]
+fn writes_numbers(rt: HostRuntime) -> Result<(), ListingFault> {
     let mut written = Vec::new(rt.alloc());
-    write_number(rt.alloc(), 4294967295, &mut written)
-        .ok()
-        .ok_or("the number is written")?;
-    write_number(rt.alloc(), 0, &mut written)
-        .ok()
-        .ok_or("the number is written")?;
+    write_number(rt.alloc(), 4294967295, &mut written)?;
+    write_number(rt.alloc(), 0, &mut written)?;
     assert!(rt; written.as_slice() == b"42949672950".as_slice());
     Ok(())
 }

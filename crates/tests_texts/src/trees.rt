@@ -1,8 +1,8 @@
+use bg_syntax::tree::models::SynModel;
 use bg_syntax::tree::statements::SynStmt;
 use bg_syntax::*;
-use bg_text::tokens;
+use bg_text::{LexFault, tokens};
 use std::alloc::{AllocError, Global};
-use std::test::*;
 
 /// Texts that are models.
 const MODELS: [&str; 9] = [
@@ -29,22 +29,24 @@ const OTHERS: [(&str, u8, u32); 8] = [
     ("fun atomic big s = 1;", 31, 2),
 ];
 
-/// The code of the fault and its token; 0 and the number of statements for a model, and 1 for want of memory.
-fn outcome(alloc: Global, text: &str) -> (u8, u32) {
+/// The code of the fault and its token; 0 and the number of statements for a model.
+fn outcome(alloc: Global, text: &str) -> Result<(u8, u32), SyntaxFault> {
     if text.len() > 10_000 {
-        return (2, 0);
+        return Ok((2, 0));
     }
-    let Ok(tokens) = tokens(alloc, text.as_bytes()) else {
-        return (3, 0);
+    let tokens = match tokens(alloc, text.as_bytes()) {
+        Ok(tokens) => tokens,
+        Err(LexFault::Bad { .. }) => return Ok((3, 0)),
+        Err(LexFault::OutOfMemory) => return Err(SyntaxFault::OutOfMemory),
     };
     if tokens.len() > 10_000 {
-        return (4, 0);
+        return Ok((4, 0));
     }
     match parse(alloc, &tokens) {
-        Ok(tree) => (0, tree.part1.len().min(10_000) as u32),
-        Err(SyntaxFault::Unexpected { token }) => (UNEXPECTED, token),
-        Err(SyntaxFault::TooDeep { token }) => (TOO_DEEP, token),
-        Err(SyntaxFault::OutOfMemory) => (1, 0),
+        Ok(tree) => Ok((0, tree.part1.len().min(10_000) as u32)),
+        Err(SyntaxFault::Unexpected { token }) => Ok((UNEXPECTED, token)),
+        Err(SyntaxFault::TooDeep { token }) => Ok((TOO_DEEP, token)),
+        Err(SyntaxFault::OutOfMemory) => Err(SyntaxFault::OutOfMemory),
     }
 }
 
@@ -69,17 +71,19 @@ fn nested(
 }
 
 #[test]
-fn reads_models(rt: HostRuntime) {
+fn reads_models(rt: HostRuntime) -> Result<(), SyntaxFault> {
     for &text in MODELS.iter() {
-        assert!(rt; outcome(rt.alloc(), text).0 == 0, "{text}");
+        assert!(rt; outcome(rt.alloc(), text)?.0 == 0, "{text}");
     }
+    Ok(())
 }
 
 #[test]
-fn refuses_other_texts_at_the_first_fault(rt: HostRuntime) {
+fn refuses_other_texts_at_the_first_fault(rt: HostRuntime) -> Result<(), SyntaxFault> {
     for &(text, code, token) in OTHERS.iter() {
-        assert!(rt; outcome(rt.alloc(), text) == (code, token), "{text}");
+        assert!(rt; outcome(rt.alloc(), text)? == (code, token), "{text}");
     }
+    Ok(())
 }
 
 /// How many brackets stand around what, and the outcome.
@@ -92,35 +96,37 @@ const NESTED: [(usize, &str, usize, (u8, u32)); 5] = [
 ];
 
 #[test]
-fn takes_255_brackets_and_no_more(rt: HostRuntime) -> Result<(), Fail> {
+fn takes_255_brackets_and_no_more(rt: HostRuntime) -> Result<(), SyntaxFault> {
     for &(opening, middle, closing, found) in NESTED.iter() {
-        let text = nested(rt.alloc(), opening, middle, closing)?;
+        let Ok(text) = nested(rt.alloc(), opening, middle, closing) else {
+            return Err(SyntaxFault::OutOfMemory);
+        };
         assert!(rt;
-            outcome(rt.alloc(), text.as_str()) == found,
+            outcome(rt.alloc(), text.as_str())? == found,
             "{opening} {middle}"
         );
     }
     Ok(())
 }
 
-#[test]
-fn keeps_tokens_by_their_numbers(rt: HostRuntime) -> Result<(), Fail> {
-    let tokens = tokens(rt.alloc(), b"ctrl A = 0; big s = A.A;")
-        .ok()
-        .ok_or("the text has tokens")?;
-    if tokens.len() > 100 {
-        return Err("there are twelve tokens")?;
-    }
-    let tree = parse(rt.alloc(), &tokens)
-        .ok()
-        .ok_or("the text is a model")?;
+/// The tokens of the last statement, a bigraph's: `big`, the name, `=` and the semicolon; none of another.
+fn places_of(tree: &SynModel) -> [u32; 4] {
     let Some(item) = tree.part1.last() else {
-        return Err("there are two statements")?;
+        return [0; 4];
     };
-    let places = match &item.part1 {
+    match &item.part1 {
         SynStmt::Way4(big, bigraph) => [*big, bigraph.part1, bigraph.part3, bigraph.part5],
         _ => [0; 4],
+    }
+}
+
+#[test]
+fn keeps_tokens_by_their_numbers(rt: HostRuntime) -> Result<(), SyntaxFault> {
+    let Ok(tokens) = tokens(rt.alloc(), b"ctrl A = 0; big s = A.A;") else {
+        return Err(SyntaxFault::OutOfMemory);
     };
-    assert!(rt; places == [5, 6, 7, 11]);
+    assert!(rt; tokens.len() == 12);
+    let tree = parse(rt.alloc(), &tokens)?;
+    assert!(rt; places_of(&tree) == [5, 6, 7, 11]);
     Ok(())
 }

@@ -15,16 +15,17 @@ bare_host valid =
         ground = ground;
         names_plain = λ k d below. absurd (omega arith);
         edges_used = λ k d below. absurd (omega arith);
-        few_nodes = omega arith;
-        few_edges = omega arith;
       };
       numbered = record {
         ground = ground;
         nodes_below = λ k d below. absurd (omega arith);
         edges_below = λ k d below. absurd (omega arith);
       };
-      next_node_small = omega arith;
-      next_edge_small = omega arith;
+      within = record {
+        few_nodes = omega arith;
+        few_edges = omega arith;
+        counters_small = record { next_node_small = omega arith; next_edge_small = omega arith };
+      };
     }
 
 without_rules : (system : SystemParts) → IsHost system.init → IsValidUnder system.signature system.init.big → system.rules ≡ [] → system.preds ≡ [] → IsSystem system

@@ -3,5 +3,5 @@ use Rattle.tests_matching.proofs.decompositions.split_at.Goals as goal
 
 pub returns : goal.returns
 returns g c =
-    joinable c.in_ok-host.host c.args.pattern.now c.args.map.now c.in_ok-parts.parts.map c.in_ok-parts.parts.context c.in_ok-parts.parts.images
+    joinable c.args.host.now c.args.pattern.now c.args.map.now c.in_ok-parts.parts.map c.in_ok-parts.parts.context c.in_ok-parts.parts.images
     c.in_ok-parts.parts.parameter c.in_ok-parts.ensures.map c.in_ok-parts.ensures.decomposes

@@ -1,6 +1,6 @@
 use Rattle.std.proofs.Common.{eqb-true}
 use Rattle.tests_matching.proofs.SmallCases.{no_number, one_number}
-use Rattle.tests_matching.proofs.reactions.has_first_edge.Goals as goal
+use Rattle.tests_matching.proofs.listed.has_first_edge.Goals as goal
 
 pub returns-in-empty : goal.returns-in-empty
 returns-in-empty c = λ t. no_number c.args.edges.now c.in-empty.len_below

@@ -1,7 +1,7 @@
 use Rattle.std.proofs.Common.{ap, sym, ◌∙◌, eqb-true}
 use Rattle.bg_base.specs.declared.big.NodeRow.{NodeRow}
 use Rattle.tests_matching.proofs.SmallCases.{no_row, one_row}
-use Rattle.tests_matching.proofs.reactions.has_first_node.Goals as goal
+use Rattle.tests_matching.proofs.listed.has_first_node.Goals as goal
 
 pub returns-in-empty : goal.returns-in-empty
 returns-in-empty c = λ t. no_row c.args.rows.now c.in-empty.len_below

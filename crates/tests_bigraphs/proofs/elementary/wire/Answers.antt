@@ -1,5 +1,5 @@
 use Rattle.std.specs.List.Sorted.{IsStrictlySortedBy}
-use Rattle.tests_bigraphs.proofs.products.wire.Goals as goal
+use Rattle.tests_bigraphs.proofs.elementary.wire.Goals as goal
 
 pub identity-requires-clause-ascending : goal.identity-requires-clause-ascending
 unfolding IsStrictlySortedBy
