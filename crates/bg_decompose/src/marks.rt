@@ -1,6 +1,6 @@
 //! Which nodes of a host are images of a pattern's nodes, or lie below one. Each node is climbed from until an image, a
 //! region or a row that is known, and the rows on the way are marked, so that none is climbed from twice.
-ghost use Rattle.std.specs.Prelude.{◌≡◌, true, length, filter, unwrap_or, is_some, None, Some, IfOk, MatchOption, slice_get, slice_set};
+ghost use Rattle.std.specs.Prelude.{◌≡◌, true, length, filter, is_some, None, Some, IfOk, MatchOption};
 ghost use Rattle.std.specs.List.Sorted.{IsSorted, IsStrictlySortedBy};
 ghost use Rattle.std.specs.Ordering.{nat_cmp};
 ghost use Rattle.bg_base.specs.Bigraph.{IsValid, node_cmp, row_of};
@@ -10,7 +10,7 @@ ghost use Rattle.bg_decompose.specs.Marks as mark;
 ghost use Rattle.bg_decompose.specs.Marks.{AreMarked};
 
 use bg_base::{Big, NodeRow, Place};
-use bg_lists::{Duplicate, Mem, Rows};
+use bg_lists::{Duplicate, Mem, Rows, mark_at, set_mark};
 use std::alloc::Global;
 
 /// The numbers in order.
@@ -38,24 +38,6 @@ fn row_at(rows: &[NodeRow], node: u32) -> Option<(usize, &NodeRow)>
     match rows.binary_search_by_key(&node, |row| row.id) {
         Ok(at) => Some((at, &rows[at])),
         Err(_) => None,
-    }
-}
-
-/// What is known of the row at that position.
-fn mark_at(marks: &[Option<bool>], at: usize) -> Option<bool>
-    ensures { result ≡ unwrap_or (slice_get marks.now at) None }
-{
-    match marks.get(at) {
-        Some(mark) => *mark,
-        None => None,
-    }
-}
-
-fn set_mark(marks: &mut [Option<bool>], at: usize, covered: bool)
-    ensures { marks.new ≡ slice_set marks.old at (Some covered) }
-{
-    if at < marks.len() {
-        marks[at] = Some(covered);
     }
 }
 

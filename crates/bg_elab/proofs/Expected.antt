@@ -10,8 +10,8 @@ use Rattle.bg_values.specs.declared.refusal.Cause.TheVariants as causes
 use Rattle.bg_values.specs.declared.refusal.Refusal.{Refusal}
 use Rattle.bg_values.specs.Arithmetic.{Formula, whole, words, name, negation, operation, ranged, applied, whole_of, value}
 use Rattle.bg_values.specs.Codes.{code}
-use Rattle.bg_values.specs.Operands.{Operand, each, values, number, numbers}
-use Rattle.bg_values.specs.Outcome.{◌>>=◌, there_or}
+use Rattle.bg_values.specs.Operands.{Operand, values, number, numbers}
+use Rattle.bg_values.specs.Outcome.{◌>>=◌, each, there_or}
 use Rattle.bg_values.specs.Parameters.{few, is_empty, count, range, evaluated_range}
 
 -- the cause has another number

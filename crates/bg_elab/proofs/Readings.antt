@@ -1,11 +1,10 @@
 -- A text has one reading, and its refusal is inside it.
-use Rattle.std.proofs.Common.{◌≡◌, ℕ, zero, suc, ◌+◌, ◌≤◌, List, [], ◌∷◌, length, slice_get, Result, Ok, Err, Some, None, refl, sym, ap, subst, ◌∙◌, arith, length-drop}
+use Rattle.std.proofs.Common.{◌≡◌, ℕ, zero, suc, ◌+◌, ◌≤◌, List, length, slice_get, Result, Ok, Err, sym, ap, subst, ◌∙◌, arith, length-drop}
 use Rattle.std.specs.Prelude.{IsErr, IsErrAnd}
-use Rattle.std.proofs.lemmas.List.Sums.{prefix_len-le-length}
 use Rattle.bg_elab.specs.declared.fault.Detail.{Detail}
 use Rattle.bg_elab.specs.declared.fault.ModelFault.{ModelFault}
 use Rattle.bg_elab.specs.declared.fault.ModelFault.TheVariants as faults
-use Rattle.bg_elab.specs.Elaboration.{start_or, bad, offset_of, text_of, Elaborates}
+use Rattle.bg_elab.specs.Elaboration.{start_or, offset_of, text_of, Elaborates}
 use Rattle.bg_elab.specs.Reading.{of_lexical, of_syntax, told, IsReading, no_tokens, unexpected, too_deep, comes_to, Reads}
 use Rattle.bg_elab.specs.Systems.{elaborated}
 use Rattle.bg_grammar.specs.Grammar.{Step}
@@ -23,64 +22,28 @@ use Rattle.bg_syntax.specs.Models.{kinds, DerivesModel, IsTreeOf, IsSyntaxFault}
 use Rattle.bg_text.specs.declared.fault.LexFault.{LexFault}
 use Rattle.bg_text.specs.declared.fault.LexFault.TheVariants as lexical
 use Rattle.bg_text.specs.declared.token.Token.{Token}
-use Rattle.bg_text.specs.Answers.{IsOnlyRefusal, IsLexFault}
-use Rattle.bg_text.specs.Spelling.{is_text_byte}
-use Rattle.bg_text.specs.Tokens.{IsGap, space, comment, is_not_line_feed, Refuses, bad_byte, bad_in_text, open_text, bad_number, Cuts, stop, gap, token, AreTokens, IsRefusal}
-use Rattle.bg_text.proofs.PieceLaws.{nothing_spelled}
+use Rattle.bg_text.specs.Answers.{IsLexFault}
+use Rattle.bg_text.specs.Tokens.{Cuts, stop, gap, token, AreTokens}
+use Rattle.bg_text.proofs.PieceLaws.{gap_within}
+use Rattle.bg_text.proofs.TokenLaws.{refusal_inside}
 use Rattle.bg_text.proofs.Unique.{tokens_once}
 use Rattle.bg_values.specs.declared.refusal.Refusal.{Refusal}
 use Rattle.bg_elab.proofs.SaidModels.{same_tokens}
 
 -- ---- places
 
-gap_inside : (bytes : List ℕ) (size : ℕ) → IsGap bytes size → size ≤ length bytes
-gap_inside [] size g = elim g [ ]
-gap_inside (b ∷ bytes) size (space e) = omega arith
-gap_inside (b ∷ bytes) size (comment e) = let h = prefix_len-le-length is_not_line_feed bytes in omega arith
-
--- a cut counts every byte
-cut_count : {n m : ℕ} {bytes left : List ℕ} {tokens : List Token} → Cuts n bytes tokens m left → n + length bytes ≡ m + length left
-cut_count stop = refl
-cut_count {bytes} (gap size g r) = let h = cut_count r in let l = length-drop size bytes in let i = gap_inside bytes size g in omega arith
-cut_count {bytes} (token kind size t r) = let h = cut_count r in let l = length-drop size bytes in let i = t.is_longest.inside in omega arith
-
 -- each token begins inside the text
 starts_inside : {n m : ℕ} {bytes left : List ℕ} {tokens : List Token} → Cuts n bytes tokens m left → (end number : ℕ) → n + length bytes ≤ end
     → start_or end (slice_get tokens number) ≤ end
 starts_inside stop end number l = omega arith
 starts_inside {bytes} (gap size g r) end number l =
-    starts_inside r end number (let h = length-drop size bytes in let i = gap_inside bytes size g in omega arith)
+    starts_inside r end number (let h = length-drop size bytes in let i = gap_within bytes size g in omega (arith, i.1))
 starts_inside (token kind size t r) end zero l = omega arith
 starts_inside {bytes} (token kind size t r) end (suc number) l =
     starts_inside r end number (let h = length-drop size bytes in let i = t.is_longest.inside in omega arith)
 
 offset_inside : (bytes : List ℕ) (tokens : List Token) (number : ℕ) → AreTokens bytes tokens → offset_of (text_of bytes tokens) number ≤ length bytes
 offset_inside bytes tokens number cut = starts_inside cut (length bytes) number (omega arith)
-
--- and takes a byte
-tokens_few : {n m : ℕ} {bytes left : List ℕ} {tokens : List Token} → Cuts n bytes tokens m left → length tokens ≤ length bytes
-tokens_few stop = omega arith
-tokens_few {bytes} (gap size g r) = let h = tokens_few r in let l = length-drop size bytes in omega arith
-tokens_few {bytes} (token kind size t r) =
-    let h = tokens_few r in
-    let l = length-drop size bytes in
-    let i = t.is_longest.inside in
-    let some = nothing_spelled bytes size kind t.is_longest.spelled in
-    omega arith
-
-pub as_many_bytes : (bytes : List ℕ) (tokens : List Token) → AreTokens bytes tokens → length tokens ≤ length bytes
-as_many_bytes bytes tokens cut = tokens_few cut
-
-refused_inside : (bytes : List ℕ) (code apart : ℕ) → Refuses bytes code apart → apart ≤ length bytes
-refused_inside [] code apart (bad_number l e) = omega arith
-refused_inside (b ∷ bytes) code apart (bad_byte g k) = omega arith
-refused_inside (b ∷ bytes) code apart (bad_in_text q e l) = let h = prefix_len-le-length is_text_byte bytes in omega arith
-refused_inside (b ∷ bytes) code apart (open_text q e) = omega arith
-refused_inside (b ∷ bytes) code apart (bad_number l e) = omega arith
-
-refusal_inside : (bytes : List ℕ) (code offset : ℕ) → IsRefusal bytes code offset → offset ≤ length bytes
-refusal_inside bytes code offset r =
-    let h = cut_count r.cut in let l = refused_inside r.left code r.apart r.refused in let o = r.offset_is in omega arith
 
 told_inside : (bytes : List ℕ) (tokens : List Token) (came : Result SystemParts Refusal) (code : ℕ) (detail : Detail) (offset : ℕ) → AreTokens bytes tokens
     → Err (faults.Bad code detail offset) ≡ told (text_of bytes tokens) came → offset ≤ length bytes

@@ -1,19 +1,14 @@
 -- What the bytes of a token spell, by its kind.
-use Rattle.std.proofs.Common.{◌≡◌, ℕ, zero, suc, ◌+◌, ◌-◌, ◌<◌, Bool, true, false, ◌&&◌, cond, eqb, ltb, List, [], ◌∷◌, Option, Some, None, slice_get, length, take, drop, codes, refl, sym, ap, subst, ◌∙◌, arith}
-use Rattle.std.specs.List.{list_all, prefix_len}
+use Rattle.std.proofs.Common.{◌≡◌, ℕ, suc, ◌-◌, Bool, true, false, ◌&&◌, cond, eqb, List, [], ◌∷◌, Option, Some, None, length, take, codes, refl, ap, subst, ◌∙◌, arith}
+use Rattle.std.specs.List.{list_all}
 use Rattle.std.specs.Char.{is_ascii_digit, is_ascii_lowercase, is_ascii_uppercase}
-use Rattle.std.specs.Str.Parse.{digits_value}
 use Rattle.std.proofs.lemmas.Bool.{and_parts}
 use Rattle.bg_base.specs.Spelling.{is_ident, is_text}
 use Rattle.bg_base.specs.Spelling.{is_letter, is_word_byte as is_name_byte}
-use Rattle.std.proofs.lemmas.List.{drop-drop}
-use Rattle.bg_text.specs.declared.token.Token.{Token}
 use Rattle.bg_text.specs.declared.token.TokenKind.{TokenKind}
 use Rattle.bg_text.specs.declared.token.TokenKind.TheVariants.{Lower, Upper, Zero, One, Num, Text, KwAtomic, KwBegin, KwBig, KwBrs, KwCtrl, KwCtx, KwEnd, KwFun, KwId, KwIf, KwIn, KwInit, KwInt, KwMerge, KwParam, KwPreds, KwReact, KwRules, KwString, Arrow, BarBar, Bar, Plus, Minus, Star, Slash, Dot, Comma, Semicolon, Colon, Equals, OpenBrace, CloseBrace, OpenRound, CloseRound, OpenSquare, CloseSquare, At, Bang}
 use Rattle.bg_text.specs.Spelling.{is_word_byte, is_text_byte, is_closed, same, lower_kind, number_kind, mark, symbol, only, kind_of}
-use Rattle.bg_text.specs.Tokens.{greatest, is_decimal, fault_of_digits, number_fault, IsLongest, IsToken, Cuts, stop, gap, token, AreTokens}
-use Rattle.bg_text.proofs.Longest.{digits_longest}
-use Rattle.bg_text.proofs.PieceLaws.{nothing_spelled}
+use Rattle.bg_text.specs.Tokens.{token}
 use Rattle.bg_values.specs.Reading.{between}
 
 -- what the bytes of a token of this kind pass; a number is judged further below
@@ -172,66 +167,3 @@ kind_passed (b ∷ word) =
 -- bytes pass what their kind asks
 pub passed : (word : List ℕ) (kind : TokenKind) → kind_of word ≡ Some kind → Passes kind word
 passed word kind e = (kind_passed word).passes kind e
-
--- ---- numbers fit
-
-not_large : (d v : Bool) → ◌≡◌ {A = ℕ} (cond d 24 (cond v 23 0)) 0 → v ≡ false
-not_large d false e = refl
-not_large true true e = absurd (omega arith)
-not_large false true e = absurd (omega arith)
-
-clash : (bytes : List ℕ) (kind : TokenKind) → kind_of bytes ≡ None → kind_of bytes ≡ Some kind → ⊥
-clash bytes kind e f = cc
-
-trichotomy : (n m : ℕ) → (n < m → ⊥) → (m < n → ⊥) → n ≡ m
-trichotomy n m h k = omega arith
-
-one_size : (bytes : List ℕ) (k j : TokenKind) (n m : ℕ) → IsLongest bytes k n → IsLongest bytes j m → n ≡ m
-one_size bytes k j n m a b =
-    trichotomy n m (λ l. clash (take m bytes) j (a.longest m l b.inside) b.spelled) (λ l. clash (take n bytes) k (b.longest n l a.inside) a.spelled)
-
-first_passes : (b size : ℕ) (bytes : List ℕ) → 0 < size → list_all is_ascii_digit (take size (b ∷ bytes)) ≡ true → is_ascii_digit b ≡ true
-first_passes b zero bytes l e = absurd (omega arith)
-first_passes b (suc size) bytes l e = (and_parts (is_ascii_digit b) (list_all is_ascii_digit (take size bytes)) e).0
-
--- a token of digits is no greater number than the greatest
-pub small : (bytes : List ℕ) (kind : TokenKind) (size : ℕ) → IsToken bytes kind size → list_all is_ascii_digit (take size bytes) ≡ true
-    → ltb greatest (digits_value 10 (take size bytes)) ≡ false
-unfolding number_fault
-small [] kind zero t e = refl
-small [] kind (suc size) t e = refl
-small (b ∷ bytes) kind size t e =
-    let digit : is_ascii_digit b ≡ true = first_passes b size bytes (nothing_spelled (b ∷ bytes) size kind t.is_longest.spelled) e in
-    let run = prefix_len is_ascii_digit (b ∷ bytes) in
-    let size_is = one_size (b ∷ bytes) kind (number_kind (take run (b ∷ bytes))) size run t.is_longest (digits_longest (b ∷ bytes) digit) in
-    let whole = fault_of_digits (take run (b ∷ bytes)) (drop run (b ∷ bytes)) in
-    let fault : whole ≡ 0 = sym (ap (λ v. cond v whole 0) digit) ∙ t.number in
-    ap (λ n. ltb greatest (digits_value 10 (take n (b ∷ bytes)))) size_is
-    ∙ not_large (is_decimal (drop run (b ∷ bytes))) (ltb greatest (digits_value 10 (take run (b ∷ bytes)))) fault
-
--- ---- the tokens of a text
-
-at_first : {one other : Token} → ◌≡◌ {A = Option Token} (Some one) (Some other) → one ≡ other
-at_first e = cc
-
-behind : (n size : ℕ) (bytes whole : List ℕ) → bytes ≡ drop n whole → drop size bytes ≡ drop (n + size) whole
-behind n size bytes whole e = ap (drop size) e ∙ drop-drop size n whole
-
-here : (whole bytes : List ℕ) (n size : ℕ) (kind : TokenKind) → bytes ≡ drop n whole → IsToken bytes kind size → IsToken (drop n whole) kind (n + size - n)
-here whole bytes n size kind e t =
-    let size_is : size ≡ n + size - n = omega arith in
-    subst (λ z. IsToken (drop n whole) kind z) size_is (subst (λ z. IsToken z kind size) e t)
-
--- each token of a cut stands in the text where it says
-cut_at : {n m : ℕ} {bytes left : List ℕ} {tokens : List Token} → Cuts n bytes tokens m left → (whole : List ℕ) → bytes ≡ drop n whole → (number : ℕ) (t : Token)
-    → slice_get tokens number ≡ Some t → IsToken (drop t.start whole) t.kind (t.end - t.start)
-cut_at stop whole e number t f = absurd cc
-cut_at {n} {bytes = bytes} (gap size g r) whole e number t f = cut_at r whole (behind n size bytes whole e) number t f
-cut_at {n} {bytes = bytes} (token kind size k r) whole e zero t f =
-    subst (λ z. IsToken (drop z.start whole) z.kind (z.end - z.start)) (at_first f) (here whole bytes n size kind e k)
-cut_at {n} {bytes = bytes} (token kind size k r) whole e (suc number) t f = cut_at r whole (behind n size bytes whole e) number t f
-
--- a token by its number
-pub token_at : (bytes : List ℕ) (tokens : List Token) (number : ℕ) (t : Token) → AreTokens bytes tokens → slice_get tokens number ≡ Some t
-    → IsToken (drop t.start bytes) t.kind (t.end - t.start)
-token_at bytes tokens number t cut f = cut_at cut bytes refl number t f

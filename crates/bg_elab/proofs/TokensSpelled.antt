@@ -16,7 +16,8 @@ use Rattle.bg_values.specs.Reading.{between}
 use Rattle.bg_values.specs.Scopes.{piece_of}
 use Rattle.bg_elab.specs.Spellings.{Spells}
 use Rattle.bg_elab.proofs.Leaves.{token_of_kind}
-use Rattle.bg_elab.proofs.Spelled.{passed, small, token_at}
+use Rattle.bg_elab.proofs.Spelled.{passed}
+use Rattle.bg_text.proofs.TokenLaws.{small, token_at}
 
 some_bytes : (word : List ℕ) (kind : TokenKind) → kind_of word ≡ Some kind → 0 < length word
 unfolding kind_of

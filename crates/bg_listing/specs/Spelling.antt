@@ -37,6 +37,10 @@ abbrev pub chain_text : {A : Type 0} → ℕ → ℕ → (A → List ℕ) → Li
 chain_text closing separator text [] = closing ∷ []
 chain_text closing separator text (a ∷ others) = separator ∷ text a ++ chain_text closing separator text others
 
+-- each number behind a space, and then the line feed
+abbrev pub numbers_line : List ℕ → List ℕ
+numbers_line numbers = chain_text line_feed space decimal numbers
+
 -- ---- parts of a line
 
 -- `r` and the region, or `n` and the node

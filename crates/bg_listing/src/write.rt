@@ -4,10 +4,11 @@ ghost use Rattle.std.specs.Fmt.{decimal};
 ghost use Rattle.std.specs.List.{flat_map};
 ghost use Rattle.bg_base.specs.Bigraph.{IsValidUnder};
 ghost use Rattle.bg_base.specs.declared.big.NodeRow.{NodeRow as NodeRowValue};
-ghost use Rattle.bg_listing.specs.Spelling.{label_text, node_line, section_text, signature_text, big_text};
+ghost use Rattle.bg_listing.specs.Spelling.{count_line, label_text, node_line, numbers_line, section_text, signature_text, big_text};
 
 use crate::writing::{
-    put_chain, put_count, put_label, put_lines, put_number, put_place, put_section,
+    put_chain, put_count, put_label, put_lines, put_number, put_numbers, put_place, put_section,
+    put_size,
 };
 use bg_base::{Big, Control, InnerRow, Label, Link, Name, NodeRow, Place, Signature};
 use bg_lists::{Mem, Rows};
@@ -21,6 +22,42 @@ pub fn write_number(alloc: Global, number: u32, out: &mut Vec<u8>) -> Mem<()>
 {
     let mut text = Vec::new(alloc);
     put_number(alloc, number, &mut text)?;
+    out.extend_from_slice(text.as_slice())?;
+    Ok(())
+}
+
+/// Appends a number of items, or the position of one, as [`write_number`] does a number of 32 bits. After an error `out`
+/// is unchanged. Costs time in proportion to the digits.
+pub fn write_size(alloc: Global, size: usize, out: &mut Vec<u8>) -> Mem<()>
+    ensures ok { OnOk result (out.new.items ≡ out.old.items ++ decimal size) }
+    ensures err { OnErr result (out.new.items ≡ out.old.items) }
+{
+    let mut text = Vec::new(alloc);
+    put_size(alloc, size, &mut text)?;
+    out.extend_from_slice(text.as_slice())?;
+    Ok(())
+}
+
+/// Appends a line that counts: the word, which ends in a space, the number of items and the line feed. After an error
+/// `out` is unchanged. Linear in the line.
+pub fn write_count(alloc: Global, word: &[u8], count: usize, out: &mut Vec<u8>) -> Mem<()>
+    ensures ok { OnOk result (out.new.items ≡ out.old.items ++ count_line word.now count) }
+    ensures err { OnErr result (out.new.items ≡ out.old.items) }
+{
+    let mut text = Vec::new(alloc);
+    put_count(alloc, word, count, &mut text)?;
+    out.extend_from_slice(text.as_slice())?;
+    Ok(())
+}
+
+/// Appends what ends a line of numbers: each behind a space, and then the line feed. After an error `out` is unchanged.
+/// Linear in what is written.
+pub fn write_numbers(alloc: Global, numbers: &[u32], out: &mut Vec<u8>) -> Mem<()>
+    ensures ok { OnOk result (out.new.items ≡ out.old.items ++ numbers_line numbers.now) }
+    ensures err { OnErr result (out.new.items ≡ out.old.items) }
+{
+    let mut text = Vec::new(alloc);
+    put_numbers(alloc, numbers, &mut text)?;
     out.extend_from_slice(text.as_slice())?;
     Ok(())
 }
@@ -65,7 +102,7 @@ pub fn write_big(alloc: Global, signature: &Signature, big: &Big, out: &mut Vec<
 fn put_signature(alloc: Global, signature: &Signature, out: &mut Vec<u8>) -> Mem<()>
     ensures { OnOk result (out.new.items ≡ out.old.items ++ signature_text signature.now) }
 {
-    put_count(alloc, b"signature ", signature.len(), out)?;
+    put_count(alloc, b"signature ", signature.len() as usize, out)?;
     put_lines::<Control>(alloc, signature.controls(), out)
 }
 
@@ -74,7 +111,7 @@ fn put_big(alloc: Global, signature: &Signature, big: &Big, out: &mut Vec<u8>) -
     requires { All (λ (row : NodeRowValue). row.control < length signature.now) big.now.nodes }
     ensures { OnOk result (out.new.items ≡ out.old.items ++ big_text signature.now big.now) }
 {
-    put_count(alloc, b"bigraph ", big.regions, out)?;
+    put_count(alloc, b"bigraph ", big.regions as usize, out)?;
     put_section::<Place>(alloc, b"sites ", &big.sites, out)?;
     put_section::<InnerRow>(alloc, b"inner ", &big.inner, out)?;
     put_section::<Name>(alloc, b"outer ", &big.outer, out)?;
@@ -92,7 +129,7 @@ fn put_node_section(
     requires { All (λ (row : NodeRowValue). row.control < length signature.now) rows.now }
     ensures { OnOk result (out.new.items ≡ out.old.items ++ section_text (codes "nodes ") (node_line signature.now) rows.now) }
 {
-    put_count(alloc, b"nodes ", rows.len(), out)?;
+    put_count(alloc, b"nodes ", rows.len() as usize, out)?;
     put_nodes(alloc, signature, rows.as_slice(), out)
 }
 

@@ -25,6 +25,15 @@ pub(crate) fn put_number(alloc: Global, number: u32, out: &mut Vec<u8>) -> Mem<(
     Ok(())
 }
 
+/// A number of items, or the position of one.
+pub(crate) fn put_size(alloc: Global, size: usize, out: &mut Vec<u8>) -> Mem<()>
+    ensures { OnOk result (out.new.items ≡ out.old.items ++ decimal size) }
+{
+    let digits = size.to_string(alloc)?;
+    out.extend_from_slice(digits.as_bytes())?;
+    Ok(())
+}
+
 pub(crate) fn put_place(alloc: Global, place: Place, out: &mut Vec<u8>) -> Mem<()>
     ensures { OnOk result (out.new.items ≡ out.old.items ++ spelling.place_text place) }
 {
@@ -163,11 +172,23 @@ pub(crate) fn put_lines<P: Spelled>(alloc: Global, items: &[P], out: &mut Vec<u8
 }
 
 /// A word, a number and the line feed.
-pub(crate) fn put_count(alloc: Global, word: &[u8], count: u32, out: &mut Vec<u8>) -> Mem<()>
+pub(crate) fn put_count(alloc: Global, word: &[u8], count: usize, out: &mut Vec<u8>) -> Mem<()>
     ensures { OnOk result (out.new.items ≡ out.old.items ++ spelling.count_line word.now count) }
 {
     out.extend_from_slice(word)?;
-    put_number(alloc, count, out)?;
+    put_size(alloc, count, out)?;
+    out.push(b'\n')?;
+    Ok(())
+}
+
+/// Each number behind a space, and then the line feed.
+pub(crate) fn put_numbers(alloc: Global, numbers: &[u32], out: &mut Vec<u8>) -> Mem<()>
+    ensures { OnOk result (out.new.items ≡ out.old.items ++ spelling.numbers_line numbers.now) }
+{
+    for number in numbers {
+        out.push(b' ')?;
+        put_number(alloc, *number, out)?;
+    }
     out.push(b'\n')?;
     Ok(())
 }
@@ -181,7 +202,7 @@ pub(crate) fn put_section<P: Spelled>(
 ) -> Mem<()>
     ensures { OnOk result (out.new.items ≡ out.old.items ++ spelling.section_text word.now P.text_of items.now) }
 {
-    put_count(alloc, word, items.len(), out)?;
+    put_count(alloc, word, items.len() as usize, out)?;
     put_lines(alloc, items.as_slice(), out)
 }
 

@@ -3,7 +3,7 @@ use Rattle.std.specs.Prelude.{ℕ, ◌+◌, Bool, true, false, List, [], ◌∷�
 use Rattle.std.specs.Fmt.{decimal}
 use Rattle.bg_base.specs.declared.signature.Control.{Control}
 use Rattle.bg_base.specs.declared.big.Big.{Big}
-use Rattle.bg_listing.specs.Spelling.{space, line_feed, chain_text, label_text, big_text}
+use Rattle.bg_listing.specs.Spelling.{numbers_line, label_text, big_text}
 use Rattle.bg_rules.specs.Decomposition.{Decomposes}
 use Rattle.bg_rules.specs.Occurrences.{AreOccurrences}
 use Rattle.bg_rules.specs.Rules.{RuleParts}
@@ -12,11 +12,11 @@ use Rattle.bg_rules.specs.Systems.{SystemParts}
 -- the line of a map: its numbers, a space between each and the next
 abbrev pub map_line : List ℕ → List ℕ
 map_line [] = codes "\n"
-map_line (number ∷ numbers) = decimal number ++ chain_text line_feed space decimal numbers
+map_line (number ∷ numbers) = decimal number ++ numbers_line numbers
 
 -- the line of the images of edges, each behind a space
 abbrev pub images_line : List ℕ → List ℕ
-images_line images = codes "images" ++ chain_text line_feed space decimal images
+images_line images = codes "images" ++ numbers_line images
 
 -- the images of the pattern's edges, and the listings of the context and of the parameter
 unfoldable pub decomposition_text : List Control → Big → List ℕ → Big → List ℕ

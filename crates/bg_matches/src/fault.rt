@@ -1,15 +1,12 @@
-//! Why nothing is written.
+//! Why the occurrences of a rule are not listed.
 use bg_lists::OutOfMemory;
-use thiserror::Error;
 
-/// Why the occurrences of a system's rules are not written.
-#[derive(Clone, Copy, Debug, PartialEq, Eq, Error)]
-pub enum MatchesFault {
+/// Why the occurrences of a system's rules are not all listed.
+#[derive(Clone, Copy, Debug, PartialEq, Eq)]
+pub(crate) enum MatchesFault {
     /// The rule with this number is the first with more occurrences than were asked for.
-    #[error("a rule has too many occurrences")]
     TooMany { rule: u32 },
     /// There was no memory.
-    #[error("out of memory")]
     OutOfMemory,
 }
 

@@ -1,7 +1,7 @@
 //! What is written of the occurrences of the rules of a system in its host.
 //!
-//! - [`write_matches`]: all occurrences of each rule. [`write_excess`]: that a rule has more than were asked for.
-//! - [`MatchesFault`]: why nothing is written. [`laws::systems_have_one_text`]: there is one such text.
+//! - [`write_matches`]: all occurrences of each rule, or that a rule has more than were asked for ([`Written`]).
+//! - [`laws::systems_have_one_text`]: there is one text of all occurrences.
 #![tactic(auto)]
 
 mod fault;
@@ -11,5 +11,4 @@ mod matches;
 mod occurrence;
 mod rule_matches;
 
-pub use fault::MatchesFault;
-pub use matches::{write_excess, write_matches};
+pub use matches::{Written, write_matches};

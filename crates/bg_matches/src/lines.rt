@@ -5,7 +5,7 @@ ghost use Rattle.bg_listing.specs.Spelling as spelling;
 ghost use Rattle.bg_matches.specs.Counts.{excess_line};
 ghost use Rattle.bg_matches.specs.MatchText as listing;
 
-use bg_listing::{write_label, write_number};
+use bg_listing::{write_label, write_number, write_numbers, write_size};
 use bg_lists::Mem;
 use bg_rules::Rule;
 use std::alloc::Global;
@@ -57,7 +57,7 @@ fn put_class_and_count(alloc: Global, rule: &Rule, count: usize, out: &mut Vec<u
     out.extend_from_slice(b" class ")?;
     write_number(alloc, rule.class(), out)?;
     out.extend_from_slice(b" count ")?;
-    put_count(alloc, count, out)?;
+    write_size(alloc, count, out)?;
     out.push(b'\n')?;
     Ok(())
 }
@@ -105,7 +105,7 @@ pub(crate) fn put_map(alloc: Global, map: &[u32], out: &mut Vec<u8>) -> Mem<()>
         }
         Some((first, others)) => {
             write_number(alloc, *first, out)?;
-            put_numbers(alloc, others, out)
+            write_numbers(alloc, others, out)
         }
     }
 }
@@ -115,26 +115,5 @@ pub(crate) fn put_images(alloc: Global, images: &[u32], out: &mut Vec<u8>) -> Me
     ensures { OnOk result (out.new.items ≡ out.old.items ++ listing.images_line images.now) }
 {
     out.extend_from_slice(b"images")?;
-    put_numbers(alloc, images, out)
-}
-
-/// Each number behind a space, and then the line feed.
-fn put_numbers(alloc: Global, numbers: &[u32], out: &mut Vec<u8>) -> Mem<()>
-    ensures { OnOk result (out.new.items ≡ out.old.items ++ spelling.chain_text spelling.line_feed spelling.space decimal numbers.now) }
-{
-    for number in numbers {
-        out.push(b' ')?;
-        write_number(alloc, *number, out)?;
-    }
-    out.push(b'\n')?;
-    Ok(())
-}
-
-/// A number of items.
-fn put_count(alloc: Global, count: usize, out: &mut Vec<u8>) -> Mem<()>
-    ensures { OnOk result (out.new.items ≡ out.old.items ++ decimal count) }
-{
-    let digits = count.to_string(alloc)?;
-    out.extend_from_slice(digits.as_bytes())?;
-    Ok(())
+    write_numbers(alloc, images, out)
 }

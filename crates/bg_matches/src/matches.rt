@@ -1,22 +1,32 @@
 //! The writers of what the command `match` answers.
-ghost use Rattle.std.specs.Prelude.{◌≡◌, ◌<◌, ◌++◌, ℕ, List, Some, slice_get, length, take, IfErr, OnOk, OnErr};
+ghost use Rattle.std.specs.Prelude.{◌≡◌, ◌<◌, ◌++◌, ℕ, Some, slice_get, length, take, IfOk, IfErr, OnOk, OnErr};
 ghost use Rattle.bg_matches.specs.declared.fault.MatchesFault.TheVariants.{TooMany};
 ghost use Rattle.bg_matches.specs.Appending.{Appends};
 ghost use Rattle.bg_matches.specs.Counts.{AreFew, IsFirstExcess, excess_line};
+ghost use Rattle.bg_matches.specs.Outcomes.{IsWritten};
 ghost use Rattle.bg_matches.specs.MatchText.{IsMatchText};
 ghost use Rattle.bg_rules.specs.Rules.{RuleParts};
 
-use crate::MatchesFault;
+use crate::fault::MatchesFault;
 use crate::lines::write_excess_line;
 use crate::rule_matches::put_rule;
-use bg_lists::Mem;
+use bg_lists::{Mem, OutOfMemory};
 use bg_rules::System;
 use std::alloc::Global;
 
+/// What was written.
+#[derive(Clone, Copy, Debug, PartialEq, Eq)]
+pub enum Written {
+    /// All occurrences of each rule.
+    Matches,
+    /// The line of the first rule that has more occurrences than were asked for.
+    Excess,
+}
+
 /// Appends, for each rule of the system, its line and all occurrences of its redex in the system's host, each once, in
-/// dictionary order: a line with its map, and where occurrences are explained the decomposition of the host there. It
-/// refuses with `TooMany` exactly where a rule has more than `most` occurrences, with the number of the first such
-/// rule. At a refusal, and where there is no memory, `out` is unchanged. Costs the time of `list` for each rule and,
+/// dictionary order: a line with its map, and where occurrences are explained the decomposition of the host there. Where
+/// a rule has more than `most` occurrences, it appends in place of all that the line that tells of the first such rule.
+/// It fails only where there is no memory, and then `out` is unchanged. Costs the time of `list` for each rule and,
 /// where occurrences are explained, of `split` for each of them, and time in proportion to the text. Holds the text
 /// once, beside the maps of one rule, one decomposition and three times the text of one occurrence. (Milner, chapter
 /// 8.)
@@ -26,19 +36,23 @@ pub fn write_matches(
     most: u32,
     explain: bool,
     out: &mut Vec<u8>,
-) -> Result<(), MatchesFault>
-    ensures text { OnOk result (Appends (IsMatchText system.now explain) out.old.items out.new.items) }
-    ensures few { OnOk result (AreFew most system.now) }
-    ensures many { IfErr result (λ fault. (number : ℕ) → fault ≡ TooMany number
-        → (rule : RuleParts) × IsFirstExcess most system.now number rule) }
+) -> Mem<Written>
+    ensures ok { IfOk result (λ written. Appends (IsWritten most system.now explain written) out.old.items out.new.items) }
     ensures err { OnErr result (out.new.items ≡ out.old.items) }
 {
     let length = out.len();
-    let written = put_rules(alloc, system, most, explain, out);
-    if written.is_err() {
-        out.truncate(length);
+    match put_rules(alloc, system, most, explain, out) {
+        Ok(()) => Ok(Written::Matches),
+        Err(MatchesFault::TooMany { rule }) => {
+            out.truncate(length);
+            write_excess(alloc, system, rule, most, out)?;
+            Ok(Written::Excess)
+        }
+        Err(MatchesFault::OutOfMemory) => {
+            out.truncate(length);
+            Err(OutOfMemory)
+        }
     }
-    written
 }
 
 /// The rules in order, with numbers from 0. After an error what was in `out` is still there.
@@ -72,15 +86,9 @@ fn put_rules(
     Ok(())
 }
 
-/// Appends the line that tells that the rule with this number has more than `most` occurrences. It refuses nothing; it
-/// fails only where there is no memory, and then `out` is unchanged. Linear in the line.
-pub fn write_excess(
-    alloc: Global,
-    system: &System,
-    rule: u32,
-    most: u32,
-    out: &mut Vec<u8>,
-) -> Mem<()>
+/// Appends the line that tells that the rule with this number has more than `most` occurrences. After an error `out` is
+/// unchanged.
+fn write_excess(alloc: Global, system: &System, rule: u32, most: u32, out: &mut Vec<u8>) -> Mem<()>
     requires there { rule < length system.now.rules }
     ensures line { OnOk result ((parts : RuleParts) × (slice_get system.now.rules rule ≡ Some parts)
         × (out.new.items ≡ out.old.items ++ excess_line rule parts most)) }

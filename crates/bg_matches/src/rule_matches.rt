@@ -8,7 +8,7 @@ ghost use Rattle.bg_matches.specs.MatchText.{IsRuleText, AreOccurrenceTexts};
 ghost use Rattle.bg_rules.specs.Decomposition.{Occurs};
 ghost use Rattle.bg_rules.specs.Occurrences.{AreOccurrences, AreAtMost, AreMoreThan};
 
-use crate::MatchesFault;
+use crate::fault::MatchesFault;
 use crate::lines::write_rule_line;
 use crate::occurrence::write_occurrence;
 use bg_base::{Big, Map, Signature};

@@ -20,8 +20,8 @@ pub fn parent_in(rows: &[ParentRow], node: u32) -> Option<Place>
     }
 }
 
-/// The number of nodes that are met from the place upwards.
-pub fn height(rows: &[ParentRow], start: Place) -> u32
+/// How deep lies what lies in the place: the number of nodes that are met from the place upwards.
+pub fn depth_in(rows: &[ParentRow], start: Place) -> u32
     requires ascending { IsStrictlySortedBy parent_cmp rows.now }
     requires few { length rows.now < 2 ^ 32 }
     ensures { result ≡ length (defined.climb rows.now (length rows.now) start) }

@@ -6,7 +6,7 @@ ghost use Rattle.bg_base.specs.Bigraph.{IsValid};
 ghost use Rattle.bg_place.specs.Places as defined;
 ghost use Rattle.bg_place.specs.Rows.{parent_cmp, IsSettled};
 
-use crate::climb::{height, is_above, parent_in};
+use crate::climb::{depth_in, is_above, parent_in};
 use crate::graph::{places_of, position};
 use crate::groups::{Groups, numbered};
 use crate::subtree::nodes_within;
@@ -106,7 +106,7 @@ impl Forest {
         ensures { result ≡ defined.depth_of self.now node }
     {
         match parent_in(&self.places.parents, node) {
-            Some(parent) => height(self.places.parents.as_slice(), parent),
+            Some(parent) => depth_in(self.places.parents.as_slice(), parent),
             None => 0,
         }
     }

@@ -1,6 +1,6 @@
 //! The nodes that lie in a node. Each is climbed from until a region or a row that is known, and the rows on the way
 //! are marked, so that none is climbed from twice.
-ghost use Rattle.std.specs.Prelude.{◌≡◌, ◌<◌, length, map, filter, unwrap_or, None, Some, MatchOption, IfOk, slice_get, slice_set};
+ghost use Rattle.std.specs.Prelude.{◌≡◌, ◌<◌, length, map, filter, None, Some, MatchOption, IfOk};
 ghost use Rattle.std.specs.List.Sorted.{IsStrictlySortedBy};
 ghost use Rattle.bg_place.specs.Places as defined;
 ghost use Rattle.bg_place.specs.Rows.{parent_cmp, AreMarked, IsRowOf, IsSettled};
@@ -8,7 +8,7 @@ ghost use Rattle.bg_place.specs.Rows.{parent_cmp, AreMarked, IsRowOf, IsSettled}
 use crate::ParentRow;
 use crate::graph::position;
 use bg_base::Place;
-use bg_lists::Mem;
+use bg_lists::{Mem, mark_at, set_mark};
 use std::alloc::Global;
 
 /// The row of the node, and its position.
@@ -19,24 +19,6 @@ fn row_at(rows: &[ParentRow], node: u32) -> Option<(usize, ParentRow)>
     match position(rows, node) {
         Some(at) => Some((at, rows[at])),
         None => None,
-    }
-}
-
-/// What is known of the row at that position.
-fn mark_at(marks: &[Option<bool>], at: usize) -> Option<bool>
-    ensures { result ≡ unwrap_or (slice_get marks.now at) None }
-{
-    match marks.get(at) {
-        Some(mark) => *mark,
-        None => None,
-    }
-}
-
-fn set_mark(marks: &mut [Option<bool>], at: usize, inside: bool)
-    ensures { marks.new ≡ slice_set marks.old at (Some inside) }
-{
-    if at < marks.len() {
-        marks[at] = Some(inside);
     }
 }
 

@@ -1,6 +1,6 @@
 //! The parts of a parameter: its rows by the region that they lie under. Each node is climbed from until a region or a
 //! row whose region is known, and the rows on the way are marked with it, so that none is climbed from twice.
-ghost use Rattle.std.specs.Prelude.{◌≡◌, ◌<◌, true, map, unwrap_or, is_some, None, Some, IfOk, slice_get, slice_set};
+ghost use Rattle.std.specs.Prelude.{◌≡◌, ◌<◌, true, map, is_some, None, Some, IfOk};
 ghost use Rattle.std.specs.List.Sorted.{IsStrictlySortedBy};
 ghost use Rattle.bg_base.specs.declared.names.Place.TheVariants.{Node};
 ghost use Rattle.bg_base.specs.Bigraph.{IsValid, node_cmp, row_of};
@@ -9,7 +9,7 @@ ghost use Rattle.bg_rules.specs.Instantiation.{part};
 ghost use Rattle.bg_react.specs.Parts.{lies_under, depth, LeadsUp, AreMarked, AreMembers, member_region, member_row};
 
 use bg_base::{Big, NodeRow, Place};
-use bg_lists::{Duplicate, Mem};
+use bg_lists::{Duplicate, Mem, mark_at, set_mark};
 use std::alloc::Global;
 use std::marker::Model;
 
@@ -86,24 +86,6 @@ fn row_at(rows: &[NodeRow], node: u32) -> (usize, &NodeRow)
     match rows.binary_search_by_key(&node, |row| row.id) {
         Ok(at) => (at, &rows[at]),
         Err(_) => unreachable!(),
-    }
-}
-
-/// What is known of the row at that position.
-fn mark_at(marks: &[Option<u32>], at: usize) -> Option<u32>
-    ensures { result ≡ unwrap_or (slice_get marks.now at) None }
-{
-    match marks.get(at) {
-        Some(mark) => *mark,
-        None => None,
-    }
-}
-
-fn set_mark(marks: &mut [Option<u32>], at: usize, region: u32)
-    ensures { marks.new ≡ slice_set marks.old at (Some region) }
-{
-    if at < marks.len() {
-        marks[at] = Some(region);
     }
 }
 

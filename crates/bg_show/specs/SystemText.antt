@@ -2,7 +2,7 @@
 use Rattle.std.specs.Prelude.{ℕ, ◌+◌, Bool, true, false, List, [], ◌∷◌, ◌++◌, codes}
 use Rattle.std.specs.Fmt.{decimal}
 use Rattle.bg_base.specs.declared.signature.Control.{Control}
-use Rattle.bg_listing.specs.Spelling.{space, line_feed, chain_text, label_text, section_text, signature_text, big_text}
+use Rattle.bg_listing.specs.Spelling.{numbers_line, label_text, section_text, signature_text, big_text}
 use Rattle.bg_rules.specs.declared.condition.Side.{Side}
 use Rattle.bg_rules.specs.declared.condition.Side.TheVariants.{Ctx, Param}
 use Rattle.bg_rules.specs.declared.condition.Condition.{Condition}
@@ -27,7 +27,7 @@ condition_text signature condition =
 
 -- the line of a map: its entries, each behind a space
 abbrev pub map_line : List ℕ → List ℕ
-map_line map = codes "map" ++ chain_text line_feed space decimal map
+map_line map = codes "map" ++ numbers_line map
 
 -- the line of a rule: its number, its label and its class
 unfoldable pub rule_line : ℕ → RuleParts → List ℕ

@@ -3,7 +3,6 @@
 //! - [`write_system`]: appends the listing of a system.
 #![tactic(auto)]
 
-mod lines;
 mod rule_listing;
 mod show;
 

@@ -1,15 +1,13 @@
 //! The listing of a rule, behind what is there. After an error the bytes behind are of no use.
 ghost use Rattle.std.specs.Prelude.{◌≡◌, ◌++◌, codes, All, OnOk};
-ghost use Rattle.std.specs.Fmt.{decimal};
 ghost use Rattle.std.specs.List.{flat_map};
 ghost use Rattle.bg_base.specs.Bigraph.{IsValidUnder};
 ghost use Rattle.bg_listing.specs.Spelling as spelling;
 ghost use Rattle.bg_rules.specs.declared.condition.Condition.{Condition as ConditionValue};
 ghost use Rattle.bg_show.specs.SystemText as listing;
 
-use crate::lines::{put_count, put_number};
 use bg_base::Signature;
-use bg_listing::{write_big, write_label, write_number};
+use bg_listing::{write_big, write_count, write_label, write_number, write_numbers, write_size};
 use bg_lists::Mem;
 use bg_rules::{Condition, Rule, Side};
 use std::alloc::Global;
@@ -40,7 +38,7 @@ fn put_rule_line(alloc: Global, number: usize, rule: &Rule, out: &mut Vec<u8>) -
     ensures { OnOk result (out.new.items ≡ out.old.items ++ listing.rule_line number rule.now) }
 {
     out.extend_from_slice(b"rule ")?;
-    put_number(alloc, number, out)?;
+    write_size(alloc, number, out)?;
     out.push(b' ')?;
     write_label(alloc, rule.label(), out)?;
     out.extend_from_slice(b" class ")?;
@@ -69,19 +67,7 @@ fn put_map(alloc: Global, rule: &Rule, out: &mut Vec<u8>) -> Mem<()>
     ensures { OnOk result (out.new.items ≡ out.old.items ++ listing.map_line rule.now.map) }
 {
     out.extend_from_slice(b"map")?;
-    put_entries(alloc, rule.map(), out)
-}
-
-/// Each entry behind a space, and then the line feed.
-fn put_entries(alloc: Global, entries: &[u32], out: &mut Vec<u8>) -> Mem<()>
-    ensures { OnOk result (out.new.items ≡ out.old.items ++ spelling.chain_text spelling.line_feed spelling.space decimal entries.now) }
-{
-    for entry in entries {
-        out.push(b' ')?;
-        write_number(alloc, *entry, out)?;
-    }
-    out.push(b'\n')?;
-    Ok(())
+    write_numbers(alloc, rule.map(), out)
 }
 
 /// The number of conditions, and the conditions in order.
@@ -95,7 +81,7 @@ fn put_condition_section(
     ensures { OnOk result (out.new.items ≡ out.old.items ++ spelling.section_text (codes "conditions ") (listing.condition_text signature.now) rule.now.conditions) }
 {
     let conditions = rule.conditions();
-    put_count(alloc, b"conditions ", conditions.len(), out)?;
+    write_count(alloc, b"conditions ", conditions.len(), out)?;
     put_conditions(alloc, signature, conditions, out)?;
     Ok(())
 }

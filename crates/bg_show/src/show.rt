@@ -6,10 +6,9 @@ ghost use Rattle.bg_listing.specs.Spelling.{section_text, big_text};
 ghost use Rattle.bg_rules.specs.declared.predicate.Predicate.{Predicate as PredicateValue};
 ghost use Rattle.bg_show.specs.SystemText.{rules_text, predicate_text, system_text};
 
-use crate::lines::put_count;
 use crate::rule_listing::put_rule;
 use bg_base::Signature;
-use bg_listing::{write_big, write_label, write_signature};
+use bg_listing::{write_big, write_count, write_label, write_signature};
 use bg_lists::Mem;
 use bg_rules::{Predicate, System};
 use std::alloc::Global;
@@ -59,7 +58,7 @@ fn put_rules(alloc: Global, system: &System, out: &mut Vec<u8>) -> Mem<()>
 fn put_predicate_section(alloc: Global, system: &System, out: &mut Vec<u8>) -> Mem<()>
     ensures { OnOk result (out.new.items ≡ out.old.items ++ section_text (codes "preds ") (predicate_text system.now.signature) system.now.preds) }
 {
-    put_count(alloc, b"preds ", system.preds().len(), out)?;
+    write_count(alloc, b"preds ", system.preds().len(), out)?;
     put_preds(alloc, system.signature(), system.preds(), out)
 }
 

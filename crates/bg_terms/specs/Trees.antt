@@ -36,7 +36,7 @@ use Rattle.bg_values.specs.declared.refusal.Refusal.{Refusal}
 use Rattle.bg_values.specs.declared.refusal.Cause.TheVariants.{Unexpected, UnknownName, WrongArguments, WrongPorts}
 use Rattle.bg_values.specs.Names.{Entry, look_up}
 use Rattle.bg_values.specs.Operands.{operands_read, trees}
-use Rattle.bg_values.specs.Outcome.{◌>>=◌, refused, there_or}
+use Rattle.bg_values.specs.Outcome.{◌>>=◌, each, refused, there_or}
 use Rattle.bg_values.specs.Reading.{number_at, number_token}
 use Rattle.bg_values.specs.Scopes.{ScopeParts, spelling}
 use Rattle.bg_terms.specs.declared.shape.ControlEntry.{ControlEntry}
@@ -68,8 +68,7 @@ word_at visible token = if is_ident (spelling visible.scope token) then Ok (spel
 
 -- the identifiers that the tokens spell, in order
 abbrev pub words_at : Visible → List ℕ → Result (List (List ℕ)) Refusal
-words_at visible [] = Ok []
-words_at visible (token ∷ tokens) = word_at visible token >>= λ word. words_at visible tokens >>= λ words. Ok (word ∷ words)
+words_at visible = each (word_at visible)
 
 -- the tokens of the names of ports
 abbrev pub ports_of : SynNames → List ℕ

@@ -3,3 +3,4 @@ pub mod Longest
 pub mod PieceLaws
 pub mod Cutting
 pub mod Unique
+pub mod TokenLaws

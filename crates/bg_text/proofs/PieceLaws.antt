@@ -166,7 +166,7 @@ byte_refused (b ∷ bytes) l e h = bad_byte (no_gap b bytes e) (no_mark_no_token
 
 -- ---- places
 
-gap_within : (bytes : List ℕ) (size : ℕ) → IsGap bytes size → (0 < size) × (size ≤ length bytes)
+pub gap_within : (bytes : List ℕ) (size : ℕ) → IsGap bytes size → (0 < size) × (size ≤ length bytes)
 gap_within [] size g = elim g [ ]
 gap_within (b ∷ bytes) size (space e) = (omega arith, omega arith)
 gap_within (b ∷ bytes) size (comment e) = let h = prefix_len-le-length is_not_line_feed bytes in (omega arith, omega arith)
@@ -176,7 +176,7 @@ unfolding kind_of
 nothing_spelled bytes zero kind e = absurd cc
 nothing_spelled bytes (suc size) kind e = omega arith
 
-refused_within : (bytes : List ℕ) (code apart : ℕ) → Refuses bytes code apart → apart < length bytes
+pub refused_within : (bytes : List ℕ) (code apart : ℕ) → Refuses bytes code apart → apart < length bytes
 unfolding number_fault
 refused_within (b ∷ bytes) code apart (bad_byte g t) = omega arith
 refused_within (b ∷ bytes) code apart (bad_in_text e q l) = let h = prefix_len-le-length is_inside bytes in omega arith

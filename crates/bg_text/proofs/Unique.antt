@@ -29,7 +29,7 @@ clash bytes kind e f = cc
 between : (n m : ℕ) → (n < m → ⊥) → (m < n → ⊥) → n ≡ m
 between n m h k = omega arith
 
-one_size : (bytes : List ℕ) (k j : TokenKind) (n m : ℕ) → IsLongest bytes k n → IsLongest bytes j m → n ≡ m
+pub one_size : (bytes : List ℕ) (k j : TokenKind) (n m : ℕ) → IsLongest bytes k n → IsLongest bytes j m → n ≡ m
 one_size bytes k j n m a b = between n m (λ l. clash (take m bytes) j (a.longest m l b.inside) b.spelled) (λ l. clash (take n bytes) k (b.longest n l a.inside) a.spelled)
 
 some_is : (k j : TokenKind) (r : Option TokenKind) → r ≡ Some k → r ≡ Some j → k ≡ j

@@ -13,7 +13,7 @@ use Rattle.bg_top.specs.Answer.{Answer, line, answer_of}
 use Rattle.bg_top.specs.Failure.{Gives, IsTold}
 use Rattle.bg_top.specs.Match.{IsMatchAnswer, listed, too_many}
 use Rattle.bg_top.specs.Match as matching
-use Rattle.bg_top.specs.Outcome.{ListsMatches, IsExcess}
+use Rattle.bg_top.specs.Outcome.{ListsMatches}
 use Rattle.bg_top.specs.Model.{IsModelAnswer, described, refused, Describes, MakesText}
 use Rattle.bg_top.specs.Refusal.{refusal_text, told}
 
@@ -53,13 +53,6 @@ failed_match most explain input (Ok text) failure err is so = absurd cc
 failed_match most explain input (Err (Refused refusal)) failure err is so = subst (λ z. Describes (Err z) input) (sym is) so
 failed_match most explain input (Err (TooMany line)) failure err is so = absurd (subst (λ z. Describes (Err z) input) (sym is) so)
 failed_match most explain input (Err OutOfMemory) failure err is so = tt
-
--- the failure of a system with too many
-pub excess_told : (most : ℕ) (explain : Bool) (input : List ℕ) (system : SystemParts) (failure : Failure) → IsReading input (Ok system)
-    → IsExcess most system failure → ListsMatches most explain (Err failure) input
-excess_told most explain input system (Refused refusal) read is = absurd is
-excess_told most explain input system (TooMany line) read is = (system, read, is)
-excess_told most explain input system OutOfMemory read is = tt
 
 -- a failure that is handed on
 pub failed_text : (text_of : SystemParts → List ℕ) (input : List ℕ) (made : Result (Vec ℕ Global) Failure) (failure : Failure)

@@ -1,24 +1,13 @@
 -- How the outcome of a call tells where rules occur.
-use Rattle.std.specs.Prelude.{◌≡◌, ℕ, Bool, List, Result, Ok, Err, Vec}
+use Rattle.std.specs.Prelude.{ℕ, Bool, List, Result, Ok, Err, Vec}
 use Rattle.std.specs.Global.{Global}
 use Rattle.bg_elab.specs.Reading.{IsReading}
-use Rattle.bg_matches.specs.Counts.{IsFirstExcess, excess_line}
-use Rattle.bg_rules.specs.Rules.{RuleParts}
+use Rattle.bg_matches.specs.Outcomes.{IsExcessLine}
 use Rattle.bg_rules.specs.Systems.{SystemParts}
 use Rattle.bg_top.specs.Match.{IsMatchOf}
 use Rattle.bg_top.specs.Model.{IsRefusedBy}
 use Rattle.bg_top.specs.declared.failure.Failure.{Failure}
 use Rattle.bg_top.specs.declared.failure.Failure.TheVariants.{Refused, TooMany, OutOfMemory}
-
--- the line of the first rule with more than so many occurrences
-abbrev pub IsExcessLine : ℕ → SystemParts → List ℕ → Type 0
-IsExcessLine most system line = (number : ℕ) × (rule : RuleParts) × IsFirstExcess most system number rule × (line ≡ excess_line number rule most)
-
--- the failure tells of that rule, or there was no memory
-abbrev pub IsExcess : ℕ → SystemParts → Failure → Type 0
-IsExcess most system (Refused refusal) = ⊥
-IsExcess most system (TooMany line) = IsExcessLine most system line.items
-IsExcess most system OutOfMemory = Unit {0}
 
 -- a call gives the text of `match`, or the refusal of the input, or the line of a rule, or found no memory
 abbrev pub ListsMatches : ℕ → Bool → Result (Vec ℕ Global) Failure → List ℕ → Type 0

@@ -1,18 +1,15 @@
 //! The commands that make a text of a model.
 ghost use Rattle.std.specs.Prelude.{◌≡◌, ◌-◌, ◌<◌, ◌≤◌, ◌^◌, Err, IfOk, length};
-ghost use Rattle.bg_rules.specs.Rules.{RuleParts};
-ghost use Rattle.bg_matches.specs.Counts.{IsFirstExcess, excess_line};
 ghost use Rattle.bg_show.specs.SystemText.{system_text};
 ghost use Rattle.bg_top.specs.Check as check;
 ghost use Rattle.bg_top.specs.Model.{Describes, MakesText, refused_at};
-ghost use Rattle.bg_top.specs.Outcome.{ListsMatches, IsExcess};
+ghost use Rattle.bg_top.specs.Outcome.{ListsMatches};
 
 use crate::counts::counts_of;
 use crate::failure::Failure;
 use crate::refusal::Refusal;
 use bg_elab::{Detail, ModelFault, read};
-use bg_lists::OutOfMemory;
-use bg_matches::{MatchesFault, write_excess, write_matches};
+use bg_matches::{Written, write_matches};
 use bg_rules::System;
 use bg_show::write_system;
 use bg_text::place_of;
@@ -50,22 +47,9 @@ pub(crate) fn match_text(
 {
     let system = system_of(alloc, input)?;
     let mut text = Vec::new(alloc);
-    match write_matches(alloc, &system, most, explain, &mut text) {
-        Ok(()) => Ok(text),
-        Err(MatchesFault::TooMany { rule }) => Err(too_many(alloc, &system, rule, most)),
-        Err(MatchesFault::OutOfMemory) => Err(Failure::OutOfMemory),
-    }
-}
-
-/// The failure that tells of the rule with that number, the first with more than `most` occurrences.
-fn too_many(alloc: Global, system: &System, rule: u32, most: u32) -> Failure
-    requires { (parts : RuleParts) × IsFirstExcess most system.now rule parts }
-    ensures { IsExcess most system.now result }
-{
-    let mut line = Vec::new(alloc);
-    match write_excess(alloc, system, rule, most, &mut line) {
-        Ok(()) => Failure::TooMany(line),
-        Err(OutOfMemory) => Failure::OutOfMemory,
+    match write_matches(alloc, &system, most, explain, &mut text)? {
+        Written::Matches => Ok(text),
+        Written::Excess => Err(Failure::TooMany(text)),
     }
 }
 

@@ -8,8 +8,8 @@ use Rattle.bg_values.specs.declared.operands.Operand.{Operand as Code}
 use Rattle.bg_values.specs.declared.refusal.Refusal.{Refusal}
 use Rattle.bg_values.specs.declared.refusal.Stop.{Stop}
 use Rattle.bg_values.specs.declared.refusal.Stop.TheVariants as stops
-use Rattle.bg_values.specs.Outcome.{◌>>=◌, Stops}
-use Rattle.bg_values.specs.Operands.{Operand, operand_read, operands_read, trees_of, shown, coded, AreCodesOf, each}
+use Rattle.bg_values.specs.Outcome.{◌>>=◌, each, Stops}
+use Rattle.bg_values.specs.Operands.{Operand, operand_read, operands_read, trees_of, shown, coded, AreCodesOf}
 use Rattle.bg_values.specs.Scopes.{ScopeParts}
 use Rattle.bg_values.proofs.Bindings.{ok_same}
 use Rattle.bg_values.proofs.Items.{item_and_others}

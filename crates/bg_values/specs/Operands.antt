@@ -1,5 +1,5 @@
 -- Several formulas in a row: the arguments of a control or a reference, the values of a parameter.
-use Rattle.std.specs.Prelude.{◌≡◌, ℕ, List, [], ◌∷◌, ◌++◌, map, Result, Ok, Err}
+use Rattle.std.specs.Prelude.{◌≡◌, ℕ, List, ◌∷◌, ◌++◌, map, Result, Ok, Err}
 use Rattle.std.specs.Prelude.{Vec}
 use Rattle.std.specs.Global.{Global}
 use Rattle.bg_base.specs.declared.labels.Value.{Value}
@@ -12,7 +12,7 @@ use Rattle.bg_values.specs.declared.refusal.Refusal.{Refusal}
 use Rattle.bg_values.specs.declared.refusal.Stop.{Stop}
 use Rattle.bg_values.specs.Arithmetic.{Formula, value, whole_of}
 use Rattle.bg_values.specs.Machine.{code_of, outcome}
-use Rattle.bg_values.specs.Outcome.{◌>>=◌, Stops}
+use Rattle.bg_values.specs.Outcome.{◌>>=◌, each, Stops}
 use Rattle.bg_values.specs.Reading.{x_read}
 use Rattle.bg_values.specs.Scopes.{ScopeParts}
 
@@ -34,13 +34,7 @@ operand_read scope x = (x_read x).1 scope >>= λ f. Ok ((x_read x).0, f)
 
 -- what the trees say, in order
 abbrev pub operands_read : ScopeParts → List SynX → Result (List Operand) Refusal
-operands_read scope [] = Ok []
-operands_read scope (x ∷ xs) = operand_read scope x >>= λ f. operands_read scope xs >>= λ fs. Ok (f ∷ fs)
-
--- what each of them comes to, in order
-abbrev pub each : (Operand → Result Value Refusal) → List Operand → Result (List Value) Refusal
-each comes [] = Ok []
-each comes (f ∷ fs) = comes f >>= λ v. each comes fs >>= λ vs. Ok (v ∷ vs)
+operands_read scope = each (operand_read scope)
 
 -- what the formulas come to, where the visible names have these values
 abbrev pub values : List Value → List Operand → Result (List Value) Refusal
@@ -64,8 +58,7 @@ shown operand = (operand.first, operand.formula.steps.items)
 
 -- what formulas come to, each by its first token and its steps
 abbrev pub outcomes : List Value → List (ℕ × List Step) → Result (List Value) Refusal
-outcomes env [] = Ok []
-outcomes env (f ∷ fs) = outcome env f.1 >>= λ v. outcomes env fs >>= λ vs. Ok (v ∷ vs)
+outcomes env = each (λ f. outcome env f.1)
 
 -- these are the formulas, as their steps
 abbrev pub AreCodesOf : List Operand → List Code → Type 0

@@ -1,5 +1,5 @@
 -- What a model says comes to a value, or is refused.
-use Rattle.std.specs.Prelude.{◌≡◌, ℕ, Option, Some, None, Result, Ok, Err}
+use Rattle.std.specs.Prelude.{◌≡◌, ℕ, List, [], ◌∷◌, Option, Some, None, Result, Ok, Err}
 use Rattle.bg_values.specs.declared.refusal.Cause.{Cause}
 use Rattle.bg_values.specs.declared.refusal.Refusal.{Refusal}
 use Rattle.bg_values.specs.declared.refusal.Stop.{Stop}
@@ -19,6 +19,11 @@ refused cause token = Err (record { cause = cause; token = token })
 abbrev pub there_or : {A : Type 0} → Cause → ℕ → Option A → Result A Refusal
 there_or cause token (Some x) = Ok x
 there_or cause token None = refused cause token
+
+-- what each item comes to, in order; the first refusal is that of all
+abbrev pub each : {A B : Type 0} → (A → Result B Refusal) → List A → Result (List B) Refusal
+each comes [] = Ok []
+each comes (x ∷ xs) = comes x >>= λ y. each comes xs >>= λ ys. Ok (y ∷ ys)
 
 -- a call that stopped was to refuse so, or found no memory
 abbrev pub Stops : {A : Type 0} → Stop → Result A Refusal → Type 0

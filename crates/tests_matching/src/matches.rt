@@ -3,7 +3,7 @@ ghost use Rattle.std.specs.Prelude.{◌≡◌, [], ◌∷◌, IfOk};
 
 use crate::listed::{Ended, host_of, rule_of, signature_of};
 use bg_lists::{Mem, Rows};
-use bg_matches::{MatchesFault, write_excess, write_matches};
+use bg_matches::{Written, write_matches};
 use bg_rules::{Rule, System};
 use std::alloc::Global;
 
@@ -51,49 +51,34 @@ const EXPLAINED: &str = "rule 0 r class 0 count 1\n0\nimages\n\
     context\nbigraph 1\nsites 1\nr0\ninner 2\nx #0\n@1.0 #0\nouter 0\nedges 1\n0\nnodes 0\n\
     parameter\nbigraph 1\nsites 0\ninner 0\nouter 1\n@1.0\nedges 0\nnodes 1\n1 B r0 =@1.0\n";
 
-/// What is written of at most one occurrence in the host of a listing.
-fn written(alloc: Global, host: &str, explain: bool) -> Result<Vec<u8>, Ended> {
+/// What is written of at most one occurrence in the host of a listing, and which of both it is.
+fn written(alloc: Global, host: &str, explain: bool) -> Result<(Written, Vec<u8>), Ended> {
     let system = system_of(alloc, host)?;
-    let mut written = Vec::new(alloc);
-    write_matches(alloc, &system, 1, explain, &mut written)?;
-    Ok(written)
+    let mut text = Vec::new(alloc);
+    let written = write_matches(alloc, &system, 1, explain, &mut text)?;
+    Ok((written, text))
 }
 
 #[test]
 fn lists_occurrences(rt: HostRuntime) -> Result<(), Ended> {
-    let written = written(rt.alloc(), B_IN_A, false)?;
-    assert!(rt; written.as_slice() == LISTED.as_bytes());
+    let (written, text) = written(rt.alloc(), B_IN_A, false)?;
+    assert!(rt; written == Written::Matches);
+    assert!(rt; text.as_slice() == LISTED.as_bytes());
     Ok(())
 }
 
 #[test]
 fn explains_occurrences(rt: HostRuntime) -> Result<(), Ended> {
-    let written = written(rt.alloc(), B_IN_A, true)?;
-    assert!(rt; written.as_slice() == EXPLAINED.as_bytes());
+    let (written, text) = written(rt.alloc(), B_IN_A, true)?;
+    assert!(rt; written == Written::Matches);
+    assert!(rt; text.as_slice() == EXPLAINED.as_bytes());
     Ok(())
-}
-
-/// The number of the rule that has too many occurrences, and what is written of it; none where no rule has.
-fn excess(alloc: Global, host: &str) -> Result<Option<(u32, Vec<u8>)>, Ended> {
-    let system = system_of(alloc, host)?;
-    let mut written = Vec::new(alloc);
-    match write_matches(alloc, &system, 1, false, &mut written) {
-        Err(MatchesFault::TooMany { rule }) => {
-            if rule as usize >= system.rules().len() {
-                return Err(Ended::Refused);
-            }
-            write_excess(alloc, &system, rule, 1, &mut written)?;
-            Ok(Some((rule, written)))
-        }
-        Err(MatchesFault::OutOfMemory) => Err(Ended::OutOfMemory),
-        Ok(()) => Ok(None),
-    }
 }
 
 #[test]
 fn tells_that_there_are_too_many(rt: HostRuntime) -> Result<(), Ended> {
-    let (rule, written) = excess(rt.alloc(), TWO_A)?.expect(&rt, "too many");
-    assert!(rt; rule == 0);
-    assert!(rt; written.as_slice() == b"too many 0 r 1\n".as_slice());
+    let (written, text) = written(rt.alloc(), TWO_A, false)?;
+    assert!(rt; written == Written::Excess);
+    assert!(rt; text.as_slice() == b"too many 0 r 1\n".as_slice());
     Ok(())
 }

@@ -2,7 +2,8 @@ use Rattle.std.proofs.Common.{Err, length, ap, sym, subst, ◌∙◌, arith}
 use Rattle.bg_elab.specs.Elaboration.{text_of, Elaborates}
 use Rattle.bg_elab.specs.Reading.{of_syntax, Reads}
 use Rattle.bg_syntax.specs.Models.{IsTreeOf, IsSyntaxFault}
-use Rattle.bg_elab.proofs.Readings.{as_many_bytes, residual_read, syntax_read, elaborated_read}
+use Rattle.bg_elab.proofs.Readings.{residual_read, syntax_read, elaborated_read}
+use Rattle.bg_text.proofs.TokenLaws.{as_many_bytes}
 use Rattle.bg_elab.proofs.reading.read.Goals as goal
 
 pub returns-in_err-found : goal.returns-in_err-found

@@ -2,7 +2,7 @@ use Rattle.std.proofs.Common.{◌≡◌, ◌+◌, length, ap, sym, arith}
 use Rattle.bg_base.specs.declared.names.Place.TheVariants.{Node}
 use Rattle.bg_place.specs.Places.{climb}
 use Rattle.bg_place.proofs.ClimbLaws.{climb_node}
-use Rattle.bg_place.proofs.climb.height.Goals as goal
+use Rattle.bg_place.proofs.climb.depth_in.Goals as goal
 
 pub loop-place-preserved : goal.loop-place-preserved
 loop-place-preserved c =

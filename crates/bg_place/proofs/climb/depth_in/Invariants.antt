@@ -1,6 +1,6 @@
 use Rattle.std.proofs.Common.{◌≡◌, ◌+◌, length}
 use Rattle.bg_place.specs.Places.{climb}
-use Rattle.bg_place.proofs.climb.height.Given as goal
+use Rattle.bg_place.proofs.climb.depth_in.Given as goal
 
 abbrev pub invariant-loop-place : goal.invariant-loop-place
 invariant-loop-place l =
