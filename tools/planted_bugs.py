@@ -325,7 +325,7 @@ BUGS = {
          'write_number(alloc, rule.class() / 2, out)?;'),
         ('map-of-redex-sites', 'src/rule_listing.rt',
          'write_numbers(alloc, rule.map(), out)',
-         'write_numbers(alloc, &rule.map()[rule.map().len() / 2..], out)'),
+         'write_numbers(alloc, &rule.map()[rule.map().as_slice().len() / 2..], out)'),
         ('reactum-is-redex', 'src/rule_listing.rt',
          'write_big(alloc, signature, rule.reactum(), out)',
          'write_big(alloc, signature, rule.redex().big(), out)'),
