@@ -35,8 +35,7 @@ pub struct Block {
 }
 
 /// The block of these trees. Refuses the first name that cannot stand, in the order of the text. No name is visible in
-/// the arguments of `init`; in the others the parameters are. Linear in the trees, and in the values of the parameters
-/// that occur in each reference.
+/// the arguments of `init`; in the others the parameters are. Linear in the trees.
 pub(crate) fn block_of(
     alloc: Global,
     text: &Scope,

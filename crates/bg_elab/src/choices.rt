@@ -3,14 +3,19 @@ ghost use Rattle.std.specs.Prelude.{◌≡◌, ◌<◌, ◌%◌, Some, length, r
 ghost use Rattle.bg_elab.specs.Choices.{choices};
 
 use bg_base::Value;
-use bg_lists::{Duplicate, Mem, Rows};
+use bg_lists::{Mem, Rows};
+use bg_values::ParameterValues;
 use std::alloc::Global;
 
 /// The choice with that number, counted from 0, of one value from each list, where the value of the first list varies
 /// slowest; none behind the last choice, and none at all where a list is empty. Of no lists there is one choice, which
 /// is empty. Makes no other choice, so it costs time and memory in proportion to the number of lists and to the texts
 /// among the values that it takes. Of 4,294,967,295 lists or more there is no memory for a choice.
-pub fn choice(alloc: Global, lists: &[Rows<Value>], number: u32) -> Mem<Option<Rows<Value>>>
+pub fn choice(
+    alloc: Global,
+    lists: &[ParameterValues],
+    number: u32,
+) -> Mem<Option<Rows<Value>>>
     ensures { IfOk result (λ found. found ≡ slice_get (choices lists.now) number) }
 {
     let mut left = number;
@@ -33,12 +38,11 @@ pub fn choice(alloc: Global, lists: &[Rows<Value>], number: u32) -> Mem<Option<R
 }
 
 /// The value with the number that is the last digit of that one, where the base is the length of the list.
-fn digit(alloc: Global, list: &Rows<Value>, number: u32) -> Mem<Value>
+fn digit(alloc: Global, list: &ParameterValues, number: u32) -> Mem<Value>
     requires { 0 < length list.now }
     ensures { IfOk result (λ value. slice_get list.now (number % length list.now) ≡ Some value) }
 {
-    let place = number % list.len();
-    list.as_slice()[place as usize].copy(alloc)
+    list.value(alloc, number % list.len())
 }
 
 /// The values in reverse.

@@ -21,9 +21,8 @@ use std::alloc::Global;
 /// its statements in the order of the text, then of the block: its parameters, then its names in the order of the text,
 /// then `init`, the rules and the predicates.
 ///
-/// Costs what the statements cost, and what the evaluation of each use costs; a reference copies the values of the
-/// parameters that occur in it, which are no more than the rules or predicates that it stands for. No text of a model
-/// has 4,294,967,295 bytes or tokens.
+/// Costs what the statements cost, and what the evaluation of each use costs. No text of a model has 4,294,967,295 bytes
+/// or tokens.
 pub fn elaborate(
     alloc: Global,
     bytes: &[u8],

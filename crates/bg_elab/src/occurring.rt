@@ -4,10 +4,9 @@ ghost use Rattle.bg_base.specs.Elementary.{counted};
 ghost use Rattle.bg_elab.specs.References as definition;
 ghost use Rattle.bg_values.specs.Names.{number_of};
 
-use bg_base::Value;
-use bg_lists::{Duplicate, Mem, Rows};
+use bg_lists::{Duplicate, Mem};
 use bg_syntax::tree::expressions::SynArgs;
-use bg_values::{NameTable, Scope};
+use bg_values::{NameTable, ParameterValues, Scope};
 use std::alloc::Global;
 use std::marker::Model;
 
@@ -16,7 +15,7 @@ use std::marker::Model;
 #[derive(Drop)]
 pub(crate) struct Occurring {
     pub(crate) names: NameTable<()>,
-    pub(crate) lists: Vec<Rows<Value>>,
+    pub(crate) lists: Vec<ParameterValues>,
 }
 
 impl Model for Occurring {
@@ -27,11 +26,11 @@ impl Model for Occurring {
     ghost view = { λ occurring. record { names = occurring.names; lists = occurring.lists.items } };
 }
 
-/// The parameters that occur in the arguments. Linear in their tokens and in the values of those parameters.
+/// The parameters that occur in the arguments. Linear in their tokens: the values are shared, and none is copied.
 pub(crate) fn parameters_in(
     alloc: Global,
     text: &Scope,
-    parameters: &NameTable<Rows<Value>>,
+    parameters: &NameTable<ParameterValues>,
     args: &SynArgs,
 ) -> Mem<Occurring>
     ensures { IfOk result (λ found. found ≡ definition.occurring text.now parameters.now args.now) }
@@ -53,7 +52,7 @@ pub(crate) fn parameters_in(
 fn add_tokens(
     alloc: Global,
     text: &Scope,
-    parameters: &NameTable<Rows<Value>>,
+    parameters: &NameTable<ParameterValues>,
     from: u32,
     to: u32,
     found: &mut Occurring,
@@ -69,7 +68,7 @@ fn add_tokens(
 /// Adds the parameter that the word names, where it names one that is not there yet.
 fn add_word(
     alloc: Global,
-    parameters: &NameTable<Rows<Value>>,
+    parameters: &NameTable<ParameterValues>,
     word: &[u8],
     found: &mut Occurring,
 ) -> Mem<()>
@@ -85,7 +84,12 @@ fn add_word(
 }
 
 /// Adds a parameter whose word is new, with its values.
-fn add_parameter(alloc: Global, word: &[u8], values: &Rows<Value>, found: &mut Occurring) -> Mem<()>
+fn add_parameter(
+    alloc: Global,
+    word: &[u8],
+    values: &ParameterValues,
+    found: &mut Occurring,
+) -> Mem<()>
     requires { IsNone (number_of word.now found.old.names) }
     ensures { IfOk result (λ _. found.new ≡ record { names = found.old.names ++ (word.now, tt) ∷ []; lists = found.old.lists ++ values.now ∷ [] }) }
 {

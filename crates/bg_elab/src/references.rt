@@ -9,7 +9,7 @@ use bg_base::{Ident, Label, Value};
 use bg_code::{Arguments, Visible, argument_count, arguments_of, word_at};
 use bg_lists::{Duplicate, Rows};
 use bg_syntax::tree::expressions::SynRef;
-use bg_values::{Cause, NameTable, Scope, Stop};
+use bg_values::{Cause, NameTable, ParameterValues, Scope, Stop};
 use std::alloc::Global;
 
 /// A reference to a bigraph or a rule: its token, the name, the number of what it names; the arguments, in which the
@@ -20,7 +20,7 @@ pub struct Reference {
     pub name: Ident,
     pub number: u32,
     pub arguments: Arguments,
-    pub lists: Rows<Rows<Value>>,
+    pub lists: Rows<ParameterValues>,
 }
 
 impl Reference {
@@ -42,12 +42,12 @@ impl Reference {
 }
 
 /// A reference to one of these names, where these parameters are visible. It refuses with the first cause, at the name:
-/// 41 where it is not there, 45 where the number of arguments differs; then the names in the arguments. Linear in its
-/// tokens and in the values of the parameters that occur.
+/// `UnknownName` (41) where it is not there, `WrongArguments` (45) where the number of arguments differs; then the names
+/// in the arguments. Linear in its tokens.
 pub(crate) fn reference_of(
     alloc: Global,
     text: &Scope,
-    parameters: &NameTable<Rows<Value>>,
+    parameters: &NameTable<ParameterValues>,
     names: &NameTable<u32>,
     tree: &SynRef,
 ) -> Result<Reference, Stop>

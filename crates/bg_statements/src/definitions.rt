@@ -1,10 +1,10 @@
 //! What the statements of a model define.
 use crate::rule_code::RuleCode;
-use bg_base::{Signature, Value};
+use bg_base::Signature;
 use bg_code::Operation;
 use bg_lists::Rows;
 use bg_terms::ControlEntry;
-use bg_values::NameTable;
+use bg_values::{NameTable, ParameterValues};
 use std::alloc::Global;
 use std::marker::Model;
 
@@ -19,7 +19,7 @@ pub(crate) struct Definitions {
     pub(crate) codes: Vec<Rows<Operation>>,
     pub(crate) rules: NameTable<u32>,
     pub(crate) rule_codes: Vec<RuleCode>,
-    pub(crate) parameters: NameTable<Rows<Value>>,
+    pub(crate) parameters: NameTable<ParameterValues>,
     pub(crate) signature: Signature,
 }
 

@@ -1,7 +1,6 @@
 //! Statements of parameters.
 use crate::definitions::Definitions;
 use crate::names::check_new;
-use bg_lists::Rows;
 use bg_syntax::tree::models::SynParamsItem;
 use bg_syntax::tree::statements::SynParam;
 use bg_values::{Scope, Stop, parameter_name, parameter_values};
@@ -28,7 +27,7 @@ impl Definitions {
     }
 
     /// A parameter with its values. It refuses with the first cause: 42 at its name where it is there, then what
-    /// [`parameter_values`] refuses. Linear in the statement and the values.
+    /// [`parameter_values`] refuses. Linear in the statement.
     pub(crate) fn add_parameter(
         &mut self,
         alloc: Global,
@@ -39,7 +38,7 @@ impl Definitions {
     {
         let token = parameter_name(tree);
         check_new(text, &self.parameters, token)?;
-        let values = Rows::try_from_vec(parameter_values(alloc, text, tree)?)?;
+        let values = parameter_values(alloc, text, tree)?;
         self.parameters.add(alloc, text.spelling(token), values)?;
         Ok(())
     }

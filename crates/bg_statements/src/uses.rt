@@ -13,7 +13,7 @@ use bg_lists::Rows;
 use bg_machine::Met;
 use bg_rules::{Host, Predicate, Rule};
 use bg_syntax::tree::models::{SynParamsItem, SynStmtsItem};
-use bg_values::{Cause, NameTable, Refusal, Scope, Stop};
+use bg_values::{Cause, NameTable, ParameterValues, Refusal, Scope, Stop};
 use std::alloc::Global;
 use std::marker::Model;
 use std::mem::replace;
@@ -24,7 +24,7 @@ use std::mem::replace;
 pub struct NameSpaces<'a> {
     pub bigraphs: &'a NameTable<u32>,
     pub rules: &'a NameTable<u32>,
-    pub parameters: &'a NameTable<Rows<Value>>,
+    pub parameters: &'a NameTable<ParameterValues>,
 }
 
 impl<'a> Model for NameSpaces<'a> {

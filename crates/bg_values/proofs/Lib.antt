@@ -6,3 +6,4 @@ pub mod Partly
 pub mod Gathering
 pub mod Ranges
 pub mod Outcomes
+mod KeptLaws

@@ -10,3 +10,4 @@ pub mod Reading
 pub mod Lowering
 pub mod Operands
 pub mod Parameters
+pub mod KeptValues

@@ -4,7 +4,8 @@
 //!   their definitions.
 //! - [`formula_of`]: the formula that a tree of arithmetic is, its names numbered; [`Formula::evaluate`]: what it comes
 //!   to. [`operands_of`] and [`values_of`]: the same for several in a row, each an [`Operand`].
-//! - [`parameter_values`], [`parameter_name`]: the values of a parameter, and the token of its name.
+//! - [`parameter_values`], [`parameter_name`]: the values of a parameter, and the token of its name;
+//!   [`ParameterValues`]: these values, as they are kept.
 //! - [`number_at`]: the number that a token spells; [`number_token`]: the token of a number.
 //! - [`Stack`]: a stack, whose top contracts see first.
 //! - [`Stop`]: why there is no value: a [`Refusal`] with its [`Cause`] and its token, or want of memory.
@@ -20,6 +21,7 @@ mod reading;
 mod refusal;
 mod scope;
 mod stack;
+mod values;
 
 pub use formula::{Formula, Operator, Step};
 pub use names::{Found, NameTable};
@@ -29,3 +31,4 @@ pub use reading::{formula_of, number_at, number_token};
 pub use refusal::{Cause, LimitWord, Refusal, Stop};
 pub use scope::Scope;
 pub use stack::Stack;
+pub use values::ParameterValues;

@@ -2,15 +2,15 @@ use bg_base::Value;
 use bg_elab::*;
 use bg_lists::{Mem, OutOfMemory, Rows};
 use bg_rules::{Rule, System};
-use bg_values::LimitWord;
+use bg_values::{LimitWord, ParameterValues};
 use std::alloc::Global;
 
-fn list(alloc: Global, first: i64, count: i64) -> Mem<Rows<Value>> {
+fn list(alloc: Global, first: i64, count: i64) -> Mem<ParameterValues> {
     let mut values = Vec::new(alloc);
     for place in 0..count {
         values.push(Value::Int(first.wrapping_add(place)))?;
     }
-    Rows::try_from_vec(values)
+    ParameterValues::listed(alloc, values)
 }
 
 /// The choice with that number of one value of 1, 2; of 3; and of 4, 5, 6.
@@ -53,7 +53,7 @@ fn the_first_list_varies_slowest(rt: HostRuntime) -> Mem<()> {
 }
 
 /// How many values the choice with that number of these lists has, if there is one.
-fn chosen(alloc: Global, lists: &[Rows<Value>], number: u32) -> Mem<Option<u32>> {
+fn chosen(alloc: Global, lists: &[ParameterValues], number: u32) -> Mem<Option<u32>> {
     match choice(alloc, lists, number)? {
         Some(values) => Ok(Some(values.len())),
         None => Ok(None),
@@ -69,7 +69,7 @@ fn of_no_lists_there_is_one_choice(rt: HostRuntime) -> Mem<()> {
 
 #[test]
 fn of_an_empty_list_there_is_no_choice(rt: HostRuntime) -> Mem<()> {
-    let lists = [Rows::from_vec(Vec::new(rt.alloc()))];
+    let lists = [ParameterValues::listed(rt.alloc(), Vec::new(rt.alloc()))?];
     assert!(rt; chosen(rt.alloc(), &lists, 0)? == None);
     Ok(())
 }

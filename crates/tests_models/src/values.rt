@@ -5,8 +5,8 @@ use bg_syntax::tree::statements::{SynIntSet, SynParam, SynStmt};
 use bg_syntax::{SyntaxFault, parse};
 use bg_text::{LexFault, tokens};
 use bg_values::{
-    Cause, LimitWord, NameTable, Refusal, Scope, Stop, number_at, operands_of, parameter_name,
-    parameter_values, values_of,
+    Cause, LimitWord, NameTable, ParameterValues, Refusal, Scope, Stop, number_at, operands_of,
+    parameter_name, parameter_values, values_of,
 };
 use std::alloc::Global;
 use std::test::*;
@@ -38,6 +38,29 @@ fn outcome_of(come: Result<Vec<Value>, Stop>) -> Mem<Outcome> {
         )),
         Err(stop) => stopped(stop),
     }
+}
+
+/// The same of values as they are kept for a parameter.
+fn outcome_of_kept(alloc: Global, come: Result<ParameterValues, Stop>) -> Mem<Outcome> {
+    match come {
+        Ok(values) => ends_of(alloc, &values),
+        Err(stop) => stopped(stop),
+    }
+}
+
+/// How many values there are, the first and the last.
+fn ends_of(alloc: Global, values: &ParameterValues) -> Mem<Outcome> {
+    let count = values.len();
+    if count == 0 {
+        return Ok(Outcome::Values(0, 0, 0));
+    }
+    let first = values.value(alloc, 0)?;
+    let last = values.value(alloc, count - 1)?;
+    Ok(Outcome::Values(
+        count as usize,
+        number_or_zero(Some(&first)),
+        number_or_zero(Some(&last)),
+    ))
 }
 
 /// What the formulas of a list come to, where the names have these values.
@@ -124,7 +147,9 @@ fn read_parameter(alloc: Global, text: &str, names: &NameTable<()>, env: &[Value
             SynStmt::Way6(SynParam::Way1(_, _, _, set, _)) if !env.is_empty() => {
                 values_in(alloc, &scope, set, env)
             }
-            SynStmt::Way6(parameter) => outcome_of(parameter_values(alloc, &scope, parameter)),
+            SynStmt::Way6(parameter) => {
+                outcome_of_kept(alloc, parameter_values(alloc, &scope, parameter))
+            }
             _ => Ok(Outcome::NoParameter),
         },
         None => Ok(Outcome::NoParameter),

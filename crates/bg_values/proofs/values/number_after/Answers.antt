@@ -3,7 +3,7 @@ use Rattle.std.specs.Int.{w128}
 use Rattle.std.proofs.lemmas.Int.{to_z-of_z}
 use Rattle.bg_base.specs.declared.labels.Value.TheVariants.{Int}
 use Rattle.bg_values.proofs.Ranges.{after_lies_between, between_fits}
-use Rattle.bg_values.proofs.parameter.number_after.Goals as goal
+use Rattle.bg_values.proofs.values.number_after.Goals as goal
 
 pub overflow_cast-result : goal.overflow_cast-result
 overflow_cast-result c =

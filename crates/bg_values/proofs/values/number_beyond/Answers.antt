@@ -1,7 +1,7 @@
 use Rattle.std.proofs.Common.{arith, rules, FitsSigned, w64}
 use Rattle.std.proofs.lemmas.Int.{to_z-of_z}
 use Rattle.bg_values.proofs.Ranges.{number_whole}
-use Rattle.bg_values.proofs.parameter.number_beyond.Goals as goal
+use Rattle.bg_values.proofs.values.number_beyond.Goals as goal
 
 pub returns : goal.returns
 returns c =

@@ -1,7 +1,7 @@
 use Rattle.std.proofs.Common.{arith}
 use Rattle.std.proofs.lemmas.Int.{to_z-of_z}
 use Rattle.bg_values.proofs.Ranges.{steps_unsigned}
-use Rattle.bg_values.proofs.parameter.steps_of.Goals as goal
+use Rattle.bg_values.proofs.values.steps_of.Goals as goal
 
 pub returns : goal.returns
 returns c =
