@@ -3,9 +3,8 @@
 //! - [`Visible`]: what an expression is read in: the text, its tokens and formals, the controls and the bigraphs.
 //! - [`code_of`]: the code of the expression that a tree of the grammar is, or the first name that cannot stand.
 //! - [`word_at`]: the identifier that a token spells.
-//! - [`Operation`]: what the machine does at a time; [`Arguments`]: formulas in a row, by [`arguments_of`];
-//!   [`argument_count`]:
-//!   how many.
+//! - [`Operation`]: what the machine does at a time.
+//! - [`Arguments`]: formulas in a row, by [`arguments_of`]; [`argument_count`]: how many.
 #![tactic(auto)]
 
 mod arguments;

@@ -19,9 +19,9 @@ use bg_terms::BinaryOperation;
 use bg_values::{Cause, Stop};
 use std::alloc::Global;
 
-/// The code of the expression that a tree is. Refuses the first name that cannot stand: 41, 45 or 43 at a control, 41
-/// or 45 at a bigraph, 41 at a name in arithmetic; or, with 31, a token that does not spell what the tree says. Linear
-/// in the tree.
+/// The code of the expression that a tree is. Refuses the first name that cannot stand: at a control with `UnknownName`
+/// (41), `WrongArguments` (45) or `WrongPorts` (43), at a bigraph with `UnknownName` or `WrongArguments`, in arithmetic
+/// with `UnknownName`; or, with `Unexpected` (31), a token that does not spell what the tree says. Linear in the tree.
 pub fn code_of(alloc: Global, visible: &Visible, tree: &SynE) -> Result<Vec<Operation>, Stop>
     ensures { Reads result ((definition.e_read tree.now).1 visible.now) }
 {

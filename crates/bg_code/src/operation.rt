@@ -40,13 +40,14 @@ pub enum Operation {
     Barren(u32),
     /// Puts the bigraph without regions.
     Empty(u32),
-    /// Counts a term: brackets.
+    /// Counts one more of the terms that an evaluation may have: brackets. At the limit it refuses at that token.
     Count(u32),
-    /// Goes one deeper.
+    /// A nesting or a closure begins, one deeper than the one around it. At the limit of the depth it refuses at that
+    /// token.
     Enter(u32),
-    /// Comes back from there.
+    /// It ends.
     Leave,
-    /// Takes the number of the edge of a closure.
+    /// Takes the next number of an edge, for a closure that begins here and closes its name behind its operand.
     Open,
     /// Closes the name, by the number that was taken last.
     Close {

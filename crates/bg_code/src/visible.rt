@@ -25,7 +25,7 @@ impl<'a> Model for Visible<'a> {
     ghost view = { λ visible. record { scope = visible.scope; controls = visible.controls.now; bigraphs = visible.bigraphs.now } };
 }
 
-/// The control that the token names, or 41.
+/// The control that the token names, or `UnknownName` (41).
 pub(crate) fn control_at<'a>(
     visible: &'a Visible,
     token: u32,
@@ -38,7 +38,7 @@ pub(crate) fn control_at<'a>(
     }
 }
 
-/// The bigraph that the token names, or 41.
+/// The bigraph that the token names, or `UnknownName` (41).
 pub(crate) fn bigraph_at<'a>(visible: &'a Visible, token: u32) -> Result<Found<'a, u32>, Refusal>
     ensures { result ≡ lowering.bigraph_at visible.now token }
 {

@@ -12,7 +12,7 @@ use bg_syntax::tree::names::{SynMoreLowItem, SynNameList, SynNames, SynNumber};
 use bg_values::{Cause, Refusal, Stop, number_at, number_token};
 use std::alloc::Global;
 
-/// The identifier that the token spells, or 31. Linear in the token.
+/// The identifier that the token spells, or `Unexpected` (31). Linear in the token.
 pub fn word_at(alloc: Global, visible: &Visible, token: u32) -> Result<Ident, Stop>
     ensures { Gives result (definition.word_at visible.now token) }
 {
@@ -89,7 +89,7 @@ fn listed_count(list: &SynNameList) -> usize
     }
 }
 
-/// The number of places that a token spells, or 31.
+/// The number of places that a token spells, or `Unexpected` (31).
 pub(crate) fn width_at(visible: &Visible, tree: &SynNumber) -> Result<u64, Refusal>
     ensures { result ≡ definition.width_at visible.now tree.now }
 {

@@ -11,9 +11,10 @@ use bg_terms::Shape;
 use bg_values::{Cause, LimitWord, Stop};
 use std::alloc::Global;
 
-/// The number of the control of this shape with these arguments; it enters the signature where it is new, and 52 comes
-/// where there is no room. Where it gives no number the signature stays as it was. Costs the logarithm
-/// of the number of controls, with a comparison of labels at each step, and time and memory for the label.
+/// The number of the control of this shape with these arguments. It enters the signature where it is new; where there
+/// is no room for it, it is refused as `TooLarge` controls (52). Where it gives no number the signature stays as it was.
+/// Costs the logarithm of the number of controls, with a comparison of labels at each step, and time and memory for the
+/// label.
 pub fn enter(
     alloc: Global,
     at: u32,

@@ -17,7 +17,8 @@ use bg_lists::{Duplicate, Mem, OutOfMemory, Rows};
 use bg_values::{Cause, LimitWord, Refusal, Stop};
 use std::alloc::Global;
 
-/// The bigraph, where it is within the limits; else 52 with the first limit that it exceeds. Takes constant time.
+/// The bigraph, where it is within the limits; else it is refused as `TooLarge` (52), with the first limit that it
+/// exceeds. Takes constant time.
 pub(crate) fn limited(at: u32, big: Builder) -> Result<Builder, Refusal>
     ensures { result ≡ definition.limited at big }
 {
@@ -55,8 +56,8 @@ pub(crate) fn idle_names(alloc: Global, words: &[Ident]) -> Mem<Big>
     Ok(big)
 }
 
-/// `id(n,{x})`; 52 where it has more than 65,536 regions, before it is made. Costs time n log n in its names and
-/// regions.
+/// `id(n,{x})`; refused as `TooLarge` places (52) where it has more than 65,536 regions, before it is made. Costs time
+/// n log n in its names and regions.
 #[tactic(auto, using(bg_terms::proofs::Valid::set_up))]
 pub(crate) fn wide_identity(
     alloc: Global,
@@ -75,7 +76,8 @@ pub(crate) fn wide_identity(
     Ok(big)
 }
 
-/// `merge(n)`; 52 where it has more than 65,536 sites, before it is made. Linear in its sites.
+/// `merge(n)`; refused as `TooLarge` places (52) where it has more than 65,536 sites, before it is made. Linear in its
+/// sites.
 pub(crate) fn wide_merger(alloc: Global, at: u32, width: u64) -> Result<Big, Stop>
     ensures value { Gives result (definition.wide at width (elementary.merger width)) }
     ensures valid { IfOk result IsValid }

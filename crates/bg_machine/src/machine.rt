@@ -71,7 +71,7 @@ impl Machine {
         }
     }
 
-    /// The bigraph on top, and what was met; 31 where there is none.
+    /// The bigraph on top, and what was met; `Unexpected` (31) where there is none, as in the code of no expression.
     pub(crate) fn finish(self, alloc: Global) -> Result<(Big, Met), Stop>
         ensures value { Gives result (calls.finished self) }
         ensures valid { IfOk result (λ found. IsValid found.0) }

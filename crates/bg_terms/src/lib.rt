@@ -3,10 +3,10 @@
 //!
 //! - `specs/Expressions`: an expression, its names looked up; `specs/Terms`: a term, each reference replaced by its
 //!   definition and each argument by its value.
-//! - `specs/Expansion`: `expand`, the term of an expression; `specs/Values`: `value`, the bigraph of a term or its
-//!   first
-//!   refusal; `specs/Numbering`, `specs/Order`: how the nodes and edges of a value are numbered, and in which order its
-//! nodes stand.
+//! - `specs/Expansion`: `expand`, the term of an expression; `specs/Values`: `value`, the bigraph of a term, or its
+//!   first refusal.
+//! - `specs/Numbering`, `specs/Order`: how the nodes and edges of a value are numbered, and in which order its nodes
+//!   stand.
 //! - `specs/Trees`: the expression that a tree of the grammar is.
 //! - [`laws`]: what is proved of them.
 #![tactic(auto)]

@@ -23,7 +23,7 @@ pub fn formula_of(alloc: Global, scope: &Scope, tree: &SynX) -> Result<Formula, 
     Ok(Formula { steps })
 }
 
-/// The number that the token spells; 31 where it spells none. Linear in the token.
+/// The number that the token spells; `Unexpected` (31) where it spells none. Linear in the token.
 pub fn number_at(scope: &Scope, token: u32) -> Result<i64, Refusal>
     ensures { result ≡ definition.number_at scope.now token }
 {
@@ -44,7 +44,7 @@ pub fn number_token(tree: &SynNumber) -> u32
     }
 }
 
-/// The text that the token spells, between its quotes; 31 where that is no text. Linear in the token.
+/// The text that the token spells, between its quotes; `Unexpected` (31) where that is no text. Linear in the token.
 pub(crate) fn text_at(alloc: Global, scope: &Scope, token: u32) -> Result<Text, Stop>
     ensures { Gives result (definition.text_at scope.now token) }
 {
