@@ -23,8 +23,8 @@ use std::alloc::Global;
 /// the edges of its closures are numbered from 0. Or its first refusal, as `value` of `bg_terms` has it. No arity is
 /// above 16.
 ///
-/// Costs time and memory in proportion to the expanded expression, up to a logarithm; and for each nesting and closure, and
-/// each `|` whose left side has not one region, time in proportion to what is inside.
+/// Costs time and memory in proportion to the expanded expression, up to a logarithm; and for each nesting and closure,
+/// and each `|` whose left side has not one region, time in proportion to what is inside.
 pub fn evaluate(
     alloc: Global,
     controls: &NameTable<ControlEntry>,
