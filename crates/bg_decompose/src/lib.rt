@@ -1,9 +1,8 @@
 //! How a host is a context, with a pattern in it, with a parameter in the pattern.
 //!
 //! - [`Decomposition`]: a map of the pattern, the images of its edges, the context and the parameter.
-//! - [`split`]: the decomposition of a host at an occurrence. [`join`]: what a decomposition makes. [`recompose`]: what
-//!   its
-//!   parts make round another bigraph.
+//! - [`split`]: the decomposition of a host at an occurrence. [`join`]: what a decomposition makes.
+//! - [`recompose`]: what its parts make round another bigraph.
 //! - [`laws`]: a decomposition joins to its host.
 #![tactic(auto)]
 

@@ -1,9 +1,8 @@
 //! Patterns, where they occur in a host, and how a host reacts there.
 //!
 //! - [`first_unsolid`]: the clause of a solid bigraph that fails. [`Pattern`]: what occurs in a host.
-//! - [`Rule`] and [`Condition`]: what a reaction replaces, and where it may. [`sides_agree`] and [`map_fits`]: what a
-//!   rule asks
-//!   of its sides.
+//! - [`Rule`] and [`Condition`]: what a reaction replaces, and where it may.
+//! - [`sides_agree`] and [`map_fits`]: what a rule asks of its sides.
 //! - [`Host`]: a bigraph that rules change. [`System`] and [`Predicate`]: what a model describes.
 //! - [`images`]: the image of a node and of a link where a map lists the images of a pattern's nodes.
 //! - [`RuleFault`], [`ReactFault`], [`ListFault`]: why a call gives no result.

@@ -96,7 +96,7 @@ impl Definitions {
     }
 }
 
-/// The arity that a number says. Refuses with 52 what is above 16.
+/// The arity that a number says. Refuses what is above 16 as `TooLarge` arity (52).
 fn arity_at(text: &Scope, tree: &SynNumber) -> Result<u32, Refusal>
     ensures value { result ≡ definition.arity_at text.now (number_token tree.now) }
     ensures small { IfOk result (λ arity. arity ≤ 16) }

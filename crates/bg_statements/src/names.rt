@@ -8,7 +8,7 @@ use bg_syntax::tree::names::{SynFormals, SynMoreLowItem};
 use bg_values::{Cause, NameTable, Refusal, Scope, Stop};
 use std::alloc::Global;
 
-/// Refuses with 42 where the word of the token is there already.
+/// Refuses with `DuplicateName` (42) where the word of the token is there already.
 pub(crate) fn check_new<T: Drop>(
     text: &Scope,
     entries: &NameTable<T>,
@@ -22,7 +22,7 @@ pub(crate) fn check_new<T: Drop>(
     }
 }
 
-/// The formals, in order. Refuses with 42 the first that repeats. Linear in them.
+/// The formals, in order. Refuses with `DuplicateName` (42) the first that repeats. Linear in them.
 pub(crate) fn formals_of(
     alloc: Global,
     text: &Scope,
@@ -66,7 +66,7 @@ fn add_formals(
     Ok(())
 }
 
-/// Adds a formal, or refuses with 42 where it is there.
+/// Adds a formal, or refuses with `DuplicateName` (42) where it is there.
 fn add_formal(
     alloc: Global,
     text: &Scope,

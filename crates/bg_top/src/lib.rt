@@ -13,4 +13,4 @@ mod top;
 pub use bg_words::{Command, Request};
 pub use refusal::Refusal;
 pub use reply::Status;
-pub use top::{MOST, NO_MEMORY, READ_FAILURE, WRITE_FAILURE, engine};
+pub use top::{MOST_BYTES, NO_MEMORY, READ_FAILURE, WRITE_FAILURE, engine};

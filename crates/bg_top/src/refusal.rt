@@ -1,3 +1,4 @@
+//! The lines by which an input is refused.
 ghost use Rattle.std.specs.Prelude.{◌≡◌, Some};
 ghost use Rattle.bg_top.specs.Refusal.{fault_name, model_fault_name, limit_word};
 

@@ -1,3 +1,4 @@
+//! What a command answers: its status and its text.
 ghost use Rattle.std.specs.Prelude.{◌≡◌, Err, IfOk};
 ghost use Rattle.bg_top.specs.Answer.{answer_of};
 ghost use Rattle.bg_top.specs.Failure.{IsTold};

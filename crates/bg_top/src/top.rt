@@ -1,3 +1,4 @@
+//! The top call.
 ghost use Rattle.std.specs.Prelude.{◌≡◌, ◌≢◌, ◌≤◌, ◌<◌, ◌+◌, ◌⊎◌, None, length, IfOk, IfSome, IsErrOf};
 ghost use Rattle.std.specs.Option.{IsSomeAnd};
 ghost use Rattle.bg_io.specs.Faults.{Rose};
@@ -14,8 +15,8 @@ use bg_io::{ReadAllFault, Sink, SinkFault, Source, read_all, write_all};
 use bg_words::{Command, Request, WordsFault, request};
 use std::alloc::{AllocError, Global};
 
-/// So many bytes of an input are read; a longer one is refused.
-pub const MOST: u32 = 8_388_608;
+/// The most bytes of an input; a longer one is refused.
+pub const MOST_BYTES: u32 = 8_388_608;
 
 /// The status where a read failed.
 pub const READ_FAILURE: u8 = 3;
@@ -41,7 +42,7 @@ pub const NO_MEMORY: u8 = 5;
 /// | 4 | a prefix of the text | exactly where the sink's count of faults rose |
 /// | 5 | a prefix of the text | want of memory |
 /// | 6 | a line `too many ..` | exactly where a rule has more occurrences than are asked for |
-/// | 8 | `too long` | exactly where the source gave `MOST + 1` bytes |
+/// | 8 | `too long` | exactly where the source gave `MOST_BYTES + 1` bytes |
 ///
 /// 3, 4 and 5 come before the others: "exactly where" is said of the calls that end with none of them.
 pub fn engine<S: Source, K: Sink>(
@@ -99,7 +100,7 @@ fn run<S: Source, K: Sink>(alloc: Global, words: &[String], source: &mut S, sink
         Err(WordsFault::Refused) => return respond(sink, Status::WrongWords, b"words\n"),
         Err(WordsFault::OutOfMemory) => return NO_MEMORY,
     };
-    let input = match read_all(alloc, source, MOST) {
+    let input = match read_all(alloc, source, MOST_BYTES) {
         Ok(input) => input,
         Err(ReadAllFault::ReadFault) => return READ_FAILURE,
         Err(ReadAllFault::TooLong) => return respond(sink, Status::TooLong, b"too long\n"),

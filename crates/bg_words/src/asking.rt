@@ -15,13 +15,13 @@ pub struct Request {
     pub command: Command,
     /// How many occurrences of a rule are listed at most, from 1 to 1,000,000; 100,000 where it is not given.
     pub most: u32,
-    /// How many workers there are, from 1 to 64; 1 where it is not given.
+    /// How many workers there are, from 1 to 64; 1 where it is not given. No command uses it yet.
     pub workers: u32,
-    /// How many steps are made at most, to 100,000; 1,000 where it is not given.
+    /// How many steps are made at most, from 0 to 100,000; 1,000 where it is not given. No command uses it yet.
     pub steps: u32,
-    /// With what the draws begin, any number of 64 bits; 0 where it is not given.
+    /// With what the draws of a run begin, any number of 64 bits; 0 where it is not given. No command uses it yet.
     pub seed: u64,
-    /// The size of a model that is made, from 1 to 300; 10 where it is not given.
+    /// The size of a model that is made, from 1 to 300; 10 where it is not given. No command uses it yet.
     pub size: u32,
     /// Whether occurrences are explained.
     pub explain: bool,

@@ -5,8 +5,8 @@ use thiserror::Error;
 /// Why words ask for nothing.
 #[derive(Clone, Copy, Debug, PartialEq, Eq, Error)]
 pub enum WordsFault {
-    /// They are no command that is built with options that are there, each once and with a number of its form and
-    /// range.
+    /// They name no command, or more than one; or an option is unknown, stands twice, or has no number of its form and in
+    /// its range.
     #[error("the words are refused")]
     Refused,
     /// There was no memory.
