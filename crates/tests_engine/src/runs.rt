@@ -339,10 +339,70 @@ const ACROSS: &str = "rule 0 r class 0 count 1\n0\nimages\n\
 context\nbigraph 1\nsites 1\nr0\ninner 2\nx #0\n@1.0 #0\nouter 0\nedges 1\n0\nnodes 0\n\
 parameter\nbigraph 1\nsites 0\ninner 0\nouter 1\n@1.0\nedges 0\nnodes 1\n1 B r0 =@1.0\n";
 
-const MATCHED: [Matched; 8] = [
+const CLOSED: &str = "rule 0 r class 0 count 1\n0 1\nimages 0\n\
+context\nbigraph 1\nsites 1\nr0\ninner 0\nouter 0\nedges 0\nnodes 0\n\
+parameter\nbigraph 0\nsites 0\ninner 0\nouter 0\nedges 0\nnodes 0\n";
+
+const MATCHED: [Matched; 19] = [
     (&[], BUILDING, 0, ENTERED),
     (&["--most", "6"], BUILDING, 0, ENTERED),
     (&["--most", "5"], BUILDING, 6, "too many 0 enter 5\n"),
+    (&["--workers", "1"], BUILDING, 0, ENTERED),
+    (&["--workers", "2"], BUILDING, 0, ENTERED),
+    (&["--workers", "64"], BUILDING, 0, ENTERED),
+    (
+        &[],
+        "atomic ctrl A = 0; big s = A | A; react r = A | A --> A; begin brs init s; rules = [ {r} ]; end",
+        0,
+        "rule 0 r class 0 count 2\n0 1\n1 0\n",
+    ),
+    (
+        &[],
+        "ctrl A = 0; ctrl B = 0; ctrl D = 0; big s = A.1 | B.1; react r = A.id || B.id --> A.id || B.id; \
+begin brs init s; rules = [ {r} ]; end",
+        0,
+        "rule 0 r class 0 count 1\n0 1\n",
+    ),
+    (
+        &[],
+        "atomic ctrl A = 1; atomic ctrl B = 1; atomic ctrl D = 1; big s = /z (A{z} | B{z} | D{z}); \
+react r = /x (A{x} | B{x}) --> 1; begin brs init s; rules = [ {r} ]; end",
+        0,
+        "rule 0 r class 0 count 0\n",
+    ),
+    (
+        &["--explain"],
+        "atomic ctrl A = 1; atomic ctrl B = 1; big s = /z (A{z} | B{z}); react r = /x (A{x} | B{x}) --> 1; \
+begin brs init s; rules = [ {r} ]; end",
+        0,
+        CLOSED,
+    ),
+    (
+        &[],
+        "atomic ctrl A = 1; atomic ctrl B = 1; big s = A{z} | B{z}; react r = /x (A{x} | B{x}) --> 1; \
+begin brs init s; rules = [ {r} ]; end",
+        0,
+        "rule 0 r class 0 count 0\n",
+    ),
+    (
+        &[],
+        "ctrl A = 0; ctrl B = 0; big s = A.B.1; react r = A.1 --> 1; begin brs init s; rules = [ {r} ]; end",
+        0,
+        "rule 0 r class 0 count 0\n",
+    ),
+    (
+        &[],
+        "ctrl A = 0; ctrl B = 0; big s = A.B.1; react r = A.id --> id; begin brs init s; rules = [ {r} ]; end",
+        0,
+        "rule 0 r class 0 count 1\n0\n",
+    ),
+    (
+        &[],
+        "ctrl A = 0; atomic ctrl B = 0; big s = A.A.B; \
+react r = A.id || B --> A.id || B; begin brs init s; rules = [ {r} ]; end",
+        0,
+        "rule 0 r class 0 count 0\n",
+    ),
     (
         &[],
         "ctrl A = 0; ctrl B = 0; ctrl D = 0; big s = A.D.B.1; react r = A.id || B.id --> A.id || B.id; \
@@ -467,6 +527,15 @@ fn an_input_of_the_most_bytes_is_judged(rt: HostRuntime) -> Result<(), AllocErro
 }
 
 #[test]
+fn a_read_of_a_model_that_fails_leaves_nothing_written(rt: HostRuntime) -> Result<(), AllocError> {
+    let alloc = rt.alloc();
+    let failing = vec![in alloc; 2]?;
+    let source = MemorySource::new(BUILDING.as_bytes().to_vec(alloc)?, 8, failing);
+    let end = end_of(alloc, &["bigengine", "check"], source, &[])?;
+    expect(&rt, &end, 3, b"")
+}
+
+#[test]
 fn a_read_that_fails_leaves_nothing_written(rt: HostRuntime) -> Result<(), AllocError> {
     let alloc = rt.alloc();
     let source = source_of(alloc, &[2])?;
@@ -480,4 +549,29 @@ fn a_write_that_fails_leaves_the_start_of_the_text(rt: HostRuntime) -> Result<()
     let source = source_of(alloc, &[])?;
     let end = end_of(alloc, &["bigengine", "compose"], source, &[4])?;
     expect(&rt, &end, 4, b"big")
+}
+
+#[test]
+fn a_write_of_occurrences_that_fails_leaves_their_start(rt: HostRuntime) -> Result<(), AllocError> {
+    let alloc = rt.alloc();
+    let source = MemorySource::new(BUILDING.as_bytes().to_vec(alloc)?, 4096, Vec::new(alloc));
+    let end = end_of(alloc, &["bigengine", "match"], source, &[4])?;
+    expect(&rt, &end, 4, b"rul")
+}
+
+/// The beginning of the listing of the system of `COUNTER`: its controls, in the order in which they were met.
+const CONTROLS: &[u8] =
+    b"signature 4\nK(1) 0 atomic\nK(0) 0 atomic\nK(2) 0 atomic\nK(3) 0 atomic\ninit\n";
+
+#[test]
+fn controls_stand_in_the_order_in_which_they_were_met(rt: HostRuntime) -> Result<(), AllocError> {
+    let alloc = rt.alloc();
+    let source = MemorySource::new(COUNTER.as_bytes().to_vec(alloc)?, 4096, Vec::new(alloc));
+    let end = end_of(alloc, &["bigengine", "show"], source, &[])?;
+    if end.status == NO_MEMORY {
+        return Err(AllocError);
+    }
+    assert!(rt; end.status == 0);
+    assert!(rt; end.written.as_slice().starts_with(CONTROLS));
+    Ok(())
 }
