@@ -34,6 +34,12 @@ filled_from_each big zero each = refl
 filled_from_each big (suc count) each =
     and_from (are_filled big count) (has_child big (Region count)) (filled_from_each big count (λ region below. each region (omega arith))) (each count (omega arith))
 
+-- one region more
+pub filled_next : (big : Big) (region : ℕ) → are_filled big region ≡ true → has_child big (Region region) ≡ true → are_filled big (region + 1) ≡ true
+filled_next big region before child =
+    let next : suc region ≡ region + 1 = omega arith in
+    subst (λ count. are_filled big count ≡ true) next (and_from (are_filled big region) (has_child big (Region region)) before child)
+
 -- a region below the count has no child node
 pub not_filled : (big : Big) (count region : ℕ) → region < count → has_child big (Region region) ≡ false → are_filled big count ≡ false
 not_filled big count region below none =
@@ -77,7 +83,7 @@ some_from_test : (count : ℕ) → not (count == 0) ≡ true → 0 < count
 some_from_test count e =
     let apart : count ≡ 0 → ⊥ = λ none. false≢true (sym (not-true (count == 0) e) ∙ eq-eqb count 0 none) in omega arith
 
-test_from_some : (count : ℕ) → 0 < count → not (count == 0) ≡ true
+pub test_from_some : (count : ℕ) → 0 < count → not (count == 0) ≡ true
 test_from_some count below =
     not_from_false (count == 0) (false_from_ne_true (count == 0) (λ none. let e : count ≡ 0 = eqb-true count 0 none in absurd (omega arith)))
 

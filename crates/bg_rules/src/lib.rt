@@ -1,6 +1,7 @@
 //! Patterns, where they occur in a host, and how a host reacts there.
 //!
-//! - [`first_unsolid`]: the clause of a solid bigraph that fails. [`Pattern`]: what occurs in a host.
+//! - [`first_unsolid`], [`unsolid_clause`]: the clause of a solid bigraph that fails, without memory and with it.
+//! - [`Pattern`]: what occurs in a host.
 //! - [`Rule`] and [`Condition`]: what a reaction replaces, and where it may.
 //! - [`sides_agree`] and [`map_fits`]: what a rule asks of its sides.
 //! - [`Host`]: a bigraph that rules change. [`System`] and [`Predicate`]: what a model describes.
@@ -19,6 +20,7 @@ mod predicate;
 pub mod reaction_laws;
 mod rule;
 mod solid;
+mod solid_indexed;
 mod system;
 
 pub use condition::{Condition, Side};
@@ -28,4 +30,5 @@ pub use pattern::{NotSolid, Pattern};
 pub use predicate::Predicate;
 pub use rule::{Rule, map_fits, sides_agree};
 pub use solid::first_unsolid;
+pub use solid_indexed::unsolid_clause;
 pub use system::System;

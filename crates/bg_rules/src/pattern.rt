@@ -53,6 +53,15 @@ impl Pattern {
         }
     }
 
+    /// The pattern that a solid bigraph is, which is not tested again: see [`unsolid_clause`](crate::unsolid_clause).
+    /// Takes no memory and constant time.
+    pub fn from_solid(big: Big) -> Pattern
+        requires { IsPattern big }
+        ensures { result ≡ big }
+    {
+        Pattern { big }
+    }
+
     /// The bigraph.
     pub fn big(&self) -> &Big
         ensures same { result.now ≡ self.now }

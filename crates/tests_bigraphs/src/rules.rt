@@ -7,7 +7,7 @@ use crate::made::{Ended, big_of, label, plain_name};
 use bg_algebra::{atom, barren, ion};
 use bg_base::{Big, Name, Signature};
 use bg_lists::{Duplicate, Mem, OutOfMemory, Rows};
-use bg_rules::{Host, Pattern, Rule, RuleFault, System, first_unsolid};
+use bg_rules::{Host, Pattern, Rule, RuleFault, System, first_unsolid, unsolid_clause};
 use std::alloc::Global;
 use std::process::Abort;
 
@@ -17,7 +17,7 @@ const A: u32 = 0;
 const K: u32 = 3;
 
 /// Bigraphs, and the least clause of a solid bigraph that fails.
-const SOLID: [(&str, Option<u8>); 9] = [
+const SOLID: [(&str, Option<u8>); 12] = [
     // a node with a site in it
     (
         "bigraph 1\nsites 1\nn0\ninner 0\nouter 0\nedges 0\nnodes 1\n0 A r0\n",
@@ -26,6 +26,11 @@ const SOLID: [(&str, Option<u8>); 9] = [
     // a region without a node
     (
         "bigraph 1\nsites 0\ninner 0\nouter 0\nedges 0\nnodes 0\n",
+        Some(1),
+    ),
+    // the last of three regions without a node
+    (
+        "bigraph 3\nsites 1\nr2\ninner 0\nouter 0\nedges 0\nnodes 2\n0 A r0\n1 A r1\n",
         Some(1),
     ),
     // a region without a node, and a name without a point
@@ -38,9 +43,19 @@ const SOLID: [(&str, Option<u8>); 9] = [
         "bigraph 1\nsites 0\ninner 0\nouter 1\nx\nedges 0\nnodes 1\n0 A r0\n",
         Some(2),
     ),
+    // a name without a point, beside one that has one
+    (
+        "bigraph 1\nsites 0\ninner 0\nouter 2\nx\ny\nedges 0\nnodes 1\n0 K r0 =y\n",
+        Some(2),
+    ),
     // two sites in a node
     (
         "bigraph 1\nsites 2\nn0\nn0\ninner 0\nouter 0\nedges 0\nnodes 1\n0 A r0\n",
+        Some(3),
+    ),
+    // two sites in a region, with one in a node between them
+    (
+        "bigraph 1\nsites 3\nr0\nn0\nr0\ninner 0\nouter 0\nedges 0\nnodes 1\n0 A r0\n",
         Some(3),
     ),
     // a site in a region
@@ -70,6 +85,7 @@ fn the_least_clause_is_named(rt: HostRuntime) -> Result<(), Ended> {
     for &(text, clause) in SOLID.iter() {
         let big = big_of(rt.alloc(), text)?;
         assert!(rt; first_unsolid(&big) == clause, "{text}");
+        assert!(rt; unsolid_clause(rt.alloc(), &big)? == clause, "{text}");
     }
     Ok(())
 }
