@@ -19,6 +19,10 @@ Statements:
 definitions  8 MB of definitions
 rules        8 MB of rules without formals, each with a condition
 values       2,048 parameters of 4,096 values each, in ranges
+ranges       8 MB of parameters of 4,096 values each, in ranges
+regions      a redex of 65,536 regions, joined with itself 16 times over
+sites        a redex of 65,536 regions, each with a site in its node
+ports        a redex of 65,536 nodes of 16 ports, each port with a name of its own
 
 The block:
 host         a run begins with 65,536 nodes, each with a name of its own
@@ -31,6 +35,7 @@ labels       a text of 1,000 bytes in 4,096 labels
 Refused:
 terms        a bigraph that is joined with itself until it has too many terms
 toomany      a 4,097th rule
+shared       8 MB of references to a rule, each with the same list of 4,096 values
 spaces       8 MiB of spaces
 """
 import sys
@@ -85,6 +90,22 @@ def up_to(line):
     return ''.join(lines)
 
 
+def letters(number):
+    # short names: lower-case letters alone
+    word = ''
+    while True:
+        word = chr(ord('a') + number % 26) + word
+        number //= 26
+        if number == 0:
+            return 'x' + word
+
+
+def ports(nodes):
+    names = (letters(n) for n in range(16 * nodes))
+    operands = ('W{' + ','.join(next(names) for _ in range(16)) + '}' for _ in range(nodes))
+    return 'atomic ctrl W = 16;\nbig s = ' + '|'.join(operands) + ';\n'
+
+
 def closed():
     return 'big s = ' + ' '.join(f'/x{n}' for n in range(250)) + ' (' + ' | '.join(f'P{{x{n % 300}}}' for n in range(65000)) + ');\n'
 
@@ -108,6 +129,10 @@ KINDS = {
     'brackets': lambda: model(joined('|', lambda n: 250 * '(' + 'A' + 250 * ')', 4096)),
     'definitions': lambda: model(up_to(lambda n: f'big room{n} = N.(A | P{{x}} | /y Q{{x,y}});\n')),
     'rules': lambda: model(up_to(lambda n: f'react move{n} = A | N.(P{{x}} | id) --> N.(A | P{{x}} | id) if !Q{{x,y}} in ctx;\n')),
+    'ranges': lambda: model(up_to(lambda n: f'int n{n} = [0:1:4095];\n')),
+    'regions': lambda: model(doubled('big p0 = A;\n', '||', 16) + 'react r = p16 --> p16;\n', rules='r'),
+    'sites': lambda: model(doubled('big p0 = N.id;\n', '||', 16) + 'react r = p16 --> p16;\n', rules='r'),
+    'ports': lambda: model(ports(65536) + 'react r = s --> s;\n', rules='r'),
     'values': lambda: model(''.join(f'int n{k} = [0:1:4095];\n' for k in range(2048))),
     'host': lambda: model(joined('|', lambda n: f'P{{x{mixed(n)}}}', 65536), init='s'),
     'choices': lambda: model(COUNTED + 'int n = [0:1:63];\nint m = [0:1:63];\n', rules='count(n, m)'),
@@ -117,6 +142,10 @@ KINDS = {
     'labels': lambda: model(f'fun react told(t, n) = A --> A;\nstring t = "{1000 * "a"}";\nint n = [0:1:4095];\n', rules='told(t, n)'),
     'terms': lambda: model(doubled('big p0 = 1;\n', '|', 19)),
     'toomany': lambda: model(MOVE, rules=', '.join(f'move({k}, 0)' for k in range(4097))),
+    'shared': lambda: model(
+        'fun react r(n) = A --> A;\nint n = {' + ', '.join(str(k) for k in range(4096)) + '};\n',
+        rules=','.join(['r(n)'] * (MEGABYTES // 5)),
+    ),
     'spaces': lambda: 8_388_608 * ' ',
 }
 
