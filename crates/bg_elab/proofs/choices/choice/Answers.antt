@@ -9,7 +9,7 @@ loop-at-init c = going_first c.args.lists.now c.args.number c.new-values.result.
 -- a step picks from the list before
 pub loop-at-preserved : goal.loop-at-preserved
 loop-at-preserved c =
-    subst (λ long. Going c.args.lists.now c.args.number (c.loop-at.at - 1) c.push.new.self.items (c.loop-at.left / long)) (sym c.len.ensures.count)
+    subst (λ long. Going c.args.lists.now c.args.number (c.loop-at.at - 1) c.push.new.self.items (c.loop-at.left / long)) (sym c.len.ensures)
     (going_on c.args.lists.now c.args.number c.loop-at.at c.loop-at.values.items c.loop-at.left c.index-lists-at.result c.in_ok-digit.field-0 c.push.new.self.items
     c.loop-at.invariant c.loop-at-test.true (some_there (length c.index-lists-at.result) c.is_empty.result c.is_empty.ensures.1 c.if-is_empty.false) c.index-lists-at.is c.in_ok-digit.ensures c.in_ok-push.ensures.items)
 
