@@ -9,9 +9,9 @@ use bg_base::{Big, Map, Signature, Value};
 use bg_code::Operation;
 use bg_lists::{Duplicate, Mem, Rows};
 use bg_machine::{Met, evaluate, numbers_below, whole};
-use bg_rules::{Condition, Pattern, Side, map_fits, sides_agree};
+use bg_rules::{Condition, Pattern, Side, map_fits, sides_agree, unsolid_clause};
 use bg_terms::ControlEntry;
-use bg_values::{Cause, NameTable, Refusal, Stop};
+use bg_values::{Cause, NameTable, Stop};
 use std::alloc::Global;
 use std::collections::VecDeque;
 use std::marker::Model;
@@ -229,7 +229,7 @@ fn rule_tested(
 ) -> Result<RuleValue, Stop>
     ensures { Gives result (definition.rule_tested at redex reactum map conditions.items) }
 {
-    let redex = redex_tested(at, redex, reactum.big(), &map)?;
+    let redex = redex_tested(alloc, at, redex, reactum.big(), &map)?;
     let conditions = conditions_tested(alloc, conditions)?;
     Ok(RuleValue {
         redex,
@@ -239,25 +239,32 @@ fn rule_tested(
     })
 }
 
-fn redex_tested(at: u32, redex: Whole, reactum: &Big, map: &Map) -> Result<Pattern, Refusal>
-    ensures { result ≡ definition.redex_tested at redex reactum.now map.now }
+fn redex_tested(
+    alloc: Global,
+    at: u32,
+    redex: Whole,
+    reactum: &Big,
+    map: &Map,
+) -> Result<Pattern, Stop>
+    ensures { Gives result (definition.redex_tested at redex reactum.now map.now) }
 {
     if !sides_agree(redex.big(), reactum) {
-        return Err(Refusal::new(Cause::SidesDiffer, at));
+        return Err(Stop::refuse(Cause::SidesDiffer, at));
     }
     if !map_fits(redex.big(), reactum, map) {
-        return Err(Refusal::new(Cause::BadMap, at));
+        return Err(Stop::refuse(Cause::BadMap, at));
     }
-    solid_at(at, redex)
+    solid_at(alloc, at, redex)
 }
 
-/// The pattern that the bigraph is, or 49.
-pub(crate) fn solid_at(at: u32, big: Whole) -> Result<Pattern, Refusal>
-    ensures { result ≡ definition.solid_at at big }
+/// The pattern that the bigraph is, or 49. Costs time n log n in the size of the bigraph, and memory in proportion to
+/// it.
+pub(crate) fn solid_at(alloc: Global, at: u32, big: Whole) -> Result<Pattern, Stop>
+    ensures { Gives result (definition.solid_at at big) }
 {
-    match Pattern::new(big.into_big()) {
-        Ok(pattern) => Ok(pattern),
-        Err(fault) => Err(Refusal::new(Cause::NotSolid(fault.clause), at)),
+    match unsolid_clause(alloc, big.big())? {
+        None => Ok(Pattern::from_solid(big.into_big())),
+        Some(clause) => Err(Stop::refuse(Cause::NotSolid(clause), at)),
     }
 }
 
@@ -269,26 +276,34 @@ fn conditions_tested(
     ensures { Gives result (definition.conditions_tested conditions.items) }
 {
     let mut tested = Vec::new(alloc);
-    add_tested(conditions, &mut tested)?;
+    add_tested(alloc, conditions, &mut tested)?;
     let rows = Rows::try_from_vec(tested)?;
     Ok(rows)
 }
 
 /// Puts them behind these, in turn.
-fn add_tested(conditions: Vec<ConditionValue>, tested: &mut Vec<Condition>) -> Result<(), Stop>
+fn add_tested(
+    alloc: Global,
+    conditions: Vec<ConditionValue>,
+    tested: &mut Vec<Condition>,
+) -> Result<(), Stop>
     ensures { Goes result tested.new.items (in_turn definition.with_tested conditions.items tested.old.items) }
 {
     let mut waiting = VecDeque::from_vec(conditions);
     while let Some(condition) = waiting.pop_front() {
-        add_one_tested(condition, tested)?;
+        add_one_tested(alloc, condition, tested)?;
     }
     Ok(())
 }
 
-fn add_one_tested(condition: ConditionValue, tested: &mut Vec<Condition>) -> Result<(), Stop>
+fn add_one_tested(
+    alloc: Global,
+    condition: ConditionValue,
+    tested: &mut Vec<Condition>,
+) -> Result<(), Stop>
     ensures { Goes result tested.new.items (definition.with_tested condition tested.old.items) }
 {
-    let pattern = solid_at(condition.at, condition.big)?;
+    let pattern = solid_at(alloc, condition.at, condition.big)?;
     tested.push(Condition {
         positive: condition.positive,
         side: condition.side,

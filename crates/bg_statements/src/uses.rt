@@ -133,7 +133,7 @@ impl Uses {
         ensures { (d : Defined) → self.now ≡ kept d → GivesAnd result signature.new (definition.predicate_used d at number label signature.old) }
     {
         let whole = self.bigraph(alloc, at, number, label.args.as_slice(), signature)?;
-        let pattern = solid_at(at, whole)?;
+        let pattern = solid_at(alloc, at, whole)?;
         Ok(Predicate { label, pattern })
     }
 
