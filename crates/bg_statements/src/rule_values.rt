@@ -218,7 +218,7 @@ fn map_or_identity(alloc: Global, map: &Option<Map>, redex: &Big) -> Mem<Map>
     }
 }
 
-/// The rule of these parts, or 47, 48 or 49.
+/// The rule of these parts; or `SidesDiffer` (47), `BadMap` (48) or `NotSolid` (49), in this order.
 fn rule_tested(
     alloc: Global,
     at: u32,
@@ -257,7 +257,7 @@ fn redex_tested(
     solid_at(alloc, at, redex)
 }
 
-/// The pattern that the bigraph is, or 49. Costs time n log n in the size of the bigraph, and memory in proportion to
+/// The pattern that the bigraph is, or `NotSolid` (49). Costs time n log n in the size of the bigraph, and memory in proportion to
 /// it.
 pub(crate) fn solid_at(alloc: Global, at: u32, big: Whole) -> Result<Pattern, Stop>
     ensures { Gives result (definition.solid_at at big) }

@@ -104,7 +104,8 @@ impl Uses {
     }
 
     /// What a run begins with: the host of the bigraph with that number, where its formals have these values. Refuses
-    /// what its evaluation refuses, then 46 at `at` where it is not ground. Costs what `evaluate` costs.
+    /// what its evaluation refuses, then with `NotGround` (46) at `at` a bigraph that is not ground. Costs what `evaluate`
+    /// costs.
     pub fn host(
         &self,
         alloc: Global,
@@ -214,7 +215,7 @@ impl Uses {
     }
 }
 
-/// The host of the bigraph, or 46 where it is not ground.
+/// The host of the bigraph, or `NotGround` (46).
 fn host_of(at: u32, whole: Whole) -> Result<Host, Refusal>
     requires { IsWholeValue whole }
     ensures { result ≡ definition.ground_at at whole }
