@@ -257,8 +257,8 @@ fn redex_tested(
     solid_at(alloc, at, redex)
 }
 
-/// The pattern that the bigraph is, or `NotSolid` (49). Costs time n log n in the size of the bigraph, and memory in proportion to
-/// it.
+/// The pattern that the bigraph is, or `NotSolid` (49). Costs time n log n in the size of the bigraph, and memory in
+/// proportion to it.
 pub(crate) fn solid_at(alloc: Global, at: u32, big: Whole) -> Result<Pattern, Stop>
     ensures { Gives result (definition.solid_at at big) }
 {
