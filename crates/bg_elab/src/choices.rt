@@ -11,11 +11,7 @@ use std::alloc::Global;
 /// slowest; none behind the last choice, and none at all where a list is empty. Of no lists there is one choice, which
 /// is empty. Makes no other choice, so it costs time and memory in proportion to the number of lists and to the texts
 /// among the values that it takes. Of 4,294,967,295 lists or more there is no memory for a choice.
-pub fn choice(
-    alloc: Global,
-    lists: &[ParameterValues],
-    number: u32,
-) -> Mem<Option<Rows<Value>>>
+pub fn choice(alloc: Global, lists: &[ParameterValues], number: u32) -> Mem<Option<Rows<Value>>>
     ensures { IfOk result (λ found. found ≡ slice_get (choices lists.now) number) }
 {
     let mut left = number;
