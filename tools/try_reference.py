@@ -6,7 +6,8 @@
 PROGRAM is the built program. The cases are those made by hand (tools/reference/cases.py) and COUNT at random (1,000 where
 it is not given): models, hosts with redexes, listings and words, many of them damaged. The same SEED (1 where it is not
 given) makes the same cases. Exit status and standard output have to be the same, and nothing may stand on standard error.
-Each difference is told with its words and its input. The last line is `N cases, M different`; the status is 1 where M > 0.
+Each difference is told with its words and its input. The last line is `N cases, M different`, also after Ctrl-C; the
+status is 1 where M > 0.
 
 The reference was written from the description of the language alone and shares no code with the engine or with
 tools/grammar.py: a misreading of either shows here, a sentence that both misread alike does not.
@@ -48,15 +49,19 @@ def main():
     if not 2 <= len(sys.argv) <= 4:
         sys.exit('usage: try_reference.py PROGRAM [COUNT] [SEED]')
     count, seed = [int(number) for number in sys.argv[2:]] + [1000, 1][len(sys.argv) - 2:]
-    chance, tried, different = random.Random(seed), cases(), 0
-    tried += [draw(chance) for _ in range(count)]
-    for words, data in tried:
-        wanted = (*engine(words, data, checks_itself=len(data) < CHECKED), b'')
-        found = answer_of(sys.argv[1], words, data)
-        if found != wanted:
-            different += 1
-            tell(words, data, wanted, found)
-    print(f'{len(tried)} cases, {different} different')
+    chance, made, tried, different = random.Random(seed), cases(), 0, 0
+    try:
+        for place in range(len(made) + count):
+            words, data = made[place] if place < len(made) else draw(chance)
+            wanted = (*engine(words, data, checks_itself=len(data) < CHECKED), b'')
+            found = answer_of(sys.argv[1], words, data)
+            tried += 1
+            if found != wanted:
+                different += 1
+                tell(words, data, wanted, found)
+    except KeyboardInterrupt:
+        print('ended before the last case')
+    print(f'{tried} cases, {different} different')
     sys.exit(1 if different else 0)
 
 

@@ -10,7 +10,7 @@ from .statements import system_of
 from .words import request_of
 
 MOST_BYTES = 8388608
-MOST_TRIED = 20000
+MOST_TRIED = 1000
 
 # A nesting of references is a nesting of calls here.
 sys.setrecursionlimit(100000)

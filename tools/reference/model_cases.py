@@ -85,7 +85,7 @@ USES = ('ctrl K(x) = 0; ctrl L(x,y) = 0; big s = 1; react r(x) = K(x).1 --> 1; r
         'int n = {3,1,3}; int m = [0:1:1]; string t = {"u","v w"}; big p(x) = K(x).1; '
         'big pp(x,y) = L(x,y).1; react z = K(7).1 --> 1; ')
 PAIRS = 'ctrl K(x) = 0; big s = 1; react r(x,y) = K(x).1 --> 1; big p(x,y) = K(1).1; int n = [1:1:{}]; int m = [1:1:64]; '
-ANSWERS_SHOWN = [
+SHOWN = [
     "big s = {a', a0, aA, a_, aa, a, b, a1, a10, a2, a9, a''}; " + EMPTY_BLOCK,
     'ctrl K(x,y) = 1; atomic ctrl L(x) = 2; big s = K(3,"a"){u}.(L(-1){u,v} | L("(,) "){u,u}) | '
     'K(3,"a"){w}.1 | K("3","a"){w}.1; ' + EMPTY_BLOCK,
@@ -136,7 +136,7 @@ def model_cases():
     found += [('show', f'{USES}begin brs init s; rules = [ {each} ]; end') for each in entries(RULES)]
     found += [('show', f'{USES}begin brs init s; rules = []; preds = {{ {each} }}; end') for each in entries(PREDICATES)]
     found += [('check', text) for depth in (254, 255, 256, 257) for text in deep(depth)]
-    found += [('show', text) for text in ANSWERS_SHOWN] + [('match --explain', text) for text in MATCHED]
+    found += [('show', text) for text in SHOWN] + [('match --explain', text) for text in MATCHED]
     for most in (64, 65):
         found.append(('check', PAIRS.format(most) + 'begin brs init s; rules = [{r(n,m)}]; end'))
         found.append(('check', PAIRS.format(most) + 'begin brs init s; rules = []; preds = {p(n,m)}; end'))
