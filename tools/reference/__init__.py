@@ -1,0 +1,15 @@
+"""A second program in Python that answers `compose`, `check`, `show` and `match` as the engine has to.
+
+It was written from the description of the language alone (what docs/LANGUAGE.md, docs/FORMATS.md, docs/REFUSALS.md,
+docs/USAGE.md and docs/DEFINITIONS.md say now), before its writer had read a file of the engine, and shares no code with
+the engine or with tools/grammar.py. So a place where either misreads a sentence shows as a different answer; a sentence
+that both misread alike does not show.
+
+    python3 tools/try_reference.py PROGRAM      compares the two, on cases made by hand and at random
+    cd tools && python3 -m reference check < MODEL      answers as the program would
+
+The answers: engine.py (the commands), words.py, tokens.py, grammar.py, syntax.py (trees as plain values), values.py,
+expressions.py, statements.py, bigraphs.py, occurrences.py, listings.py, spelling.py, refusals.py.
+The cases: draws.py (one of them at random), models.py, faults.py, hosts.py, rows.py, mutations.py, word_lists.py, and by
+hand model_cases.py and cases.py.
+"""
