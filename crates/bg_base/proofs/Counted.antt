@@ -1,5 +1,5 @@
 -- Numbers in a row: which they are, how many, in their order, and one more.
-use Rattle.std.proofs.Common.{◌≡◌, ℕ, zero, suc, ◌+◌, ◌≤◌, ◌<◌, [], ◌∷◌, ◌++◌, length, nat_cmp, Less, refl, ap, ◌∙◌, arith}
+use Rattle.std.proofs.Common.{◌≡◌, ℕ, zero, suc, ◌+◌, ◌≤◌, ◌<◌, [], ◌∷◌, ◌++◌, length, slice_get, Some, nat_cmp, Less, refl, ap, ◌∙◌, arith}
 use Rattle.bg_lists.specs.Lists.{Mem, here, there}
 use Rattle.bg_lists.specs.Orders.{Ascending, asc_nil, asc_cons}
 use Rattle.bg_lists.proofs.Comparisons.{nat_cmp-lt}
@@ -15,6 +15,14 @@ pub length-counted : (first count : ℕ) → length (counted first count) ≡ co
 unfolding counted
 length-counted first zero = refl
 length-counted first (suc count) = ap suc (length-counted (suc first) count)
+
+-- which of them stands at a place
+pub slice_get-counted : (first count place : ℕ) → place < count → slice_get (counted first count) place ≡ Some (first + place)
+unfolding counted
+slice_get-counted first zero place l = absurd (omega (arith, l))
+slice_get-counted first (suc count) zero l = ap Some (let e : first ≡ first + 0 = omega arith in e)
+slice_get-counted first (suc count) (suc place) l =
+    slice_get-counted (suc first) count place (omega (arith, l)) ∙ ap Some (let e : suc first + place ≡ first + suc place = omega arith in e)
 
 pub counted_more : (first count : ℕ) → counted first (count + 1) ≡ counted first count ++ (first + count) ∷ []
 unfolding counted

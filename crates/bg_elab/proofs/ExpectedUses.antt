@@ -61,8 +61,8 @@ solid_expected at big = solid_or_expected at big (unsolid_clause big)
 
 redex_expected : (at : ℕ) (redex reactum : Big) (entries : List ℕ) → IsExpected (redex_tested at redex reactum entries)
 redex_expected at redex reactum entries =
-    whether (not (sides_agree redex reactum)) (bad (λ e. omega arith))
-    (whether (not (map_fits redex reactum entries)) (bad (λ e. omega arith)) (solid_expected at redex))
+    goes_on (whether (not (sides_agree redex reactum)) (bad (λ e. omega arith))
+    (whether (not (map_fits redex reactum entries)) (bad (λ e. omega arith)) good)) (λ agreed. solid_expected at redex)
 
 tested_expected : (conditions : List ConditionValue) → IsExpected (conditions_tested conditions)
 tested_expected conditions = turns_expected with_tested (λ c done. goes_on (solid_expected c.at c.big) (λ pattern. good)) conditions []

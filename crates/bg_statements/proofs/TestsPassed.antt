@@ -11,7 +11,7 @@ use Rattle.bg_rules.proofs.SideTests.{agree_from_test, fits_from_test}
 use Rattle.bg_rules.proofs.SolidLaws.{solid_from_clause}
 use Rattle.bg_statements.specs.declared.rule_values.ConditionValue.{ConditionValue}
 use Rattle.bg_statements.specs.declared.rule_values.RuleValue.{RuleValue}
-use Rattle.bg_statements.specs.RuleValues.{solid_or, solid_at, redex_tested, with_tested, conditions_tested, rule_tested}
+use Rattle.bg_statements.specs.RuleValues.{solid_or, solid_at, sides_tested, redex_tested, with_tested, conditions_tested, rule_tested}
 use Rattle.bg_statements.proofs.Turns.{turns_keep}
 use Rattle.bg_terms.proofs.Numbered.{bound}
 use Rattle.bg_values.proofs.Bindings.{ok_same}
@@ -75,9 +75,10 @@ pub record SidesPassed (redex reactum : Big) (entries : List ℕ) (pattern : Big
 pub sides_passed : (at : ℕ) (redex reactum : Big) (entries : List ℕ) (pattern : Big) → redex_tested at redex reactum entries ≡ Ok pattern
     → SidesPassed redex reactum entries pattern
 sides_passed at redex reactum entries pattern is =
-    let first = passed (sides_agree redex reactum) _ _ pattern is in
-    let second = passed (map_fits redex reactum entries) (solid_at at redex) _ pattern first.1 in
-    let last = solid_same at redex pattern second.1 in
+    let both = bound (sides_tested at redex reactum entries) (λ (agreed : Unit {0}). solid_at at redex) pattern is in
+    let first = passed (sides_agree redex reactum) _ _ both.found both.is in
+    let second = passed (map_fits redex reactum entries) (Ok tt) _ both.found first.1 in
+    let last = solid_same at redex pattern both.goes_on in
     record {
       agree = agree_from_test redex reactum first.0;
       fits = fits_from_test redex reactum entries second.0;

@@ -57,12 +57,15 @@ solid_or at big (Some clause) = refused (NotSolid clause) at
 abbrev pub solid_at : ℕ → Big → Result Big Refusal
 solid_at at big = solid_or at big (unsolid_clause big)
 
+-- 47 where the sides do not agree, else 48 where the map does not fit them
+abbrev pub sides_tested : ℕ → Big → Big → List ℕ → Result (Unit {0}) Refusal
+sides_tested at redex reactum entries =
+    if not (sides_agree redex reactum) then refused SidesDiffer at else (
+    if not (map_fits redex reactum entries) then refused BadMap at else Ok tt)
+
 -- the redex, where the sides agree, the map fits and the redex is solid
 abbrev pub redex_tested : ℕ → Big → Big → List ℕ → Result Big Refusal
-redex_tested at redex reactum entries =
-    if not (sides_agree redex reactum) then refused SidesDiffer at else (
-    if not (map_fits redex reactum entries) then refused BadMap at else
-    solid_at at redex)
+redex_tested at redex reactum entries = sides_tested at redex reactum entries >>= λ agreed. solid_at at redex
 
 -- these conditions and one more, where its pattern is solid
 abbrev pub with_tested : ConditionValue → List Condition → Result (List Condition) Refusal

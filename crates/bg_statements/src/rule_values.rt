@@ -11,7 +11,7 @@ use bg_lists::{Duplicate, Mem, Rows};
 use bg_machine::{Met, evaluate, numbers_below, whole};
 use bg_rules::{Condition, Pattern, Side, map_fits, sides_agree, unsolid_clause};
 use bg_terms::ControlEntry;
-use bg_values::{Cause, NameTable, Stop};
+use bg_values::{Cause, NameTable, Refusal, Stop};
 use std::alloc::Global;
 use std::collections::VecDeque;
 use std::marker::Model;
@@ -239,6 +239,7 @@ fn rule_tested(
     })
 }
 
+/// The pattern that the redex is, tested beside the other side and the map.
 fn redex_tested(
     alloc: Global,
     at: u32,
@@ -248,13 +249,21 @@ fn redex_tested(
 ) -> Result<Pattern, Stop>
     ensures { Gives result (definition.redex_tested at redex reactum.now map.now) }
 {
-    if !sides_agree(redex.big(), reactum) {
-        return Err(Stop::refuse(Cause::SidesDiffer, at));
-    }
-    if !map_fits(redex.big(), reactum, map) {
-        return Err(Stop::refuse(Cause::BadMap, at));
-    }
+    sides_tested(at, redex.big(), reactum, map)?;
     solid_at(alloc, at, redex)
+}
+
+/// Refuses with `SidesDiffer` (47) or `BadMap` (48), in this order. Takes no memory.
+fn sides_tested(at: u32, redex: &Big, reactum: &Big, map: &Map) -> Result<(), Refusal>
+    ensures { result ≡ definition.sides_tested at redex.now reactum.now map.now }
+{
+    if !sides_agree(redex, reactum) {
+        return Err(Refusal::new(Cause::SidesDiffer, at));
+    }
+    if !map_fits(redex, reactum, map) {
+        return Err(Refusal::new(Cause::BadMap, at));
+    }
+    Ok(())
 }
 
 /// The pattern that the bigraph is, or `NotSolid` (49). Costs time n log n in the size of the bigraph, and memory in

@@ -1,23 +1,15 @@
 -- What is kept of values, case by case.
-use Rattle.std.proofs.Common.{◌≡◌, ◌+◌, ◌<◌, ℕ, zero, suc, List, length, slice_get, Some, option_map, arith, sym, ap, ◌∙◌}
+use Rattle.std.proofs.Common.{◌≡◌, ◌+◌, ◌<◌, ℕ, List, length, slice_get, Some, option_map, arith, sym, ap, ◌∙◌}
 use Rattle.std.proofs.lemmas.List.{length-map}
 use Rattle.std.proofs.lemmas.Option.{slice_get-map}
 use Rattle.bg_base.specs.declared.labels.Value.{Value}
 use Rattle.bg_base.specs.Elementary.{counted}
-use Rattle.bg_base.proofs.Counted.{length-counted}
+use Rattle.bg_base.proofs.Counted.{length-counted, slice_get-counted}
 use Rattle.bg_values.specs.declared.values.Bounds.{Bounds}
 use Rattle.bg_values.specs.declared.values.Kept.{Kept}
 use Rattle.bg_values.specs.declared.values.Kept.TheVariants.{Range}
 use Rattle.bg_values.specs.KeptValues.{values_kept}
 use Rattle.bg_values.specs.Parameters.{count, number_after}
-
--- which of some numbers in a row stands at a place
-number_at : (first many place : ℕ) → place < many → slice_get (counted first many) place ≡ Some (first + place)
-unfolding counted
-number_at first zero place l = absurd (omega (arith, l))
-number_at first (suc many) zero l = ap Some (let e : first ≡ first + 0 = omega arith in e)
-number_at first (suc many) (suc place) l =
-    number_at (suc first) many place (omega (arith, l)) ∙ ap Some (let e : suc first + place ≡ first + suc place = omega arith in e)
 
 -- a range has as many values as it has numbers
 pub count_kept : (kept : Kept) (bounds : Bounds) (values : List Value) → kept ≡ Range bounds → values_kept kept ≡ values
@@ -34,4 +26,4 @@ number_kept kept bounds values place is seen l =
     let many = count bounds.first bounds.step bounds.end in
     let f = number_after bounds.first bounds.step in
     ap (λ vs. slice_get vs place) (sym seen ∙ ap values_kept is) ∙ slice_get-map f (counted 0 many) place
-    ∙ ap (option_map f) (number_at 0 many place l) ∙ ap (λ n. Some (f n)) (let e : 0 + place ≡ place = omega arith in e)
+    ∙ ap (option_map f) (slice_get-counted 0 many place l) ∙ ap (λ n. Some (f n)) (let e : 0 + place ≡ place = omega arith in e)
