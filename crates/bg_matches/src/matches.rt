@@ -11,6 +11,7 @@ use crate::fault::MatchesFault;
 use crate::lines::write_excess_line;
 use crate::rule_matches::put_rule;
 use bg_lists::{Mem, OutOfMemory};
+use bg_match::HostIndex;
 use bg_rules::System;
 use std::alloc::Global;
 
@@ -26,10 +27,10 @@ pub enum Written {
 /// Appends, for each rule of the system, its line and all occurrences of its redex in the system's host, each once, in
 /// dictionary order: a line with its map, and where occurrences are explained the decomposition of the host there. Where
 /// a rule has more than `most` occurrences, it appends in place of all that the line that tells of the first such rule.
-/// It fails only where there is no memory, and then `out` is unchanged. Costs the time of `list` for each rule and,
-/// where occurrences are explained, of `split` for each of them, and time in proportion to the text. Holds the text
-/// once, beside the maps of one rule, one decomposition and three times the text of one occurrence. (Milner, chapter
-/// 8.)
+/// It fails only where there is no memory, and then `out` is unchanged. Costs one index of the host, the time of
+/// `HostIndex::list` for each rule and, where occurrences are explained, of `split` for each of them, and time in
+/// proportion to the text. Holds the text once, beside the index, the maps of one rule, one decomposition and three
+/// times the text of one occurrence. (Milner, chapter 8.)
 pub fn write_matches(
     alloc: Global,
     system: &System,
@@ -71,11 +72,12 @@ fn put_rules(
 {
     let signature = system.signature();
     let host = system.init().big();
+    let host = HostIndex::of(alloc, host)?;
     for (number, rule) in system.rules().iter().enumerate() {
         put_rule(
             alloc,
             signature,
-            host,
+            &host,
             number as u32,
             rule,
             most,

@@ -1,6 +1,6 @@
 //! What is written of a rule.
 ghost use Rattle.std.specs.Prelude.{◌≡◌, ◌≤◌, ℕ, length, take, All, IfOk, IfErr, OnOk, OnErr};
-ghost use Rattle.bg_base.specs.Bigraph.{IsValidUnder, IsGround};
+ghost use Rattle.bg_base.specs.Bigraph.{IsValidUnder};
 ghost use Rattle.bg_matches.specs.declared.fault.MatchesFault.TheVariants.{TooMany};
 ghost use Rattle.bg_matches.specs.Appending.{Appends};
 ghost use Rattle.bg_matches.specs.Faults.{fault_of};
@@ -13,7 +13,7 @@ use crate::lines::write_rule_line;
 use crate::occurrence::write_occurrence;
 use bg_base::{Big, Map, Signature};
 use bg_lists::Mem;
-use bg_match::list;
+use bg_match::HostIndex;
 use bg_rules::{ListFault, Pattern, Rule};
 use std::alloc::Global;
 
@@ -22,7 +22,7 @@ use std::alloc::Global;
 pub(crate) fn put_rule(
     alloc: Global,
     signature: &Signature,
-    host: &Big,
+    host: &HostIndex<'_>,
     number: u32,
     rule: &Rule,
     most: u32,
@@ -30,7 +30,6 @@ pub(crate) fn put_rule(
     out: &mut Vec<u8>,
 ) -> Result<(), MatchesFault>
     requires fits { IsValidUnder signature.now host.now }
-    requires ground { IsGround host.now }
     ensures text { OnOk result (Appends (IsRuleText signature.now host.now explain number rule.now) out.old.items out.new.items) }
     ensures few { OnOk result (AreAtMost most host.now rule.now.redex) }
     ensures many { IfErr result (λ fault. (found : ℕ) → fault ≡ TooMany found → (found ≡ number) × AreMoreThan most host.now rule.now.redex) }
@@ -41,7 +40,7 @@ pub(crate) fn put_rule(
     put_maps(
         alloc,
         signature,
-        host,
+        host.host(),
         rule.redex(),
         maps.as_slice(),
         explain,
@@ -53,17 +52,16 @@ pub(crate) fn put_rule(
 /// All occurrences of the redex of the rule with that number, where there are at most so many.
 fn occurrences(
     alloc: Global,
-    host: &Big,
+    host: &HostIndex<'_>,
     number: u32,
     rule: &Rule,
     most: u32,
 ) -> Result<Vec<Map>, MatchesFault>
-    requires ground { IsGround host.now }
     ensures all { IfOk result (λ maps. AreOccurrences host.now rule.now.redex maps.items) }
     ensures few { IfOk result (λ maps. length maps.items ≤ most) }
     ensures many { IfErr result (λ fault. (found : ℕ) → fault ≡ TooMany found → (found ≡ number) × AreMoreThan most host.now rule.now.redex) }
 {
-    match list(alloc, host, rule.redex(), most) {
+    match host.list(alloc, rule.redex(), most) {
         Ok(maps) => Ok(maps),
         Err(fault) => Err(fault_of(number, fault)),
     }
