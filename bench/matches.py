@@ -8,6 +8,7 @@ chain K      2^K nodes in one another: a redex of one node with a site
 star K       2^K - 1 nodes in one: a redex of two nodes with a site
 pairs N      N pairs of nodes, each with a closed link of its own: the redex is such a pair
 deep K       2^K nodes in one another, and two beside: a redex of two regions
+missing K    2^K nodes beside one another, and 4,096 rules whose redex occurs nowhere
 """
 import sys
 
@@ -85,7 +86,20 @@ react r = B.id || D.id --> B.id || D.id;
 ''' + block('s', '{r}')
 
 
-KINDS = {'trial': (trial, 300), 'rooms': (rooms, 2000), 'chain': (chain, 15), 'star': (star, 15), 'pairs': (pairs, 1000), 'deep': (deep, 15)}
+def missing(power):
+    return f'''atomic ctrl A = 0;
+atomic ctrl B = 0;
+{doubled('A', '|', power)}fun react r(n, m) = B --> B;
+begin brs
+  int n = [0:1:63];
+  int m = [0:1:63];
+  init p{power};
+  rules = [ {{r(n, m)}} ];
+end
+'''
+
+
+KINDS = {'trial': (trial, 300), 'rooms': (rooms, 2000), 'chain': (chain, 15), 'star': (star, 15), 'pairs': (pairs, 1000), 'deep': (deep, 15), 'missing': (missing, 16)}
 
 
 def main():
