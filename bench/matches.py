@@ -7,6 +7,7 @@ rooms N      N rooms of five nodes each: a redex of five nodes, with a link that
 chain K      2^K nodes in one another: a redex of one node with a site
 star K       2^K - 1 nodes in one: a redex of two nodes with a site
 pairs N      N pairs of nodes, each with a closed link of its own: the redex is such a pair
+triples N    N triples of nodes, each with two closed links of its own: the redex is such a triple
 deep K       2^K nodes in one another, and two beside: a redex of two regions
 missing K    2^K nodes beside one another, and 4,096 rules whose redex occurs nowhere
 """
@@ -77,6 +78,16 @@ react r = /x (A{{x}} | B{{x}}) --> 1;
 ''' + block('s', '{r}')
 
 
+def triples(size):
+    return f'''atomic ctrl A = 1;
+atomic ctrl B = 2;
+atomic ctrl C = 1;
+big triple = /x /y (A{{x}} | B{{x,y}} | C{{y}});
+big s = {times(size, 'triple')};
+react r = /x /y (A{{x}} | B{{x,y}} | C{{y}}) --> 1;
+''' + block('s', '{r}')
+
+
 def deep(power):
     return f'''ctrl A = 0;
 ctrl B = 0;
@@ -99,7 +110,16 @@ end
 '''
 
 
-KINDS = {'trial': (trial, 300), 'rooms': (rooms, 2000), 'chain': (chain, 15), 'star': (star, 15), 'pairs': (pairs, 1000), 'deep': (deep, 15), 'missing': (missing, 16)}
+KINDS = {
+    'trial': (trial, 300),
+    'rooms': (rooms, 2000),
+    'chain': (chain, 15),
+    'star': (star, 15),
+    'pairs': (pairs, 1000),
+    'triples': (triples, 300),
+    'deep': (deep, 15),
+    'missing': (missing, 16),
+}
 
 
 def main():
