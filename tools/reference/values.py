@@ -6,26 +6,29 @@ from .tokens import LARGEST, SMALLEST
 MOST_VALUES = 4096
 
 
-def look_up(formula, visible):
-    """Refuses the first name of the formula that is not visible."""
+def variables(formula):
+    """The names of the formula where they stand, in the order of the text."""
     if isinstance(formula, Operation):
         for item in formula.items:
-            look_up(item, visible)
+            yield from variables(item)
     elif isinstance(formula, (Negation, Brackets)):
-        look_up(formula.inside, visible)
-    elif isinstance(formula, Variable) and formula.name not in visible:
-        raise Refusal(41, formula.start)
+        yield from variables(formula.inside)
+    elif isinstance(formula, Variable):
+        yield formula
+
+
+def look_up(formula, visible):
+    """Refuses the first name of the formula that is not visible."""
+    for variable in variables(formula):
+        if variable.name not in visible:
+            raise Refusal(41, variable.start)
 
 
 def names_in(formula, names):
     """Adds the names of the formula that are not there yet, in the order of the text."""
-    if isinstance(formula, Operation):
-        for item in formula.items:
-            names_in(item, names)
-    elif isinstance(formula, (Negation, Brackets)):
-        names_in(formula.inside, names)
-    elif isinstance(formula, Variable) and formula.name not in names:
-        names.append(formula.name)
+    for variable in variables(formula):
+        if variable.name not in names:
+            names.append(variable.name)
 
 
 def value_of(formula, environment):
