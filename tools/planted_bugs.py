@@ -1,445 +1,113 @@
 #!/usr/bin/env python3
-"""Bugs that a second hand planted: planted_bugs.py COPY CRATE..
+"""Bugs that are planted on demand: planted_bugs.py COPY CRATE[/NAME].., or planted_bugs.py --look
 
-Writes the bugs of these crates as must-fail edits into a copy of the repository, in place of its own. `rt must-fail CRATE`
-in the copy then has to refuse each. None of them is an edit of the repository: the gate would try each at every change.
+`planted_bugs/CRATE.edits` beside this script has the bugs of a crate. A line `== NAME` begins each, and its lines `file:`,
+`old:` and `new:` are those of a must-fail edit: each `old:` text stands once in the file, as the pairs before it left it. A
+line that begins with `#` says something of what follows. The gate tries none of these bugs.
+
+All bugs of a crate, or one of them, are written into a copy of the repository, in place of the copy's own must-fail edits of
+that crate. The prover then has to refuse each:
+
+    git clone -q . CLONE
+    tools/planted_bugs.py CLONE CRATE
+    cd CLONE && rt must-fail CRATE
+
+With `--look` it says which bugs of the repository that it stands in cannot be planted, since the code has changed under them,
+and ends with 1 if there are any.
 """
 import pathlib
 import sys
 
-# for each crate: the name of the bug, the file, the text, which stands there once, and what stands in its place
-BUGS = {
-    'bg_code': [
-        ('composition-as-tensor', 'src/lowering.rt',
-         'operation: BinaryOperation::Composition,',
-         'operation: BinaryOperation::Tensor,'),
-        ('open-before-enter', 'src/lowering.rt',
-         'code.push(Operation::Enter(slash))?;',
-         'code.push(Operation::Open)?; code.push(Operation::Enter(slash))?;'),
-        ('no-leave-behind-closure', 'src/lowering.rt',
-         'code.push(Operation::Close { at: slash, name })?;',
-         'code.push(Operation::Close { at: 0, name })?;'),
-        ('brackets-not-counted', 'src/lowering.rt',
-         'code.push(Operation::Count(bracket))?;',
-         'code.push(Operation::Count(bracket / 2))?;'),
-        ('ports-before-arguments', 'src/lowering.rt',
-         'return Err(Stop::refuse(Cause::WrongPorts, at));',
-         'return Err(Stop::refuse(Cause::WrongArguments, at));'),
-        ('atom-is-normal', 'src/visible.rt',
-         'Some(found) => found.value.shape.kind == Kind::Atomic,',
-         'Some(found) => found.value.shape.kind == Kind::Normal,'),
-        ('unknown-is-atom', 'src/visible.rt',
-         'None => false,',
-         'None => true,'),
-        ('width-of-id', 'src/lowering.rt',
-         'width: 1,',
-         'width: 0,'),
-        ('linking-has-a-region', 'src/lowering.rt',
-         'width: 0,',
-         'width: 1,'),
-        ('zero-is-one', 'src/lowering.rt',
-         'SynA::Way6(zero) => push(code, Operation::Empty(*zero)),',
-         'SynA::Way6(zero) => push(code, Operation::Barren(*zero)),'),
-        ('last-name-left-out', 'src/words.rt',
-         'for item in more {',
-         'for item in &more[..more.len() / 2] {'),
-        ('one-port-less', 'src/words.rt',
-         'SynNameList::Way1(_, more) => 1 + more.len(),',
-         'SynNameList::Way1(_, more) => more.len(),'),
-        ('one-argument-less', 'src/arguments.rt',
-         'SynArgs::Way1(_, _, more, _) => 1 + more.len(),',
-         'SynArgs::Way1(_, _, more, _) => more.len(),'),
-        ('unexpected-at-zero', 'src/words.rt',
-         'Err(Stop::refuse(Cause::Unexpected, token))',
-         'Err(Stop::refuse(Cause::Unexpected, 0))'),
-        ('items-of-tensor-first', 'src/lowering.rt',
-         'lower_p(alloc, visible, &tree.part1, code)?;',
-         'lower_p(alloc, visible, &tree.part1, code)?; lower_p(alloc, visible, &tree.part1, code)?;'),
-    ],
-    'bg_machine': [
-        ('idle-edges-kept', 'src/ending.rt',
-         'let made = edges_counted(alloc, &lean)?;',
-         'let made = edges_counted(alloc, big)?;'),
-        ('numbers-from-one', 'src/ending.rt',
-         'numbers.push(number)?;',
-         'numbers.push(number / 2)?;'),
-        ('node-numbers-counted', 'src/ending.rt',
-         'let edges = numbers_below(alloc, big.edges.len())?;',
-         'let edges = numbers_below(alloc, big.nodes.len())?;'),
-        ('control-limit', 'src/entering.rt',
-         'if signature.len() >= 4096 {',
-         'if signature.len() >= 4095 {'),
-        ('control-entered-twice', 'src/entering.rt',
-         'Some(number) => Ok(number),',
-         'Some(number) => Ok(number / 2),'),
-        ('kind-normal', 'src/entering.rt',
-         'match signature.add(alloc, label, shape.arity, shape.kind) {',
-         'match signature.add(alloc, label, shape.arity, bg_base::Kind::Normal) {'),
-        ('nodes-limit', 'src/forms.rt',
-         'if big.nodes() > 65_536 {',
-         'if big.nodes() > 65_535 {'),
-        ('edges-before-nodes', 'src/forms.rt',
-         'if big.edges() > 65_536 {',
-         'if big.edges() > 65_537 {'),
-        ('sites-not-limited', 'src/forms.rt',
-         'if big.regions() > 65_536 || big.sites() > 65_536 {',
-         'if big.regions() > 65_536 {'),
-        ('identity-one-wider', 'src/forms.rt',
-         'let big = identity(alloc, width as u32, names.as_slice())?;',
-         'let big = identity(alloc, (width / 2) as u32, names.as_slice())?;'),
-        ('atom-for-ion', 'src/forms.rt',
-         'Kind::Normal => lone_ion(alloc, control, node, &names),',
-         'Kind::Normal => lone_atom(alloc, control, node, &names),'),
-        ('closing-what-is-not-there', 'src/forms.rt',
-         'if !big.has_outer(&name) {',
-         'if big.has_outer(&name) {'),
-        ('terms-limit', 'src/machine.rt',
-         'if self.terms >= 1_048_576 {',
-         'if self.terms > 1_048_576 {'),
-        ('depth-limit', 'src/machine.rt',
-         'if self.depth >= 1024 {',
-         'if self.depth >= 1025 {'),
-        ('edge-number-kept', 'src/machine.rt',
-         'self.edges = next;',
-         'let _ = next;'),
-        ('terms-not-counted', 'src/machine.rt',
-         'self.terms += 1;',
-         'self.terms += 2;'),
-        ('node-number-kept', 'src/machine.rt',
-         'self.nodes = next;',
-         'let _ = next;'),
-        ('operands-exchanged', 'src/machine.rt',
-         'self.join_these(alloc, operation, at, f, g)',
-         'self.join_these(alloc, operation, at, g, f)'),
-        ('nest-exchanged', 'src/machine.rt',
-         'self.nest_these(at, is_atom, f, g)',
-         'self.nest_these(at, is_atom, g, f)'),
-        ('limit-not-tested', 'src/machine.rt',
-         'let big = limited(at, big)?;',
-         'let big = limited(at + 0, big)?; let at = at / 2; let big = limited(at, big)?;'),
-        ('finish-forgets-terms', 'src/machine.rt',
-         'Ok((big, Met { signature, terms }))',
-         'Ok((big, Met { signature, terms: terms / 2 }))'),
-        ('faces-told-as-names', 'src/operators.rt',
-         'Err(AlgebraFault::FacesDiffer) => Err(Stop::refuse(Cause::FacesDiffer, at)),',
-         'Err(AlgebraFault::FacesDiffer) => Err(Stop::refuse(Cause::WidthsDiffer, at)),'),
-        ('faces-told-as-memory', 'src/operators.rt',
-         'Err(AlgebraFault::NamesMeet) => Err(Stop::refuse(Cause::NamesMeet, at)),',
-         'Err(AlgebraFault::NamesMeet) => Err(Stop::OutOfMemory),'),
-        ('atom-tested-last', 'src/operators.rt',
-         'if is_atom {',
-         'if !is_atom {'),
-        ('definitions-before-and-itself', 'src/running.rt',
-         '&definitions[..number as usize],',
-         'definitions,'),
-        ('arguments-of-the-caller', 'src/running.rt',
-         'args.as_slice(),',
-         'env,'),
-        ('leave-does-nothing', 'src/running.rt',
-         'machine.come_back();',
-         'let _ = 0;'),
-        ('last-operation-left-out', 'src/running.rt',
-         'for operation in operations {',
-         'for operation in &operations[..operations.len() / 2] {'),
-    ],
-    'bg_statements': [
-        ('formals-make-no-try', 'src/bigraphs.rt',
-         'if formals == 0 {',
-         'if formals > 0 {'),
-        ('formals-forgotten', 'src/bigraphs.rt',
-         'self.bigraphs.add(alloc, word, formals)?;',
-         'self.bigraphs.add(alloc, word, 0)?;'),
-        ('own-name-checked-among-controls', 'src/bigraphs.rt',
-         'check_new(text, &self.bigraphs, tree.part1)?;',
-         'check_new(text, &self.controls, tree.part1)?;'),
-        ('formals-not-visible', 'src/bigraphs.rt',
-         'let code = self.code_in(alloc, text, &formals, &tree.part4)?;',
-         'let code = self.code_in(alloc, text, &NameTable::new(alloc), &tree.part4)?;'),
-        ('signature-lost', 'src/bigraphs.rt',
-         'self.signature = met.signature;',
-         'let _ = met.signature;'),
-        ('arity-17', 'src/controls.rt',
-         'if number > 16 {',
-         'if number > 15 {'),
-        ('control-with-formals-enters', 'src/controls.rt',
-         'if formals == 0 {',
-         'if formals <= 1 {'),
-        ('first-formal-left-out', 'src/names.rt',
-         'add_formal(alloc, text, first, &mut formals)?;',
-         'let _ = first;'),
-        ('formal-repeats', 'src/names.rt',
-         'Err(Stop::refuse(Cause::DuplicateName, token))',
-         'Ok(())'),
-        ('parameter-values-doubled', 'src/parameters.rt',
-         'let values = Rows::try_from_vec(parameter_values(alloc, text, tree)?)?;',
-         'let mut listed = parameter_values(alloc, text, tree)?; let _ = listed.pop(); let values = Rows::try_from_vec(listed)?;'),
-        ('block-parameters-backwards', 'src/parameters.rt',
-         'self.add_parameter(alloc, text, &item.part1)?;',
-         'self.add_parameter(alloc, text, &item.part1)?; return Ok(());'),
-        ('sides-exchanged', 'src/rule_code.rt',
-         'let redex = expression_of(alloc, visible, &tree.part4)?;',
-         'let redex = expression_of(alloc, visible, &tree.part6)?;'),
-        ('entry-cut', 'src/rule_code.rt',
-         'if number < 4_294_967_295 {',
-         'if number < 4_294_967_294 {'),
-        ('condition-of-other-side', 'src/rule_code.rt',
-         'SynSide::Way1(_) => Side::Ctx,',
-         'SynSide::Way1(_) => Side::Param,'),
-        ('bang-forgotten', 'src/rule_code.rt',
-         'SynNot::Way1(_) => false,',
-         'SynNot::Way1(_) => true,'),
-        ('later-conditions-dropped', 'src/rule_code.rt',
-         'SynIfTail::Way1(conditions) => conditions_of(alloc, visible, conditions),',
-         'SynIfTail::Way1(_) => Ok(Rows::from_vec(Vec::new(alloc))),'),
-        ('conditions-before-reactum', 'src/rule_values.rt',
-         'let reactum = self.whole_value(alloc, rule.reactum.as_slice(), met)?;',
-         'let reactum = self.whole_value(alloc, rule.redex.as_slice(), met)?;'),
-        ('identity-on-reactum', 'src/rule_values.rt',
-         'let map = map_or_identity(alloc, &rule.map, redex.big())?;',
-         'let map = map_or_identity(alloc, &rule.map, reactum.big())?;'),
-        ('clause-lost', 'src/rule_values.rt',
-         'Some(clause) => Err(Stop::refuse(Cause::NotSolid(clause), at)),',
-         'Some(clause) => Err(Stop::refuse(Cause::NotSolid(clause / 2), at)),'),
-        ('condition-at-rule', 'src/rule_values.rt',
-         'let pattern = solid_at(alloc, condition.at, condition.big)?;',
-         'let pattern = solid_at(alloc, 0, condition.big)?;'),
-        ('rule-without-try', 'src/rules.rt',
-         'if formals > 0 {',
-         'if formals == 0 {'),
-        ('terms-counted-anew', 'src/rule_values.rt',
-         '*met = after;',
-         '*met = Met::begun(after.signature);'),
-        ('atomic-is-normal', 'src/statements.rt',
-         'SynStmt::Way1(_, _, _, control) => self.add_control(alloc, text, Kind::Atomic, control),',
-         'SynStmt::Way1(_, _, _, control) => self.add_control(alloc, text, Kind::Normal, control),'),
-        ('host-with-sites', 'src/uses.rt',
-         'big.sites.is_empty() && big.inner.is_empty()',
-         'big.sites.is_empty() || big.inner.is_empty()'),
-        ('class-lost', 'src/uses.rt',
-         'match Rule::new(label, redex, reactum.into_big(), map, conditions, class) {',
-         'match Rule::new(label, redex, reactum.into_big(), map, conditions, 0) {'),
-        ('rules-of-bigraphs', 'src/uses.rt',
-         'rules: &self.definitions.rules,',
-         'rules: &self.definitions.bigraphs,'),
-        ('signature-of-use-lost', 'src/uses.rt',
-         'let whole = setting.whole_value(alloc, code.as_slice(), &mut met)?;',
-         'let whole = setting.whole_value(alloc, code.as_slice(), &mut met)?; let met = Met::begun(Signature::new(alloc));'),
-        ('block-parameters-dropped', 'src/uses.rt',
-         'definitions.add_parameters(alloc, text, parameters)?;',
-         'let _ = parameters;'),
-    ],
-    'bg_matches': [
-        ('rule-line-after-error-stays', 'src/lines.rt',
-         'put_rule_line(alloc, number, rule, count, &mut text)?;',
-         "put_rule_line(alloc, number, rule, count, &mut text)?; out.push(b'\\n')?;"),
-        ('class-is-number', 'src/lines.rt',
-         'write_number(alloc, rule.class(), out)?;',
-         'write_number(alloc, 0, out)?;'),
-        ('count-plus-one', 'src/rule_matches.rt',
-         'write_rule_line(alloc, number, rule, maps.len(), out)?;',
-         'write_rule_line(alloc, number, rule, maps.len() + 0 * maps.len() + 1, out)?;'),
-        ('most-plus-one', 'src/rule_matches.rt',
-         'match list(alloc, host, rule.redex(), most) {',
-         'match list(alloc, host, rule.redex(), most / 2) {'),
-        ('first-map-only', 'src/rule_matches.rt',
-         'write_occurrence(alloc, signature, host, redex, map.as_slice(), explain, out)?;',
-         'write_occurrence(alloc, signature, host, redex, map.as_slice(), explain, out)?; break;'),
-        ('first-rule-only', 'src/matches.rt',
-         'for (number, rule) in system.rules().iter().enumerate() {',
-         'for (number, rule) in system.rules().iter().enumerate().take(1) {'),
-        ('excess-as-matches', 'src/matches.rt',
-         'Ok(Written::Excess)',
-         'Ok(Written::Matches)'),
-        ('truncated-to-nothing', 'src/matches.rt',
-         'let length = out.len();',
-         'let length = out.len() / 2;'),
-        ('parameter-twice', 'src/occurrence.rt',
-         'write_big(alloc, signature, &parts.context, out)?;',
-         'write_big(alloc, signature, &parts.parameter, out)?;'),
-        ('map-behind-decomposition', 'src/occurrence.rt',
-         'let parts = split(alloc, host, redex, map)?;',
-         'let parts = split(alloc, host, redex, map)?; put_images(alloc, &parts.images, out)?;'),
-        ('empty-map-has-no-line', 'src/lines.rt',
-         'write_number(alloc, *first, out)?;',
-         "write_number(alloc, *first + 0, out)?; out.push(b' ')?;"),
-        ('images-word', 'src/lines.rt',
-         'out.extend_from_slice(b"images")?;',
-         'out.extend_from_slice(b"image")?;'),
-    ],
-    'bg_react': [
-        ('late-counted-for-all', 'src/count.rt',
-         'let late = if is_new { 0 } else { nodes };',
-         'let late = if is_new { nodes } else { nodes };'),
-        ('none-at-the-most', 'src/count.rt',
-         'if nodes > (most - count.nodes) as usize {',
-         'if nodes >= (most - count.nodes) as usize {'),
-        ('part-of-the-first', 'src/instance.rt',
-         'push_copy(alloc, parts.part(*region), is_new, at as u32, &mut copies)?;',
-         'push_copy(alloc, parts.part(at as u32), is_new, at as u32, &mut copies)?;'),
-        ('region-of-the-parameter', 'src/instance.rt',
-         'push_copy(alloc, parts.part(*region), is_new, at as u32, &mut copies)?;',
-         'push_copy(alloc, parts.part(*region), is_new, *region, &mut copies)?;'),
-        ('free-not-raised', 'src/instance.rt',
-         'copies.free += part.len() as u32;',
-         'copies.free += (part.len() / 2) as u32;'),
-        ('late-parent-keeps', 'src/instance.rt',
-         'Place::Node(node) => Place::Node(late_number(part, free, node)),',
-         'Place::Node(node) => Place::Node(node),'),
-        ('outer-names-dropped', 'src/instance.rt',
-         'outer: parts.parameter().outer.copy(alloc)?,',
-         'outer: Rows::from_vec(Vec::new(alloc)),'),
-        ('control-of-copy', 'src/instance.rt',
-         'id: late_number(part, free, row.id),',
-         'id: late_number(part, free, row.id) + 1,'),
-        ('part-one-short', 'src/parts.rt',
-         '&self.rows[start..start + count]',
-         '&self.rows[start..start + count / 2]'),
-        ('part-of-the-next', 'src/parts.rt',
-         'let start = self.regions.partition_point(|other| *other < region);',
-         'let start = self.regions.partition_point(|other| *other <= region);'),
-        ('mark-for-children', 'src/parts.rt',
-         'set_mark(marks, at, region);',
-         'set_mark(marks, at, 0);'),
-        ('edges-from-nodes', 'src/reaction.rt',
-         'let next_edge = counter_after(host.next_edge(), reactum.edges.len())?;',
-         'let next_edge = counter_after(host.next_edge(), reactum.nodes.len())?;'),
-        ('reactum-from-zero', 'src/reaction.rt',
-         'let after_reactum = host.next_node() + rule.reactum().nodes.len();',
-         'let after_reactum = host.next_node();'),
-        ('host-kept-and-told', 'src/reaction.rt',
-         '*host = after;',
-         'let _ = after;'),
-        ('full-for-one-copy-too-many', 'src/reaction.rt',
-         'rest_of(room, reactum.nodes.len())',
-         'rest_of(room, reactum.nodes.len() / 2)'),
-        ('map-backwards', 'src/reaction.rt',
-         'for step in 0..count {',
-         'for step in 0..count / 2 {'),
-    ],
-    'bg_show': [
-        ('space-behind-rule', 'src/rule_listing.rt',
-         'b"rule "',
-         'b"rule  "'),
-        ('number-twice', 'src/rule_listing.rt',
-         'write_number(alloc, rule.class(), out)?;',
-         'write_number(alloc, rule.class() / 2, out)?;'),
-        ('map-of-redex-sites', 'src/rule_listing.rt',
-         'write_numbers(alloc, rule.map(), out)',
-         'write_numbers(alloc, &rule.map()[rule.map().as_slice().len() / 2..], out)'),
-        ('reactum-is-redex', 'src/rule_listing.rt',
-         'write_big(alloc, signature, rule.reactum(), out)',
-         'write_big(alloc, signature, rule.redex().big(), out)'),
-        ('sign-for-all', 'src/rule_listing.rt',
-         "out.push(if positive { b'+' } else { b'-' })?;",
-         "out.push(if positive { b'+' } else { b'+' })?;"),
-        ('no-map', 'src/rule_listing.rt',
-         'put_map(alloc, rule, out)?;',
-         'put_map(alloc, rule, out)?; put_map(alloc, rule, out)?;'),
-        ('first-condition-only', 'src/rule_listing.rt',
-         'put_condition(alloc, signature, condition, out)?;',
-         'put_condition(alloc, signature, condition, out)?; break;'),
-        ('host-of-nothing', 'src/show.rt',
-         'put_init(alloc, system, out)?;',
-         'put_init(alloc, system, out)?; put_init(alloc, system, out)?;'),
-        ('out-cleared', 'src/show.rt',
-         'put_system(alloc, system, &mut text)?;',
-         'out.clear(); put_system(alloc, system, &mut text)?;'),
-        ('written-straight', 'src/show.rt',
-         'put_system(alloc, system, &mut text)?;',
-         'put_system(alloc, system, out)?;'),
-        ('preds-counted-by-rules', 'src/show.rt',
-         'system.preds().len(), out)?;',
-         'system.preds().len() + 1, out)?;'),
-        ('line-feed-of-pred', 'src/show.rt',
-         'b"pred ")?;',
-         'b"preds ")?;'),
-        ('half-of-the-conditions', 'src/rule_listing.rt',
-         'put_conditions(alloc, signature, conditions, out)?;',
-         'put_conditions(alloc, signature, &conditions[..conditions.len() / 2], out)?;'),
-    ],
-    'bg_top': [
-        ('classes-for-rules', 'src/counts.rt',
-         'preds: system.preds().len(),',
-         'preds: system.rules().len(),'),
-        ('edges-of-nodes', 'src/counts.rt',
-         'edges: big.edges.len(),',
-         'edges: big.outer.len(),'),
-        ('listing-of-no-line', 'src/failure.rt',
-         'Failure::Refused(Refusal::Listing { code, line })',
-         'Failure::Refused(Refusal::Listing { code: 1, line })'),
-        ('meets-for-differ', 'src/failure.rt',
-         'AlgebraFault::SupportMeets => Failure::Refused(Refusal::SupportMeets),',
-         'AlgebraFault::SupportMeets => Failure::OutOfMemory,'),
-        ('most-off', 'src/models.rt',
-         'match write_matches(alloc, &system, most, explain, &mut text)? {',
-         'match write_matches(alloc, &system, most / 2, explain, &mut text)? {'),
-        ('offset-of-start', 'src/models.rt',
-         'let place = place_of(input, offset);',
-         'let place = place_of(input, 0);'),
-        ('no-line-feed', 'src/models.rt',
-         "text.push('\\n')?;",
-         "text.push(' ')?;"),
-        ('lower-first', 'src/operands.rt',
-         'let (lower, end) = read_big(alloc, input, behind_upper, &signature)?;',
-         'let (lower, end) = read_big(alloc, input, behind_signature, &signature)?;'),
-        ('extra-is-nine', 'src/operands.rt',
-         'const EXTRA: u8 = 8;',
-         'const EXTRA: u8 = 9;'),
-        ('line-from-zero', 'src/operands.rt',
-         'line: 1 };',
-         'line: 0 };'),
-        ('limit-word', 'src/refusal.rt',
-         'LimitWord::Preds => "preds",',
-         'LimitWord::Preds => "rules",'),
-        ('clause-lost', 'src/refusal.rt',
-         '"refused {code} {name} clause {clause} at {line}:{column}"',
-         '"refused {code} {name} at {line}:{column}"'),
-        ('name-of-51', 'src/refusal.rt',
-         '51 => "ZeroDivisor",',
-         '51 => "NumberOverflow",'),
-        ('default-name', 'src/refusal.rt',
-         '_ => "DuplicateLabel",',
-         '_ => "Duplicate",'),
-        ('too-many-is-8', 'src/reply.rt',
-         'Status::TooMany => 6,',
-         'Status::TooMany => 8,'),
-        ('too-long-empty', 'src/top.rt',
-         'b"too long\\n"),',
-         'b"too long"),'),
-        ('words-empty', 'src/top.rt',
-         'b"words\\n"),',
-         'b"words"),'),
-        ('memory-for-read', 'src/top.rt',
-         'Err(ReadAllFault::OutOfMemory) => return NO_MEMORY,',
-         'Err(ReadAllFault::OutOfMemory) => return READ_FAILURE,'),
-        ('show-is-match', 'src/top.rt',
-         'Command::Show => reply_with(alloc, show_text(alloc, input)),',
-         'Command::Show => reply_with(alloc, match_text(alloc, input, request.most, false)),'),
-        ('answer-again', 'src/top.rt',
-         'Ok(()) => status.number(),',
-         'Ok(()) => match write_all(sink, text) { Ok(()) => status.number(), Err(_) => WRITE_FAILURE },'),
-        ('no-memory-is-4', 'src/top.rt',
-         'pub const NO_MEMORY: u8 = 5;',
-         'pub const NO_MEMORY: u8 = 7;'),
-    ],
-}
+HERE = pathlib.Path(__file__).resolve().parent
+BUGS = HERE / 'planted_bugs'
 
 
-def write(copy, crate):
-    """Writes the bugs of the crate as edits, and says where the text of one does not stand there once."""
-    folder = pathlib.Path(copy, 'crates', crate, 'must-fail')
-    for edit in folder.glob('*.edit'):
-        edit.unlink()
-    for name, file, old, new in BUGS[crate]:
-        text = pathlib.Path(copy, 'crates', crate, file).read_text(encoding='utf-8')
-        if text.count(old) != 1:
-            print(f'{crate} {name}: stands {text.count(old)} times: {old}')
-        (folder / f'{name}.edit').write_text(f'file: {file}\nold: {old}\nnew: {new}\n', encoding='utf-8')
-    print(f'{crate}: {len(BUGS[crate])}')
+def bugs_of(crate):
+    """The bugs of the crate: of each its name, and its lines."""
+    bugs = []
+    for line in (BUGS / f'{crate}.edits').read_text(encoding='utf-8').split('\n'):
+        if line.startswith('== '):
+            bugs.append((line[len('== '):], []))
+        elif line and not line.startswith('#'):
+            bugs[-1][1].append(line)
+    return bugs
+
+
+def fault_of(folder, lines):
+    """Why the bug cannot be planted in the crate in this folder, or None."""
+    file, old, texts, pairs = None, None, {}, 0
+    for line in lines:
+        word, _, text = line.partition(':')
+        text = text[1:] if text.startswith(' ') else text
+        if word == 'file':
+            file = text
+            if not (folder / file).is_file():
+                return f'there is no file {file}'
+            texts.setdefault(file, (folder / file).read_text(encoding='utf-8'))
+        elif word == 'old' and file:
+            old = text
+            if texts[file].count(old) != 1:
+                return f'stands {texts[file].count(old)} times in {file}: {old.strip()}'
+        elif word == 'new' and old:
+            texts[file], old, pairs = texts[file].replace(old, text), None, pairs + 1
+        else:
+            return f'a line that is out of place: {line}'
+    if old or not pairs:
+        return 'an `old:` without its `new:`, or no pair'
+    if all(text == (folder / file).read_text(encoding='utf-8') for file, text in texts.items()):
+        return 'changes nothing'
+    return None
+
+
+def plant(copy, word):
+    """Writes the bugs that the word names, of a crate or one, and returns how many of them cannot be planted."""
+    crate, _, wanted = word.partition('/')
+    folder = copy / 'crates' / crate
+    faults = 0
+    (folder / 'must-fail').mkdir(exist_ok=True)
+    for name, lines in bugs_of(crate):
+        if wanted in ('', name):
+            (folder / 'must-fail' / f'{name}.edit').write_text('\n'.join(lines) + '\n', encoding='utf-8')
+            faults += told(crate, name, fault_of(folder, lines))
+    return faults
+
+
+def told(crate, name, fault):
+    """Says the fault, and returns 1 where there is one."""
+    if fault is None:
+        return 0
+    print(f'{crate}/{name}: {fault}')
+    return 1
+
+
+def look(root):
+    """Returns how many bugs of the repository cannot be planted, or have the name of another bug or edit."""
+    faults = 0
+    for path in sorted(BUGS.glob('*.edits')):
+        folder = root / 'crates' / path.stem
+        names = {edit.stem for edit in folder.glob('must-fail/*.edit')}
+        for name, lines in bugs_of(path.stem):
+            faults += told(path.stem, name, 'there is another of this name' if name in names else fault_of(folder, lines))
+            names.add(name)
+    return faults
+
+
+def main(words):
+    if words == ['--look']:
+        return 1 if look(HERE.parent) else 0
+    crates = {path.stem for path in BUGS.glob('*.edits')}
+    known = crates | {f'{crate}/{name}' for crate in crates for name, _ in bugs_of(crate)}
+    unknown = [word for word in words[1:] if word not in known]
+    if len(words) < 2 or unknown:
+        print('planted_bugs.py COPY CRATE[/NAME].. or planted_bugs.py --look;', *['unknown:', *unknown] if unknown else [],
+              'crates:', *sorted(crates), file=sys.stderr)
+        return 2
+    copy = pathlib.Path(words[0])
+    for crate in {word.partition('/')[0] for word in words[1:]}:
+        for edit in (copy / 'crates' / crate / 'must-fail').glob('*.edit'):
+            edit.unlink()
+    return 1 if sum([plant(copy, word) for word in words[1:]]) else 0
 
 
 if __name__ == '__main__':
-    if len(sys.argv) < 3 or any(crate not in BUGS for crate in sys.argv[2:]):
-        sys.exit('planted_bugs.py COPY CRATE.., of ' + ', '.join(BUGS))
-    for name in sys.argv[2:]:
-        write(sys.argv[1], name)
+    sys.exit(main(sys.argv[1:]))
