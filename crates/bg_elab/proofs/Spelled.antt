@@ -7,7 +7,7 @@ use Rattle.bg_base.specs.Spelling.{is_ident, is_text}
 use Rattle.bg_base.specs.Spelling.{is_letter, is_word_byte as is_name_byte}
 use Rattle.bg_text.specs.declared.token.TokenKind.{TokenKind}
 use Rattle.bg_text.specs.declared.token.TokenKind.TheVariants.{Lower, Upper, Zero, One, Num, Text, KwAtomic, KwBegin, KwBig, KwBrs, KwCtrl, KwCtx, KwEnd, KwFun, KwId, KwIf, KwIn, KwInit, KwInt, KwMerge, KwParam, KwPreds, KwReact, KwRules, KwString, Arrow, BarBar, Bar, Plus, Minus, Star, Slash, Dot, Comma, Semicolon, Colon, Equals, OpenBrace, CloseBrace, OpenRound, CloseRound, OpenSquare, CloseSquare, At, Bang}
-use Rattle.bg_text.specs.Spelling.{is_word_byte, is_text_byte, is_closed, same, lower_kind, number_kind, mark, symbol, only, kind_of}
+use Rattle.bg_text.specs.Spelling.{is_word_byte, is_text_byte, is_closed, same, lower_kind, later_kind, number_kind, mark, symbol, only, kind_of}
 use Rattle.bg_text.specs.Tokens.{token}
 use Rattle.bg_values.specs.Reading.{between}
 
@@ -76,6 +76,20 @@ word_is b word e f =
     let both = and_parts (is_word_byte b) (list_all is_word_byte word) f in
     ap (λ v. v && list_all is_name_byte word) e ∙ name_bytes word both.1
 
+later_passed : (word : List ℕ) → is_ident word ≡ true → IsPassed (later_kind word) word
+unfolding later_kind
+later_passed word e =
+    either (same word (codes "in")) (passing {kind = KwIn} tt) (
+    either (same word (codes "init")) (passing {kind = KwInit} tt) (
+    either (same word (codes "int")) (passing {kind = KwInt} tt) (
+    either (same word (codes "merge")) (passing {kind = KwMerge} tt) (
+    either (same word (codes "param")) (passing {kind = KwParam} tt) (
+    either (same word (codes "preds")) (passing {kind = KwPreds} tt) (
+    either (same word (codes "react")) (passing {kind = KwReact} tt) (
+    either (same word (codes "rules")) (passing {kind = KwRules} tt) (
+    either (same word (codes "string")) (passing {kind = KwString} tt) (
+    passing {kind = Lower} e)))))))))
+
 lower_passed : (word : List ℕ) → is_ident word ≡ true → IsPassed (lower_kind word) word
 unfolding lower_kind
 lower_passed word e =
@@ -89,16 +103,7 @@ lower_passed word e =
     either (same word (codes "fun")) (passing {kind = KwFun} tt) (
     either (same word (codes "id")) (passing {kind = KwId} tt) (
     either (same word (codes "if")) (passing {kind = KwIf} tt) (
-    either (same word (codes "in")) (passing {kind = KwIn} tt) (
-    either (same word (codes "init")) (passing {kind = KwInit} tt) (
-    either (same word (codes "int")) (passing {kind = KwInt} tt) (
-    either (same word (codes "merge")) (passing {kind = KwMerge} tt) (
-    either (same word (codes "param")) (passing {kind = KwParam} tt) (
-    either (same word (codes "preds")) (passing {kind = KwPreds} tt) (
-    either (same word (codes "react")) (passing {kind = KwReact} tt) (
-    either (same word (codes "rules")) (passing {kind = KwRules} tt) (
-    either (same word (codes "string")) (passing {kind = KwString} tt) (
-    passing {kind = Lower} e)))))))))))))))))))
+    later_passed word e))))))))))
 
 -- ---- numbers
 

@@ -23,7 +23,21 @@ same [] (b ∷ bs) = false
 same (a ∷ more) [] = false
 same (a ∷ more) (b ∷ bs) = (a == b) && same more bs
 
--- the keywords; any other word with a lower-case letter in front is an identifier
+-- the keywords behind "if", in the order of the alphabet; any other word with a lower-case letter in front is an identifier
+unfoldable pub later_kind : List ℕ → TokenKind
+later_kind word =
+    if same word (codes "in") then KwIn else (
+    if same word (codes "init") then KwInit else (
+    if same word (codes "int") then KwInt else (
+    if same word (codes "merge") then KwMerge else (
+    if same word (codes "param") then KwParam else (
+    if same word (codes "preds") then KwPreds else (
+    if same word (codes "react") then KwReact else (
+    if same word (codes "rules") then KwRules else (
+    if same word (codes "string") then KwString else (
+    Lower)))))))))
+
+-- the keywords
 unfoldable pub lower_kind : List ℕ → TokenKind
 lower_kind word =
     if same word (codes "atomic") then KwAtomic else (
@@ -36,16 +50,7 @@ lower_kind word =
     if same word (codes "fun") then KwFun else (
     if same word (codes "id") then KwId else (
     if same word (codes "if") then KwIf else (
-    if same word (codes "in") then KwIn else (
-    if same word (codes "init") then KwInit else (
-    if same word (codes "int") then KwInt else (
-    if same word (codes "merge") then KwMerge else (
-    if same word (codes "param") then KwParam else (
-    if same word (codes "preds") then KwPreds else (
-    if same word (codes "react") then KwReact else (
-    if same word (codes "rules") then KwRules else (
-    if same word (codes "string") then KwString else (
-    Lower)))))))))))))))))))
+    later_kind word))))))))))
 
 abbrev pub number_kind : List ℕ → TokenKind
 number_kind (d ∷ []) = if d == 48 then Zero else (if d == 49 then One else Num)

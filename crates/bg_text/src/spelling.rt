@@ -58,7 +58,17 @@ pub(crate) fn lower_kind(word: &[u8]) -> TokenKind
         TokenKind::KwId
     } else if is_same(word, b"if") {
         TokenKind::KwIf
-    } else if is_same(word, b"in") {
+    } else {
+        later_kind(word)
+    }
+}
+
+/// The kind of such a word that is none of the first ten keywords.
+#[tactic(auto, unfolding(crate::specs::Spelling::later_kind))]
+fn later_kind(word: &[u8]) -> TokenKind
+    ensures { result ≡ spelling.later_kind word.now }
+{
+    if is_same(word, b"in") {
         TokenKind::KwIn
     } else if is_same(word, b"init") {
         TokenKind::KwInit
