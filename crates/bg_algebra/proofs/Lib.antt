@@ -12,4 +12,3 @@ pub mod InterchangeLaw
 pub mod Framed
 pub mod DerivedLaws
 pub mod ClosingLaws
-pub mod OddCases

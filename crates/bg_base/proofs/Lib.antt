@@ -1,7 +1,5 @@
 pub mod Ascii
 pub mod SignatureLaws
-mod Examples
-mod ProductExamples
 pub mod IndexLaws
 pub mod SearchLaws
 pub mod ClimbLaws

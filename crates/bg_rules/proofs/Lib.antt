@@ -31,15 +31,3 @@ pub mod Grounded
 pub mod Kept
 pub mod Ancestry
 pub mod Wholes
-pub mod ReactionExamples
-mod CaseTests
-mod CaseRows
-mod CaseConditions
-mod CasesThatOccur
-mod CasesThatDoNot
-mod CasesOfValidity
-mod CasesOfPatterns
-mod CasesOfLocalConditions
-mod CasesOfLists
-mod CasesOfNothing
-mod CasesOfReactions

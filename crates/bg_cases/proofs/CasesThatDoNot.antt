@@ -18,19 +18,19 @@ use Rattle.bg_place.specs.Places.{same_place}
 use Rattle.bg_rules.specs.Decomposition.{Occurs}
 use Rattle.bg_rules.specs.LocalConditions.{at_place, above, image_of}
 use Rattle.bg_rules.proofs.Occurrences.{occurs_locally}
-use Rattle.bg_rules.proofs.CaseConditions.{Conditions, conditions, all_hold}
-use Rattle.bg_rules.proofs.CaseTests.{pattern_by, ground_by, unlike, not_among, the_only, locally_by, no_image}
-use Rattle.bg_rules.proofs.CaseRows.{control_of, four_controls, node_a, node_b, node_k, node_l, in_places, with_links, x, y, z, a_alone, b_in_a, a_beside_b, a_with_b, two_k_on_x, two_k_closed, l_half_closed, two_closed_links}
+use Rattle.bg_cases.proofs.CaseConditions.{Conditions, conditions, all_hold}
+use Rattle.bg_cases.proofs.CaseTests.{pattern_by, ground_by, unlike, not_among, the_only, locally_by, no_image}
+use Rattle.bg_cases.proofs.CaseRows.{control_of, four_controls, node_a, node_b, node_k, node_l, in_places, with_links, x, y, z, a_alone, b_in_a, a_beside_b, a_with_b, two_k_on_x, two_k_closed, l_half_closed, two_closed_links}
 
 -- the pattern does not occur at these nodes of the host; of the local conditions, those that hold are told by their tests
-record DoesNotOccur (host pattern : Big) (nodes : List ℕ) (hold : Conditions) : Type 0 where
-  never : Occurs host pattern nodes → ⊥
-  others : conditions host pattern nodes ≡ hold
+pub record DoesNotOccur (host pattern : Big) (nodes : List ℕ) (hold : Conditions) : Type 0 where
+  pub never : Occurs host pattern nodes → ⊥
+  pub others : conditions host pattern nodes ≡ hold
 
 -- ---- 1 the images: nodes of the host, with the controls of the pattern's nodes
 
 -- A.1 in B.1: another control
-another_control : DoesNotOccur (in_places (node_b 0 (Region 0) ∷ []) [] 1) a_alone (0 ∷ []) (record all_hold { images = false })
+pub another_control : DoesNotOccur (in_places (node_b 0 (Region 0) ∷ []) [] 1) a_alone (0 ∷ []) (record all_hold { images = false })
 unfolding along counted fault_of sites_fault inner_fault outer_fault edges_fault nodes_fault
 another_control =
     record {
@@ -82,7 +82,7 @@ too_few_nodes =
     }
 
 -- A.1 | A.1 in A.1 at node 0 twice
-one_node_twice : DoesNotOccur (in_places (node_a 0 (Region 0) ∷ []) [] 1)
+pub one_node_twice : DoesNotOccur (in_places (node_a 0 (Region 0) ∷ []) [] 1)
     (in_places (node_a 0 (Region 0) ∷ node_a 1 (Region 0) ∷ []) [] 1) (0 ∷ 0 ∷ []) (record all_hold { nodes_new = false })
 unfolding along counted fault_of sites_fault inner_fault outer_fault edges_fault nodes_fault IsDistinct
 one_node_twice =
@@ -95,7 +95,7 @@ one_node_twice =
 -- ---- 2 a node in a node
 
 -- A.B.1 in A.1 | B.1: the B does not lie in the A
-not_nested : DoesNotOccur (in_places (node_a 0 (Region 0) ∷ node_b 1 (Region 0) ∷ []) [] 1)
+pub not_nested : DoesNotOccur (in_places (node_a 0 (Region 0) ∷ node_b 1 (Region 0) ∷ []) [] 1)
     b_in_a (0 ∷ 1 ∷ []) (record all_hold { nested = false })
 unfolding along counted fault_of sites_fault inner_fault outer_fault edges_fault nodes_fault
 not_nested =
@@ -109,7 +109,7 @@ not_nested =
 -- ---- 3 what else lies in an image
 
 -- A.1 in A.B.1: the A has a child, and the pattern no site for it. With the site it occurs (`child_in_the_parameter`)
-child_without_a_site : DoesNotOccur (in_places (node_a 0 (Region 0) ∷ node_b 1 (Node 0) ∷ []) [] 1)
+pub child_without_a_site : DoesNotOccur (in_places (node_a 0 (Region 0) ∷ node_b 1 (Node 0) ∷ []) [] 1)
     a_alone (0 ∷ []) (record all_hold { children = false })
 unfolding along counted fault_of sites_fault inner_fault outer_fault edges_fault nodes_fault
 child_without_a_site =
@@ -123,7 +123,7 @@ child_without_a_site =
 -- ---- 4 the places of the pattern's regions
 
 -- A.1 | B.1 in A.1 || B.1: the nodes of one region lie in two places. As A.1 || B.1 they occur (`regions_in_two_places`)
-region_in_two_places : DoesNotOccur (in_places (node_a 0 (Region 0) ∷ node_b 1 (Region 1) ∷ []) [] 2)
+pub region_in_two_places : DoesNotOccur (in_places (node_a 0 (Region 0) ∷ node_b 1 (Region 1) ∷ []) [] 2)
     a_with_b (0 ∷ 1 ∷ []) (record all_hold { one_parent = false })
 unfolding along counted fault_of sites_fault inner_fault outer_fault edges_fault nodes_fault
 region_in_two_places =
@@ -136,7 +136,7 @@ region_in_two_places =
     }
 
 -- A.1 || B.1 in A.B.1: a region lies in an image of the pattern. That the A has a child is no hindrance, since the child is an image
-region_in_an_image : DoesNotOccur (in_places (node_a 0 (Region 0) ∷ node_b 1 (Node 0) ∷ []) [] 1)
+pub region_in_an_image : DoesNotOccur (in_places (node_a 0 (Region 0) ∷ node_b 1 (Node 0) ∷ []) [] 1)
     a_beside_b (0 ∷ 1 ∷ []) (record all_hold { clear = false })
 unfolding along counted fault_of sites_fault inner_fault outer_fault edges_fault nodes_fault
 region_in_an_image =
@@ -161,7 +161,7 @@ region_deep_in_an_image =
 -- ---- 5 ports with one link
 
 -- K{x} | K{x} in K{y} | K{z}: the host ties the ports to two links. As K{x} | K{y} they occur (`two_names_on_two_links`)
-one_name_on_two_links : DoesNotOccur (with_links (node_k 0 (Region 0) (Outer y) ∷ node_k 1 (Region 0) (Outer z) ∷ []) [] (y ∷ z ∷ []) 1)
+pub one_name_on_two_links : DoesNotOccur (with_links (node_k 0 (Region 0) (Outer y) ∷ node_k 1 (Region 0) (Outer z) ∷ []) [] (y ∷ z ∷ []) 1)
     two_k_on_x (0 ∷ 1 ∷ []) (record all_hold { shared = false })
 unfolding along counted fault_of sites_fault inner_fault outer_fault edges_fault nodes_fault
 one_name_on_two_links =
@@ -177,7 +177,7 @@ one_name_on_two_links =
 -- ---- 6 closed links
 
 -- /x (K{x} | K{x}) in K{z} | K{z}: the host has an outer name there, which a context could tie further
-closed_link_on_an_outer_name : DoesNotOccur (with_links (node_k 0 (Region 0) (Outer z) ∷ node_k 1 (Region 0) (Outer z) ∷ []) [] (z ∷ []) 1)
+pub closed_link_on_an_outer_name : DoesNotOccur (with_links (node_k 0 (Region 0) (Outer z) ∷ node_k 1 (Region 0) (Outer z) ∷ []) [] (z ∷ []) 1)
     two_k_closed (0 ∷ 1 ∷ []) (record all_hold { closed = false })
 unfolding along counted fault_of sites_fault inner_fault outer_fault edges_fault nodes_fault
 closed_link_on_an_outer_name =

@@ -9,27 +9,30 @@ use Rattle.bg_base.specs.declared.big.Big.{Big}
 use Rattle.bg_base.specs.Bigraph.{IsValid, has_place}
 use Rattle.bg_base.specs.Composition.{compose}
 use Rattle.bg_base.specs.Elementary.{counted, identity}
+use Rattle.bg_base.specs.Faults.{fault_of, sites_fault, inner_fault, outer_fault, edges_fault, nodes_fault}
 use Rattle.bg_base.specs.Translation.{along, rename}
 use Rattle.bg_base.specs.Products.{tensor}
-use Rattle.bg_rules.specs.Decomposition.{frame}
-use Rattle.bg_rules.proofs.CaseTests.{parts_fit}
-use Rattle.bg_rules.proofs.CaseRows.{node_a, node_b, in_places, nothing, a_alone}
+use Rattle.bg_rules.specs.Decomposition.{frame, IsParameter}
+use Rattle.bg_cases.specs.Parts.{OnlyRows}
+use Rattle.bg_cases.proofs.CaseTests.{parts_fit, fits_by, valid_by, pattern_by, ground_by, parameter_by}
+use Rattle.bg_cases.proofs.CaseRows.{four_controls, node_a, node_b, in_places, nothing, a_alone}
+use Rattle.bg_cases.proofs.CasesThatDoNot.{child_without_a_site}
 
 -- A.B.1, in which A.1 does not occur at node 0 (`child_without_a_site`)
-abbrev host : Big
+abbrev pub host : Big
 host = in_places (node_a 0 (Region 0) ∷ node_b 1 (Node 0) ∷ []) [] 1
 
 -- the B in node 0, which is not there
 abbrev lost_child : NodeRow
 lost_child = node_b 1 (Node 0)
 
-abbrev lost_parameter : Big
+abbrev pub lost_parameter : Big
 lost_parameter = in_places (lost_child ∷ []) [] 0
 
-abbrev lost_context : Big
+abbrev pub lost_context : Big
 lost_context = in_places (lost_child ∷ []) (Region 0 ∷ []) 1
 
-abbrev plain_context : Big
+abbrev pub plain_context : Big
 plain_context = in_places [] (Region 0 ∷ []) 1
 
 -- with such a parameter all fits, and the whole is the host
@@ -51,13 +54,50 @@ unfolding compose tensor identity rename along counted sort put
 context_makes_the_host = refl
 
 -- but neither is valid
-not_a_parameter : IsValid lost_parameter → ⊥
+pub not_a_parameter : IsValid lost_parameter → ⊥
 not_a_parameter valid =
     false≢true (All-member (λ (row : NodeRow). has_place lost_parameter row.parent ≡ true) lost_parameter.nodes valid.parents_there (here refl))
 
-not_a_context : IsValid lost_context → ⊥
+pub not_a_context : IsValid lost_context → ⊥
 not_a_context valid =
     false≢true (All-member (λ (row : NodeRow). has_place lost_context row.parent ≡ true) lost_context.nodes valid.parents_there (here refl))
+
+-- so the host is made row for row, and A.1 does not occur in it
+pub plain_valid : IsValid plain_context
+unfolding counted fault_of sites_fault inner_fault outer_fault edges_fault nodes_fault
+plain_valid = valid_by four_controls plain_context refl
+
+pub with_lost_parameter : OnlyRows host a_alone (0 ∷ []) plain_context [] lost_parameter
+unfolding counted fault_of sites_fault inner_fault outer_fault edges_fault nodes_fault
+with_lost_parameter =
+    let fits = fits_by a_alone (0 ∷ []) plain_context [] lost_parameter parameter_fits in
+    record {
+      is_pattern = pattern_by four_controls a_alone refl refl;
+      ground = ground_by four_controls host refl refl;
+      nodes_new = fits.0;
+      edges_new = fits.1;
+      fit = fits.2;
+      whole = parameter_makes_the_host;
+      never = child_without_a_site.never;
+    }
+
+pub nothing_is_a_parameter : IsParameter nothing
+unfolding counted fault_of sites_fault inner_fault outer_fault edges_fault nodes_fault
+nothing_is_a_parameter = parameter_by four_controls nothing refl refl tt refl
+
+pub with_lost_context : OnlyRows host a_alone (0 ∷ []) lost_context [] nothing
+unfolding counted fault_of sites_fault inner_fault outer_fault edges_fault nodes_fault
+with_lost_context =
+    let fits = fits_by a_alone (0 ∷ []) lost_context [] nothing context_fits in
+    record {
+      is_pattern = pattern_by four_controls a_alone refl refl;
+      ground = ground_by four_controls host refl refl;
+      nodes_new = fits.0;
+      edges_new = fits.1;
+      fit = fits.2;
+      whole = context_makes_the_host;
+      never = child_without_a_site.never;
+    }
 
 -- A.1 | B.1 | B.1, where A.1 occurs at node 0: the rows of a context that is not valid may stand in another order,
 -- and the whole is the same, so that there would be two decompositions

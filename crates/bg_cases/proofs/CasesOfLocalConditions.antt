@@ -29,18 +29,18 @@ use Rattle.bg_algebra.specs.Laws.{Apart}
 use Rattle.bg_rules.specs.LocalConditions.{IsEdgeImage, MeetsLocally}
 use Rattle.bg_rules.proofs.Patterns.{parent_there, place_node, number_row}
 use Rattle.bg_rules.proofs.PortNames.{Mem-names_of}
-use Rattle.bg_rules.proofs.CaseTests.{valid_by, ground_by, unlike, the_only}
-use Rattle.bg_rules.proofs.CaseConditions.{all_tell, new_tells, images_tell, nested_tells, children_tell, one_parent_tells, clear_tells, shared_tells}
-use Rattle.bg_rules.proofs.CasesOfPatterns.{clauses}
-use Rattle.bg_rules.proofs.CaseRows.{four_controls, node_a, node_k, in_places, with_links, context_of, tied, x, y}
+use Rattle.bg_cases.proofs.CaseTests.{valid_by, ground_by, unlike, the_only}
+use Rattle.bg_cases.proofs.CaseConditions.{all_tell, new_tells, images_tell, nested_tells, children_tell, one_parent_tells, clear_tells, shared_tells}
+use Rattle.bg_cases.proofs.CasesOfPatterns.{clauses}
+use Rattle.bg_cases.proofs.CaseRows.{four_controls, node_a, node_k, in_places, with_links, context_of, tied, x, y}
 
 -- the bigraph is valid and meets just these clauses, its nodes meet the local conditions, and yet it does not occur there
-record Fails (host pattern : Big) (nodes : List ℕ) (met : List Bool) : Type 0 where
-  valid : IsValid pattern
-  ground : IsGround host
-  clauses_met : clauses pattern ≡ met
-  local : MeetsLocally host pattern nodes
-  never : Occurs host pattern nodes → ⊥
+pub record Fails (host pattern : Big) (nodes : List ℕ) (met : List Bool) : Type 0 where
+  pub valid : IsValid pattern
+  pub ground : IsGround host
+  pub clauses_met : clauses pattern ≡ met
+  pub local : MeetsLocally host pattern nodes
+  pub never : Occurs host pattern nodes → ⊥
 
 -- ---- an inner name: the identity on the names of the parameter's ports has not all the names that are asked for
 
@@ -58,7 +58,7 @@ one_more edges names e =
     let short = length-map names row_to_itself in
     omega (arith, long, short)
 
-inner_name : Fails (with_links (node_a 0 (Region 0) ∷ []) [] (y ∷ []) 1) a_and_inner_name (0 ∷ []) (true ∷ true ∷ true ∷ true ∷ true ∷ false ∷ true ∷ true ∷ [])
+pub inner_name : Fails (with_links (node_a 0 (Region 0) ∷ []) [] (y ∷ []) 1) a_and_inner_name (0 ∷ []) (true ∷ true ∷ true ∷ true ∷ true ∷ false ∷ true ∷ true ∷ [])
 unfolding along counted fault_of sites_fault inner_fault outer_fault edges_fault nodes_fault
 inner_name =
     record {
@@ -129,7 +129,7 @@ never_beside o =
       | inr w ↦ not_inside o w.0 w.1 (ap (λ (r : NodeRow). r.id) w.2) (as_many_ports o.context w.0 child w.2 refl)
     ]
 
-port_name : Fails k_in_k k_on_port_name (0 ∷ []) (true ∷ true ∷ true ∷ true ∷ true ∷ true ∷ false ∷ true ∷ [])
+pub port_name : Fails k_in_k k_on_port_name (0 ∷ []) (true ∷ true ∷ true ∷ true ∷ true ∷ true ∷ false ∷ true ∷ [])
 unfolding along counted fault_of sites_fault inner_fault outer_fault edges_fault nodes_fault
 port_name =
     record {

@@ -13,8 +13,8 @@ use Rattle.bg_base.specs.Translation.{along, rename}
 use Rattle.bg_base.specs.Products.{tensor, lean}
 use Rattle.bg_rules.specs.Instantiation.{part, late_nodes, number_in_copy, copies_from, instantiate, next_after}
 use Rattle.bg_rules.specs.Reaction.{AreSides, Reacts}
-use Rattle.bg_rules.proofs.CaseTests.{valid_by, pattern_by, parameter_by, decomposes_by}
-use Rattle.bg_rules.proofs.CaseRows.{four_controls, node_a, node_b, node_k, in_places, with_links, context_of, parameter_of, tied, nothing, x, y, a_open, k_on_x}
+use Rattle.bg_cases.proofs.CaseTests.{valid_by, pattern_by, parameter_by, decomposes_by}
+use Rattle.bg_cases.proofs.CaseRows.{four_controls, node_a, node_b, node_k, in_places, with_links, context_of, parameter_of, tied, nothing, x, y, a_open, k_on_x}
 
 -- ---- instantiation
 

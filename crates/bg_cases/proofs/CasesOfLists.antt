@@ -18,9 +18,9 @@ use Rattle.bg_rules.specs.Decomposition.{Occurs}
 use Rattle.bg_rules.specs.LocalConditions.{MeetsLocally}
 use Rattle.bg_rules.specs.Occurrences.{AreOccurrences}
 use Rattle.bg_rules.proofs.Occurrences.{locally_occurs}
-use Rattle.bg_rules.proofs.CaseTests.{pattern_by, ground_by, locally_by, unlike, the_only}
-use Rattle.bg_rules.proofs.CaseConditions.{all_tell}
-use Rattle.bg_rules.proofs.CaseRows.{four_controls, node_a, node_b, in_places, a_open, a_alone}
+use Rattle.bg_cases.proofs.CaseTests.{pattern_by, ground_by, locally_by, unlike, the_only}
+use Rattle.bg_cases.proofs.CaseConditions.{all_tell}
+use Rattle.bg_cases.proofs.CaseRows.{four_controls, node_a, node_b, in_places, a_open, a_alone}
 
 abbrev Below : List ℕ → List ℕ → Type 0
 Below x y = slice_cmp nat_cmp x y ≡ Less

@@ -20,7 +20,7 @@ use Rattle.bg_place.proofs.RowLaws.{same_place_from_test}
 use Rattle.bg_rules.specs.Solid.{is_node}
 use Rattle.bg_rules.specs.Decomposition.{AreNew}
 use Rattle.bg_rules.specs.LocalConditions.{Meets, at_place, above, image_of, IsImage, IsEdgeImage, MeetsLocally}
-use Rattle.bg_rules.proofs.CaseTests.{are_new, new-from_test}
+use Rattle.bg_cases.proofs.CaseTests.{are_new, new-from_test}
 
 same_place-by : (p q : Place) → p ≡ q → same_place p q ≡ true
 same_place-by (Node m) (Node n) e = let same : m ≡ n = cc in eq-eqb m n same

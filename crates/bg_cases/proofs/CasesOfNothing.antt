@@ -19,11 +19,11 @@ use Rattle.bg_base.proofs.CompositionTests.{FacesAgree-from_test, SupportsApart-
 use Rattle.bg_base.proofs.Climbs.{row_from_reaches}
 use Rattle.bg_algebra.proofs.CompositionLaws.{same_parts, neutral_below}
 use Rattle.bg_rules.specs.Decomposition.{frame, names_of, Decomposes}
-use Rattle.bg_rules.proofs.CaseTests.{valid_by, parameter_by, new-from_test, apart-from_test}
-use Rattle.bg_rules.proofs.CasesOfPatterns.{clauses}
-use Rattle.bg_rules.proofs.CaseRows.{four_controls, nothing}
+use Rattle.bg_cases.proofs.CaseTests.{valid_by, parameter_by, new-from_test, apart-from_test}
+use Rattle.bg_cases.proofs.CasesOfPatterns.{clauses}
+use Rattle.bg_cases.proofs.CaseRows.{four_controls, nothing}
 
-all_but_a_node : clauses nothing ≡ true ∷ true ∷ true ∷ true ∷ false ∷ true ∷ true ∷ true ∷ []
+pub all_but_a_node : clauses nothing ≡ true ∷ true ∷ true ∷ true ∷ false ∷ true ∷ true ∷ true ∷ []
 unfolding counted
 all_but_a_node = refl
 
@@ -67,7 +67,7 @@ unfolding tensor rename identity counted
 frame_sites edges names = refl
 
 -- a decomposition has the host for its context, and nothing for its parameter
-one_way : (host context : Big) (edges : List ℕ) (parameter : Big) → Decomposes host nothing [] context edges parameter
+pub one_way : (host context : Big) (edges : List ℕ) (parameter : Big) → Decomposes host nothing [] context edges parameter
     → (context ≡ host) × (edges ≡ []) × (parameter ≡ nothing)
 unfolding identity
 one_way host context edges parameter d =
@@ -83,7 +83,7 @@ one_way host context edges parameter d =
     (sym (around context d.context_valid sites names) ∙ ap (compose context) (sym inside) ∙ d.whole, no_edges, none)
 
 -- and that is one
-each_host : (host : Big) → IsGround host → Decomposes host nothing [] host [] nothing
+pub each_host : (host : Big) → IsGround host → Decomposes host nothing [] host [] nothing
 unfolding compose tensor identity rename counted sort fault_of sites_fault inner_fault outer_fault edges_fault nodes_fault
 each_host host ground =
     let sites = sym (ap length ground.no_sites) in

@@ -31,11 +31,11 @@ use Rattle.bg_rules.specs.Solid.{has_child, is_node, IsPattern}
 use Rattle.bg_rules.specs.LocalConditions.{IsImage, MeetsLocally}
 use Rattle.bg_rules.proofs.Patterns.{image_row_mem}
 use Rattle.bg_rules.proofs.Occurrences.{occurs_locally}
-use Rattle.bg_rules.specs.Decomposition.{port_names, names_of, IsParameter, frame, AreNew, Decomposes, Occurs}
+use Rattle.bg_rules.specs.Decomposition.{port_names, names_of, IsParameter, frame, AreNew, FitTogether, Decomposes, Occurs}
 
 -- ---- lists
 
-pass_each : {X : Type 0} (test : X → Bool) (xs : List X) → list_all test xs ≡ true → All (λ x. test x ≡ true) xs
+pub pass_each : {X : Type 0} (test : X → Bool) (xs : List X) → list_all test xs ≡ true → All (λ x. test x ≡ true) xs
 pass_each test xs all = All-from_members (λ x. test x ≡ true) xs (λ x m. list_all-member test xs all m)
 
 fail_each_by_recursion : {X : Type 0} (test : X → Bool) (xs : List X) → list_all (λ x. not (test x)) xs ≡ true → AllByRecursion (λ x. test x ≡ false) xs
@@ -52,7 +52,7 @@ abbrev pub differ : {X : Type 0} → (X → X → Bool) → List X → Bool
 differ same [] = true
 differ same (x ∷ xs) = list_all (λ y. not (same x y)) xs && differ same xs
 
-IsDistinct-from_differ : {X : Type 0} (same : X → X → Bool) (xs : List X) → differ same xs ≡ true → IsDistinct same xs
+pub IsDistinct-from_differ : {X : Type 0} (same : X → X → Bool) (xs : List X) → differ same xs ≡ true → IsDistinct same xs
 unfolding IsDistinct
 IsDistinct-from_differ same [] all = tt
 IsDistinct-from_differ same (x ∷ xs) all =
@@ -63,7 +63,7 @@ abbrev pub is_nil : {X : Type 0} → List X → Bool
 is_nil [] = true
 is_nil (x ∷ xs) = false
 
-nil-from_test : {X : Type 0} (xs : List X) → is_nil xs ≡ true → xs ≡ []
+pub nil-from_test : {X : Type 0} (xs : List X) → is_nil xs ≡ true → xs ≡ []
 nil-from_test [] e = refl
 nil-from_test (x ∷ xs) e = absurd (false≢true e)
 
@@ -109,6 +109,11 @@ member_below first (suc count) n low high =
     above_it : (first n : ℕ) → first ≤ n → eqb first n ≡ false → suc first ≤ n
     above_it first n low e = grind arith
 
+pub regions_filled_by : (big : Big) → regions_are_filled big ≡ true → (region : ℕ) → region < big.regions → has_child big (Region region) ≡ true
+regions_filled_by big all region below =
+    list_all-member (λ (region : ℕ). has_child big (Region region)) (counted 0 big.regions) all
+    (member_below 0 big.regions region (omega arith) (omega (arith, below)))
+
 pub pattern_by : (signature : List Control) (big : Big) → fault_of signature big ≡ None → is_like_a_pattern big ≡ true → IsPattern big
 pattern_by signature big none e =
     let one = and_parts (regions_are_filled big) (sites_are_good big && (names_are_good big && (edges_are_good big && has_nodes big))) e in
@@ -121,8 +126,7 @@ pattern_by signature big none e =
     record {
       valid = valid_by signature big none;
       solid = record {
-        regions_filled = λ region below. list_all-member (λ (region : ℕ). has_child big (Region region)) (counted 0 big.regions) one.0
-            (member_below 0 big.regions region (omega arith) (omega (arith, below)));
+        regions_filled = regions_filled_by big one.0;
         names_used = pass_each (λ (name : Name). has_point big (Outer name)) big.outer names.0;
         sites_apart = IsDistinct-from_differ same_place big.sites sites.0;
         sites_inside = pass_each (λ (place : Place). is_node place) big.sites sites.1;
@@ -179,6 +183,30 @@ abbrev pub Discrete : Big → Type 0
 Discrete parameter =
     AllByRecursion (λ (row : NodeRow). row.links ≡ map Outer (port_names row.id (length row.links))) parameter.nodes
 
+pub fits_by : (pattern : Big) (nodes : List ℕ) (context : Big) (edges : List ℕ) (parameter : Big) → parts_fit pattern nodes context edges parameter ≡ true
+    → AreNew nodes (length pattern.nodes) × AreNew edges (length pattern.edges) × FitTogether pattern nodes context edges parameter.outer parameter
+fits_by pattern nodes context edges parameter e =
+    let inside = compose (frame pattern nodes edges parameter.outer) parameter in
+    let framed = frame pattern nodes edges parameter.outer in
+    let apart = are_apart (rename pattern nodes edges) (identity 0 parameter.outer) in
+    let edges_new = are_new edges (length pattern.edges) in
+    let one = and_parts (are_new nodes (length pattern.nodes)) (edges_new && (apart && (fit framed parameter && fit context inside))) e in
+    let two = and_parts edges_new (apart && (fit framed parameter && fit context inside)) one.1 in
+    let three = and_parts apart (fit framed parameter && fit context inside) two.1 in
+    let four = and_parts (fit framed parameter) (fit context inside) three.1 in
+    let filled = and_parts (faces_agree framed parameter) (supports_apart framed parameter) four.0 in
+    let placed = and_parts (faces_agree context inside) (supports_apart context inside) four.1 in (
+      new-from_test nodes (length pattern.nodes) one.0,
+      new-from_test edges (length pattern.edges) two.0,
+      record {
+        apart = apart-from_test (rename pattern nodes edges) (identity 0 parameter.outer) three.0;
+        filled = FacesAgree-from_test framed parameter filled.0;
+        filled_apart = SupportsApart-from_test framed parameter filled.1;
+        placed = FacesAgree-from_test context inside placed.0;
+        placed_apart = SupportsApart-from_test context inside placed.1;
+      },
+    )
+
 module _ (signature : List Control) where
   pub parameter_by : (parameter : Big) → fault_of signature parameter ≡ None → (is_without_inside parameter && is_nil parameter.edges) ≡ true → Discrete parameter
       → parameter.outer ≡ names_of parameter.nodes → IsParameter parameter
@@ -196,29 +224,14 @@ module _ (signature : List Control) where
       → parts_fit pattern nodes context edges parameter ≡ true
       → compose context (compose (frame pattern nodes edges parameter.outer) parameter) ≡ host → Decomposes host pattern nodes context edges parameter
   decomposes_by host pattern nodes context edges parameter pattern_valid valid is e whole =
-      let inside = compose (frame pattern nodes edges parameter.outer) parameter in
-      let framed = frame pattern nodes edges parameter.outer in
-      let apart = are_apart (rename pattern nodes edges) (identity 0 parameter.outer) in
-      let edges_new = are_new edges (length pattern.edges) in
-      let one = and_parts (are_new nodes (length pattern.nodes)) (edges_new && (apart && (fit framed parameter && fit context inside))) e in
-      let two = and_parts edges_new (apart && (fit framed parameter && fit context inside)) one.1 in
-      let three = and_parts apart (fit framed parameter && fit context inside) two.1 in
-      let four = and_parts (fit framed parameter) (fit context inside) three.1 in
-      let filled = and_parts (faces_agree framed parameter) (supports_apart framed parameter) four.0 in
-      let placed = and_parts (faces_agree context inside) (supports_apart context inside) four.1 in
+      let fits = fits_by pattern nodes context edges parameter e in
       record {
         pattern_valid = pattern_valid;
         context_valid = valid;
         is_parameter = is;
-        nodes_new = new-from_test nodes (length pattern.nodes) one.0;
-        edges_new = new-from_test edges (length pattern.edges) two.0;
-        fit = record {
-          apart = apart-from_test (rename pattern nodes edges) (identity 0 parameter.outer) three.0;
-          filled = FacesAgree-from_test framed parameter filled.0;
-          filled_apart = SupportsApart-from_test framed parameter filled.1;
-          placed = FacesAgree-from_test context inside placed.0;
-          placed_apart = SupportsApart-from_test context inside placed.1;
-        };
+        nodes_new = fits.0;
+        edges_new = fits.1;
+        fit = fits.2;
         whole = whole;
       }
 

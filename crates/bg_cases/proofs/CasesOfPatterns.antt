@@ -19,9 +19,9 @@ use Rattle.bg_base.specs.Products.{same_link, has_point, tensor}
 use Rattle.bg_place.specs.Places.{same_place}
 use Rattle.bg_algebra.specs.Frame.{is_plain}
 use Rattle.bg_rules.specs.Solid.{is_node}
-use Rattle.bg_rules.specs.Decomposition.{Decomposes}
-use Rattle.bg_rules.proofs.CaseTests.{differ, is_nil, regions_are_filled, edges_are_good, valid_by, ground_by, parameter_by, decomposes_by, unlike}
-use Rattle.bg_rules.proofs.CaseRows.{four_controls, node_a, node_b, in_places, with_links, context_of, tied, nothing, x, y, z}
+use Rattle.bg_cases.specs.Clauses.{HasTwo}
+use Rattle.bg_cases.proofs.CaseTests.{differ, is_nil, regions_are_filled, edges_are_good, valid_by, ground_by, parameter_by, decomposes_by, unlike}
+use Rattle.bg_cases.proofs.CaseRows.{four_controls, node_a, node_b, in_places, with_links, context_of, tied, nothing, x, y, z}
 
 -- the clauses: each region has a child node, each outer name a point, no two sites lie in one place, each lies in a node,
 -- there is a node, no inner name, each outer name is plain, each edge has a point
@@ -31,27 +31,15 @@ clauses big =
     ∷ list_all (λ (place : Place). is_node place) big.sites ∷ ltb 0 (length big.nodes) ∷ is_nil big.inner
     ∷ list_all (λ (name : Name). is_plain name) big.outer ∷ edges_are_good big ∷ []
 
--- the host has two decompositions at these nodes
-record HasTwo (host pattern : Big) (nodes : List ℕ) : Type 0 where
-  context : Big
-  edges : List ℕ
-  parameter : Big
-  other_context : Big
-  other_edges : List ℕ
-  other_parameter : Big
-  one : Decomposes host pattern nodes context edges parameter
-  other : Decomposes host pattern nodes other_context other_edges other_parameter
-  not_the_same : (context ≡ other_context) × (edges ≡ other_edges) × (parameter ≡ other_parameter) → ⊥
-
 -- the bigraph is valid and meets just these clauses, and a ground host has two decompositions with it
-record Shows (host pattern : Big) (nodes : List ℕ) (met : List Bool) : Type 0 where
-  valid : IsValid pattern
-  ground : IsGround host
-  clauses_met : clauses pattern ≡ met
-  two : HasTwo host pattern nodes
+pub record Shows (host pattern : Big) (nodes : List ℕ) (met : List Bool) : Type 0 where
+  pub valid : IsValid pattern
+  pub ground : IsGround host
+  pub clauses_met : clauses pattern ≡ met
+  pub two : HasTwo host pattern nodes
 
 -- A.1 || 1 in A.1 || 1: the empty region may lie in each region of the host
-empty_region : Shows (in_places (node_a 0 (Region 0) ∷ []) [] 2) (in_places (node_a 0 (Region 0) ∷ []) [] 2) (0 ∷ []) (false ∷ true ∷ true ∷ true ∷ true ∷ true ∷ true ∷ true ∷ [])
+pub empty_region : Shows (in_places (node_a 0 (Region 0) ∷ []) [] 2) (in_places (node_a 0 (Region 0) ∷ []) [] 2) (0 ∷ []) (false ∷ true ∷ true ∷ true ∷ true ∷ true ∷ true ∷ true ∷ [])
 unfolding compose tensor identity rename along counted sort put fault_of sites_fault inner_fault outer_fault edges_fault nodes_fault
 empty_region =
     record {
@@ -72,7 +60,7 @@ empty_region =
     }
 
 -- A.1 with an idle name x in A.1 with idle names y and z: x may be tied to y or to z
-idle_name : Shows (with_links (node_a 0 (Region 0) ∷ []) [] (y ∷ z ∷ []) 1) (with_links (node_a 0 (Region 0) ∷ []) [] (x ∷ []) 1) (0 ∷ []) (true ∷ false ∷ true ∷ true ∷ true ∷ true ∷ true ∷ true ∷ [])
+pub idle_name : Shows (with_links (node_a 0 (Region 0) ∷ []) [] (y ∷ z ∷ []) 1) (with_links (node_a 0 (Region 0) ∷ []) [] (x ∷ []) 1) (0 ∷ []) (true ∷ false ∷ true ∷ true ∷ true ∷ true ∷ true ∷ true ∷ [])
 unfolding compose tensor identity rename along counted sort put fault_of sites_fault inner_fault outer_fault edges_fault nodes_fault
 idle_name =
     record {
@@ -93,7 +81,7 @@ idle_name =
     }
 
 -- A.(id | id) in A.B.1: the B may lie in the first site or in the second
-two_sites_in_one_node : Shows (in_places (node_a 0 (Region 0) ∷ node_b 1 (Node 0) ∷ []) [] 1) (in_places (node_a 0 (Region 0) ∷ []) (Node 0 ∷ Node 0 ∷ []) 1) (0 ∷ []) (true ∷ true ∷ false ∷ true ∷ true ∷ true ∷ true ∷ true ∷ [])
+pub two_sites_in_one_node : Shows (in_places (node_a 0 (Region 0) ∷ node_b 1 (Node 0) ∷ []) [] 1) (in_places (node_a 0 (Region 0) ∷ []) (Node 0 ∷ Node 0 ∷ []) 1) (0 ∷ []) (true ∷ true ∷ false ∷ true ∷ true ∷ true ∷ true ∷ true ∷ [])
 unfolding compose tensor identity rename along counted sort put fault_of sites_fault inner_fault outer_fault edges_fault nodes_fault
 two_sites_in_one_node =
     record {
@@ -114,7 +102,7 @@ two_sites_in_one_node =
     }
 
 -- A.1 | id in A.1 | B.1: the B may belong to the context or to the parameter
-site_in_a_region : Shows (in_places (node_a 0 (Region 0) ∷ node_b 1 (Region 0) ∷ []) [] 1) (in_places (node_a 0 (Region 0) ∷ []) (Region 0 ∷ []) 1) (0 ∷ []) (true ∷ true ∷ true ∷ false ∷ true ∷ true ∷ true ∷ true ∷ [])
+pub site_in_a_region : Shows (in_places (node_a 0 (Region 0) ∷ node_b 1 (Region 0) ∷ []) [] 1) (in_places (node_a 0 (Region 0) ∷ []) (Region 0 ∷ []) 1) (0 ∷ []) (true ∷ true ∷ true ∷ false ∷ true ∷ true ∷ true ∷ true ∷ [])
 unfolding compose tensor identity rename along counted sort put fault_of sites_fault inner_fault outer_fault edges_fault nodes_fault
 site_in_a_region =
     record {
@@ -135,7 +123,7 @@ site_in_a_region =
     }
 
 -- A.1 with an idle edge in A.1 with two idle edges: each may be its image
-idle_edge : Shows (with_links (node_a 0 (Region 0) ∷ []) (3 ∷ 4 ∷ []) [] 1) (with_links (node_a 0 (Region 0) ∷ []) (0 ∷ []) [] 1) (0 ∷ []) (true ∷ true ∷ true ∷ true ∷ true ∷ true ∷ true ∷ false ∷ [])
+pub idle_edge : Shows (with_links (node_a 0 (Region 0) ∷ []) (3 ∷ 4 ∷ []) [] 1) (with_links (node_a 0 (Region 0) ∷ []) (0 ∷ []) [] 1) (0 ∷ []) (true ∷ true ∷ true ∷ true ∷ true ∷ true ∷ true ∷ false ∷ [])
 unfolding compose tensor identity rename along counted sort put fault_of sites_fault inner_fault outer_fault edges_fault nodes_fault
 idle_edge =
     record {

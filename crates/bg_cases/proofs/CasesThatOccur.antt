@@ -10,8 +10,8 @@ use Rattle.bg_base.specs.Faults.{fault_of, sites_fault, inner_fault, outer_fault
 use Rattle.bg_base.specs.Translation.{along, rename}
 use Rattle.bg_base.specs.Products.{tensor}
 use Rattle.bg_rules.specs.Decomposition.{Occurs}
-use Rattle.bg_rules.proofs.CaseTests.{occurs_by}
-use Rattle.bg_rules.proofs.CaseRows.{four_controls, node_a, node_b, node_k, node_l, in_places, with_links, context_of, parameter_of, tied, nothing, x, y, z, a_open, b_in_a, a_beside_b, a_with_b, k_on_x, two_k_on_x, k_on_x_and_y, two_k_closed, l_on_x_and_y, l_closed, l_half_closed}
+use Rattle.bg_cases.proofs.CaseTests.{occurs_by}
+use Rattle.bg_cases.proofs.CaseRows.{four_controls, node_a, node_b, node_k, node_l, in_places, with_links, context_of, parameter_of, tied, nothing, x, y, z, a_open, b_in_a, a_beside_b, a_with_b, k_on_x, two_k_on_x, k_on_x_and_y, two_k_closed, l_on_x_and_y, l_closed, l_half_closed}
 
 -- ---- places
 

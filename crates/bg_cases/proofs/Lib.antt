@@ -1,0 +1,17 @@
+pub mod CasesOfBigraphs
+pub mod CasesOfProducts
+pub mod CasesOfClosures
+pub mod CaseTests
+pub mod CaseRows
+pub mod CaseConditions
+pub mod CasesThatOccur
+pub mod CasesThatDoNot
+pub mod CasesOfValidity
+pub mod CasesOfPatterns
+pub mod CasesOfLocalConditions
+pub mod CasesOfLists
+pub mod CasesOfNothing
+pub mod CasesOfCopies
+pub mod CasesOfReactions
+pub mod NeededConditions
+pub mod NeededClauses
