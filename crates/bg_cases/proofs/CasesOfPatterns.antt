@@ -19,7 +19,7 @@ use Rattle.bg_base.specs.Products.{same_link, has_point, tensor}
 use Rattle.bg_place.specs.Places.{same_place}
 use Rattle.bg_algebra.specs.Frame.{is_plain}
 use Rattle.bg_rules.specs.Solid.{is_node}
-use Rattle.bg_cases.specs.Clauses.{HasTwo}
+use Rattle.bg_cases.specs.Clauses.{HasTwoDecompositions}
 use Rattle.bg_cases.proofs.CaseTests.{differ, is_nil, regions_are_filled, edges_are_good, valid_by, ground_by, parameter_by, decomposes_by, unlike}
 use Rattle.bg_cases.proofs.CaseRows.{four_controls, node_a, node_b, in_places, with_links, context_of, tied, nothing, x, y, z}
 
@@ -36,7 +36,7 @@ pub record Shows (host pattern : Big) (nodes : List ℕ) (met : List Bool) : Typ
   pub valid : IsValid pattern
   pub ground : IsGround host
   pub clauses_met : clauses pattern ≡ met
-  pub two : HasTwo host pattern nodes
+  pub two : HasTwoDecompositions host pattern nodes
 
 -- A.1 || 1 in A.1 || 1: the empty region may lie in each region of the host
 pub empty_region : Shows (in_places (node_a 0 (Region 0) ∷ []) [] 2) (in_places (node_a 0 (Region 0) ∷ []) [] 2) (0 ∷ []) (false ∷ true ∷ true ∷ true ∷ true ∷ true ∷ true ∷ true ∷ [])

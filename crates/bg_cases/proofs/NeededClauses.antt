@@ -1,18 +1,16 @@
 -- Each clause of a pattern is needed, but that there is a node: what the cases show, said of the clauses themselves.
-use Rattle.std.proofs.Common.{◌≡◌, ℕ, Bool, true, false, not, eqb, List, [], ◌∷◌, length, slice_index_or, refl, sym, ap, ◌∙◌, ◌⊎◌, inl, inr, eqb-true, ltb-true}
+use Rattle.std.proofs.Common.{◌≡◌, ℕ, Bool, true, false, not, eqb, List, [], ◌∷◌, length, slice_index_or, refl, sym, ap, ◌∙◌, inl, inr, eqb-true, ltb-true}
 use Rattle.std.proofs.lemmas.Bool.{cases_Bool}
 use Rattle.bg_base.specs.declared.names.Name.{Name}
 use Rattle.bg_base.specs.declared.names.Place.{Place}
 use Rattle.bg_base.specs.declared.names.Link.TheVariants.{Edge, Outer}
 use Rattle.bg_base.specs.declared.big.Big.{Big}
-use Rattle.bg_base.specs.Bigraph.{IsValid, IsGround}
+use Rattle.bg_base.specs.Bigraph.{IsValid}
 use Rattle.bg_base.specs.Products.{has_point}
 use Rattle.bg_place.specs.Places.{same_place}
 use Rattle.bg_algebra.specs.Frame.{is_plain}
 use Rattle.bg_rules.specs.Solid.{is_node, IsPattern}
-use Rattle.bg_rules.specs.Decomposition.{Occurs}
-use Rattle.bg_rules.specs.LocalConditions.{MeetsLocally}
-use Rattle.bg_cases.specs.Clauses.{PatternClause, no_empty_region, no_idle_name, one_site_a_parent, no_site_in_a_region, some_node_there, no_inner_name, plain_outer_names, no_idle_edge, HasClause, HasTwo, OnlyLacks}
+use Rattle.bg_cases.specs.Clauses.{PatternClause, no_empty_region, no_idle_name, one_site_a_parent, no_site_in_a_region, some_node_there, no_inner_name, plain_outer_names, no_idle_edge, HasClause, OnlyLacks}
 use Rattle.bg_cases.proofs.CaseTests.{regions_filled_by, pass_each, IsDistinct-from_differ, nil-from_test}
 use Rattle.bg_cases.proofs.CasesOfPatterns.{clauses, Shows, empty_region, idle_name, two_sites_in_one_node, site_in_a_region, idle_edge}
 use Rattle.bg_cases.proofs.CasesOfLocalConditions.{Fails, inner_name, port_name}

@@ -1,5 +1,5 @@
 -- Each local condition is needed: what the cases show, said of the conditions themselves.
-use Rattle.std.proofs.Common.{◌≡◌, ◌↔◌, ℕ, Bool, true, false, not, eqb, None, List, [], ◌∷◌, slice_index_or, refl, sym, ap, subst, ◌∙◌, ◌⊎◌, inl, inr, eqb-true, eq-eqb}
+use Rattle.std.proofs.Common.{◌≡◌, ℕ, Bool, true, not, eqb, None, List, [], ◌∷◌, slice_index_or, refl, sym, ap, subst, ◌∙◌, inl, inr, eqb-true, eq-eqb}
 use Rattle.std.proofs.lemmas.Bool.{cases_Bool, false≢true}
 use Rattle.bg_base.specs.declared.big.Big.{Big}
 use Rattle.bg_base.specs.Elementary.{counted}
@@ -7,7 +7,7 @@ use Rattle.bg_base.specs.Faults.{fault_of, sites_fault, inner_fault, outer_fault
 use Rattle.bg_base.specs.Translation.{along}
 use Rattle.bg_rules.specs.LocalConditions.{MeetsLocally}
 use Rattle.bg_rules.proofs.Occurrences.{locally_occurs}
-use Rattle.bg_cases.specs.Conditions.{LocalCondition, as_many_nodes, same_controls, same_nesting, sites_for_children, regions_in_one_place, regions_outside, links_kept, links_closed, IsMet, OnlyFails}
+use Rattle.bg_cases.specs.Conditions.{LocalCondition, as_many_nodes, same_controls, same_nesting, sites_for_children, regions_in_one_place, regions_outside, links_kept, links_closed, MeetsCondition, OnlyFails}
 use Rattle.bg_cases.proofs.CaseTests.{pattern_by, ground_by, is_like_a_pattern, is_without_inside}
 use Rattle.bg_cases.proofs.CaseRows.{four_controls}
 use Rattle.bg_cases.proofs.CaseConditions.{Conditions, conditions, new_tells, images_tell, nested_tells, children_tell, one_parent_tells, clear_tells, shared_tells, closed_tells}
@@ -15,7 +15,7 @@ use Rattle.bg_cases.proofs.CasesThatDoNot.{DoesNotOccur, one_node_twice, another
 
 -- ---- all conditions, and the local conditions
 
-pub each_met : (host pattern : Big) (nodes : List ℕ) → MeetsLocally host pattern nodes → (condition : LocalCondition) → IsMet host pattern nodes condition
+pub each_met : (host pattern : Big) (nodes : List ℕ) → MeetsLocally host pattern nodes → (condition : LocalCondition) → MeetsCondition host pattern nodes condition
 each_met host pattern nodes local as_many_nodes = local.nodes_new
 each_met host pattern nodes local same_controls = local.images
 each_met host pattern nodes local same_nesting = local.nested
@@ -25,7 +25,7 @@ each_met host pattern nodes local regions_outside = local.clear
 each_met host pattern nodes local links_kept = local.shared
 each_met host pattern nodes local links_closed = local.closed
 
-pub all_met : (host pattern : Big) (nodes : List ℕ) → ((condition : LocalCondition) → IsMet host pattern nodes condition) → MeetsLocally host pattern nodes
+pub all_met : (host pattern : Big) (nodes : List ℕ) → ((condition : LocalCondition) → MeetsCondition host pattern nodes condition) → MeetsLocally host pattern nodes
 all_met host pattern nodes met =
     record {
       nodes_new = met as_many_nodes;
@@ -87,7 +87,7 @@ test_of links_kept hold = hold.shared
 test_of links_closed hold = hold.closed
 
 met_by : (host pattern : Big) (nodes : List ℕ) (condition : LocalCondition) → test_of condition (conditions host pattern nodes) ≡ true
-    → IsMet host pattern nodes condition
+    → MeetsCondition host pattern nodes condition
 met_by host pattern nodes as_many_nodes e = new_tells host pattern nodes e
 met_by host pattern nodes same_controls e = images_tell host pattern nodes e
 met_by host pattern nodes same_nesting e = nested_tells host pattern nodes e
@@ -134,7 +134,7 @@ needed_by : (condition : LocalCondition) {host pattern : Big} {nodes : List ℕ}
 needed_by condition {host} {pattern} {nodes} shown pattern_fine like host_fine bare =
     let is = pattern_by four_controls pattern pattern_fine like in
     let ground = ground_by four_controls host host_fine bare in
-    let others : (other : LocalCondition) → (other ≡ condition → ⊥) → IsMet host pattern nodes other
+    let others : (other : LocalCondition) → (other ≡ condition → ⊥) → MeetsCondition host pattern nodes other
     = λ other never. met_by host pattern nodes other (ap (test_of other) shown.others ∙ passes condition other never) in (
       host,
       pattern,
@@ -148,11 +148,11 @@ needed_by condition {host} {pattern} {nodes} shown pattern_fine like host_fine b
       },
     )
   where
-    one_of : (other : LocalCondition) → IsMet host pattern nodes condition → ((other : LocalCondition) → (other ≡ condition → ⊥) → IsMet host pattern nodes other)
-        → IsMet host pattern nodes other
+    one_of : (other : LocalCondition) → MeetsCondition host pattern nodes condition → ((other : LocalCondition) → (other ≡ condition → ⊥) → MeetsCondition host pattern nodes other)
+        → MeetsCondition host pattern nodes other
     one_of other met others =
         elim (cases_Bool (eqb (number condition) (number other))) [
-          | inl e ↦ subst (IsMet host pattern nodes) (sym (by_number condition other e)) met
+          | inl e ↦ subst (MeetsCondition host pattern nodes) (sym (by_number condition other e)) met
           | inr e ↦ others other (λ same. false≢true (sym e ∙ ap (λ c. eqb (number condition) (number c)) same ∙ eq-eqb (number condition) (number condition) refl))
         ]
 

@@ -39,7 +39,7 @@ HasClause big plain_outer_names = All (λ (name : Name). IsTrue (is_plain name))
 HasClause big no_idle_edge = All (λ (edge : ℕ). IsTrue (has_point big (Edge edge))) big.edges
 
 -- the host has two decompositions at these nodes
-pub record HasTwo (host pattern : Big) (nodes : List ℕ) : Type 0 where
+pub record HasTwoDecompositions (host pattern : Big) (nodes : List ℕ) : Type 0 where
   pub context : Big
   pub edges : List ℕ
   pub parameter : Big
@@ -56,4 +56,4 @@ pub record OnlyLacks (host big : Big) (nodes : List ℕ) (clause : PatternClause
   pub valid : IsValid big
   pub ground : IsGround host
   pub others : (other : PatternClause) → (other ≡ clause → ⊥) → HasClause big other
-  pub misleads : HasTwo host big nodes ⊎ (MeetsLocally host big nodes × (Occurs host big nodes → ⊥))
+  pub misleads : HasTwoDecompositions host big nodes ⊎ (MeetsLocally host big nodes × (Occurs host big nodes → ⊥))

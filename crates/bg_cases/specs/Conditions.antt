@@ -28,34 +28,34 @@ pub data LocalCondition : Type 0 where
   links_closed : LocalCondition
 
 -- that condition holds of the pattern at these nodes of the host
-abbrev pub IsMet : Big → Big → List ℕ → LocalCondition → Type 0
-IsMet host pattern nodes as_many_nodes = AreNew nodes (length pattern.nodes)
-IsMet host pattern nodes same_controls =
+abbrev pub MeetsCondition : Big → Big → List ℕ → LocalCondition → Type 0
+MeetsCondition host pattern nodes as_many_nodes = AreNew nodes (length pattern.nodes)
+MeetsCondition host pattern nodes same_controls =
     (row : NodeRow) → Mem row pattern.nodes
     → (image : NodeRow) × IsImage host pattern nodes row image × (image.control ≡ row.control) × (length image.links ≡ length row.links)
-IsMet host pattern nodes same_nesting =
+MeetsCondition host pattern nodes same_nesting =
     (row image : NodeRow) (node : ℕ) → IsImage host pattern nodes row image → row.parent ≡ Node node
     → image.parent ≡ Node (image_of pattern nodes node)
-IsMet host pattern nodes sites_for_children =
+MeetsCondition host pattern nodes sites_for_children =
     (child : NodeRow) (node : ℕ) → Mem child host.nodes → Mem node (node_numbers pattern.nodes)
     → child.parent ≡ Node (image_of pattern nodes node) → Mem child.id nodes ⊎ Mem (Node node) pattern.sites
-IsMet host pattern nodes regions_in_one_place =
+MeetsCondition host pattern nodes regions_in_one_place =
     (row image other twin : NodeRow) (region : ℕ) → IsImage host pattern nodes row image → IsImage host pattern nodes other twin
     → row.parent ≡ Region region → other.parent ≡ Region region → image.parent ≡ twin.parent
-IsMet host pattern nodes regions_outside =
+MeetsCondition host pattern nodes regions_outside =
     (row image : NodeRow) (region node : ℕ) → IsImage host pattern nodes row image → row.parent ≡ Region region
     → Mem node nodes → Meets host.nodes node image.parent → ⊥
-IsMet host pattern nodes links_kept =
+MeetsCondition host pattern nodes links_kept =
     (row image other twin : NodeRow) (port index : ℕ) (link first second : Link)
     → IsImage host pattern nodes row image → IsImage host pattern nodes other twin → At link port row.links → At link index other.links
     → At first port image.links → At second index twin.links → first ≡ second
-IsMet host pattern nodes links_closed =
+MeetsCondition host pattern nodes links_closed =
     (edge : ℕ) → Mem edge pattern.edges → (image : ℕ) × IsEdgeImage host pattern nodes edge image
 
 -- the pattern meets all local conditions at these nodes but this one, and does not occur there
 pub record OnlyFails (host pattern : Big) (nodes : List ℕ) (condition : LocalCondition) : Type 0 where
   pub is_pattern : IsPattern pattern
   pub ground : IsGround host
-  pub others : (other : LocalCondition) → (other ≡ condition → ⊥) → IsMet host pattern nodes other
-  pub fails : IsMet host pattern nodes condition → ⊥
+  pub others : (other : LocalCondition) → (other ≡ condition → ⊥) → MeetsCondition host pattern nodes other
+  pub fails : MeetsCondition host pattern nodes condition → ⊥
   pub never : Occurs host pattern nodes → ⊥

@@ -6,7 +6,7 @@ ghost use Rattle.bg_base.specs.Elementary.{empty};
 ghost use Rattle.bg_rules.specs.Solid.{IsPattern};
 ghost use Rattle.bg_rules.specs.Decomposition.{IsParameter, Decomposes};
 ghost use Rattle.bg_rules.specs.LocalConditions.{MeetsLocally};
-ghost use Rattle.bg_cases.specs.Conditions.{LocalCondition, IsMet, OnlyFails};
+ghost use Rattle.bg_cases.specs.Conditions.{LocalCondition, MeetsCondition, OnlyFails};
 ghost use Rattle.bg_cases.specs.Clauses.{PatternClause, some_node_there, HasClause, OnlyLacks};
 ghost use Rattle.bg_cases.specs.Parts.{OnlyRows};
 
@@ -14,7 +14,7 @@ ghost use Rattle.bg_cases.specs.Parts.{OnlyRows};
 /// all the others are met and it alone is not, and the pattern does not occur there.
 pub fn each_local_condition_is_needed()
     ensures conditions { (host pattern : Big) (nodes : List ℕ)
-        → (MeetsLocally host pattern nodes ↔ ((condition : LocalCondition) → IsMet host pattern nodes condition)) }
+        → (MeetsLocally host pattern nodes ↔ ((condition : LocalCondition) → MeetsCondition host pattern nodes condition)) }
     ensures needed { (condition : LocalCondition) → (host : Big) × (pattern : Big) × (nodes : List ℕ) × OnlyFails host pattern nodes condition }
 {}
 
