@@ -1,11 +1,7 @@
-//! Each public call with ample memory, and what the check answers to bigraphs that break a rule.
+//! Each public call with ample memory; what the check answers to bigraphs that break a rule is shown by `compose`.
 use crate::made::{Ended, big_of, expect_listing, label, signature_of};
-use bg_base::{
-    Big, CheckFault, Entry, Ident, InnerRow, Kind, Link, Name, NodeRow, Part, Place, PortLinks,
-    Signature, SignatureFault, Step, Text, Value,
-};
-use bg_lists::{Duplicate, Mem, OutOfMemory, Rows};
-use smallvec::SmallVec;
+use bg_base::{Entry, Ident, Kind, Link, Name, Place, SignatureFault, Step, Text, Value};
+use bg_lists::{Duplicate, Mem, Rows};
 use std::alloc::Global;
 
 /// Whether the text is a word, whose copy is spelled alike.
@@ -102,143 +98,11 @@ fn signatures_refuse_in_order(rt: HostRuntime) -> Result<(), Ended> {
     Ok(())
 }
 
-/// A node without ports: its number, its control and its place.
-type Node = (u32, u32, Place);
-
-/// One region, and nothing but these nodes and a site.
-fn places(alloc: Global, nodes: &[Node], site: Place) -> Mem<Big> {
-    let mut rows = Vec::new(alloc);
-    for &(id, control, parent) in nodes {
-        rows.push(NodeRow {
-            id,
-            control,
-            parent,
-            links: PortLinks::from_small_vec(SmallVec::new(alloc)),
-        })?;
-    }
-    Ok(Big {
-        nodes: Rows::try_from_vec(rows)?,
-        edges: Rows::from_vec(Vec::new(alloc)),
-        sites: Rows::try_from_vec(Vec::from_slice(alloc, &[site])?)?,
-        inner: Rows::from_vec(Vec::new(alloc)),
-        regions: 1,
-        outer: Rows::from_vec(Vec::new(alloc)),
-    })
-}
-
-/// The code, the part and the row at which the bigraph is refused; none where it is valid.
-fn first_fault(alloc: Global, signature: &Signature, big: &Big) -> Mem<Option<(u8, Part, u32)>> {
-    match big.check(alloc, signature) {
-        Ok(()) => Ok(None),
-        Err(CheckFault::Malformed { code, part, row }) => Ok(Some((code, part, row))),
-        Err(CheckFault::OutOfMemory) => Err(OutOfMemory),
-    }
-}
-
-const REGION: Place = Place::Region(0);
-
-/// Nodes and a site, and where the bigraph is refused.
-const CHECKED: [(&[Node], Place, Option<(u8, Part, u32)>); 9] = [
-    // a room with a site, an agent in a room
-    (
-        &[(0, 0, REGION), (1, 1, Place::Node(0))],
-        Place::Node(0),
-        None,
-    ),
-    // nodes that do not ascend: the site's node is there all the same
-    (
-        &[(5, 0, REGION), (3, 0, REGION)],
-        Place::Node(3),
-        Some((3, Part::Nodes, 1)),
-    ),
-    (
-        &[(0, 0, REGION), (1, 0, REGION)],
-        Place::Node(7),
-        Some((4, Part::Sites, 0)),
-    ),
-    (
-        &[(0, 0, REGION), (1, 1, REGION)],
-        Place::Node(1),
-        Some((6, Part::Sites, 0)),
-    ),
-    (
-        &[(0, 9, REGION), (1, 0, REGION)],
-        REGION,
-        Some((4, Part::Nodes, 0)),
-    ),
-    (
-        &[(0, 2, REGION), (1, 0, REGION)],
-        REGION,
-        Some((5, Part::Nodes, 0)),
-    ),
-    // below a node whose parent is not there: no root, and the earlier row
-    (
-        &[(0, 0, Place::Node(1)), (1, 0, Place::Node(7))],
-        REGION,
-        Some((7, Part::Nodes, 0)),
-    ),
-    // its own parent, and atomic
-    (
-        &[(0, 0, REGION), (1, 1, Place::Node(1))],
-        REGION,
-        Some((6, Part::Nodes, 1)),
-    ),
-    (
-        &[(0, 0, Place::Node(1)), (1, 0, Place::Node(0))],
-        REGION,
-        Some((7, Part::Nodes, 0)),
-    ),
-];
-
-#[test]
-fn check_names_the_first_row_and_the_least_code(rt: HostRuntime) -> Result<(), Ended> {
-    let signature = signature_of(rt.alloc())?;
-    for &(nodes, site, fault) in CHECKED.iter() {
-        let big = places(rt.alloc(), nodes, site)?;
-        assert!(rt; first_fault(rt.alloc(), &signature, &big)? == fault);
-    }
-    Ok(())
-}
-
 #[test]
 fn a_bigraph_is_copied(rt: HostRuntime) -> Result<(), Ended> {
     let text = "bigraph 1\nsites 0\ninner 0\nouter 1\nx\nedges 0\nnodes 1\n0 K r0 =x\n";
     let copied = big_of(rt.alloc(), text)?.copy(rt.alloc())?;
     expect_listing(&rt, rt.alloc(), &copied, text)
-}
-
-/// An inner name that is tied to edge 4, and these edges.
-fn links(alloc: Global, edges: &[u32]) -> Mem<Big> {
-    let mut inner = Vec::new(alloc);
-    inner.push(InnerRow {
-        name: Name::Port(10, 0),
-        link: Link::Edge(4),
-    })?;
-    Ok(Big {
-        nodes: Rows::from_vec(Vec::new(alloc)),
-        edges: Rows::try_from_vec(Vec::from_slice(alloc, edges)?)?,
-        sites: Rows::from_vec(Vec::new(alloc)),
-        inner: Rows::from_vec(inner),
-        regions: 0,
-        outer: Rows::from_vec(Vec::new(alloc)),
-    })
-}
-
-/// Edges, and where the bigraph is refused.
-const LINKED: [(&[u32], Option<(u8, Part, u32)>); 3] = [
-    (&[7, 9], Some((4, Part::Inner, 0))),
-    (&[7, 4], Some((3, Part::Edges, 1))),
-    (&[4, 7], None),
-];
-
-#[test]
-fn links_must_be_there(rt: HostRuntime) -> Result<(), Ended> {
-    let signature = signature_of(rt.alloc())?;
-    for &(edges, fault) in LINKED.iter() {
-        let big = links(rt.alloc(), edges)?;
-        assert!(rt; first_fault(rt.alloc(), &signature, &big)? == fault);
-    }
-    Ok(())
 }
 
 #[test]

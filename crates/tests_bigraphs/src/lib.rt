@@ -1,5 +1,5 @@
-//! Tests of bigraphs and what is made of them, by public calls alone: lists, bigraphs and signatures, places, links,
-//! elementary bigraphs, operations, also in place, rules.
+//! What only calls show of bigraphs: lists, names and signatures, places, links, elementary bigraphs, operations, also in
+//! place, rules.
 #![tactic(auto)]
 
 #[cfg(test)]

@@ -245,30 +245,6 @@ fn bigraphs_are_put_together_in_place(rt: HostRuntime) -> Result<(), Ended> {
     Ok(())
 }
 
-/// What the composition of `bg_builder` that takes both bigraphs makes of two listings.
-fn told_by_moving(alloc: Global, upper: &str, lower: &str) -> Result<Vec<u8>, Ended> {
-    let g = big_of(alloc, upper)?;
-    let f = big_of(alloc, lower)?;
-    let made = bg_builder::compose(alloc, g, f);
-    told(alloc, &made)
-}
-
-#[test]
-fn two_bigraphs_are_composed_in_place(rt: HostRuntime) -> Result<(), Ended> {
-    let composed = "bigraph 1\nsites 0\ninner 0\nouter 0\nedges 0\nnodes 2\n0 A r0\n1 B n0\n";
-    for &(upper, lower, text) in [
-        (ROOM, AGENT, composed),
-        (ROOM, FIRST_AGENT, "12"),
-        (AT_X, AGENT, "11"),
-    ]
-    .iter()
-    {
-        let told = told_by_moving(rt.alloc(), upper, lower)?;
-        assert!(rt; told.as_slice() == text.as_bytes(), "{text}");
-    }
-    Ok(())
-}
-
 #[test]
 fn a_plainer_program_composes_alike(rt: HostRuntime) -> Result<(), Ended> {
     let g = big_of(rt.alloc(), ROOM)?;

@@ -1,5 +1,4 @@
-//! Tests of occurrences and reactions, by public calls alone: embeddings, decompositions, what `match` writes,
-//! reactions.
+//! What only calls show of occurrences and reactions: maps that no command makes, walks, decompositions, reactions.
 #![tactic(auto)]
 
 #[cfg(test)]
@@ -8,7 +7,5 @@ mod decompositions;
 mod embeddings;
 #[cfg(test)]
 mod listed;
-#[cfg(test)]
-mod matches;
 #[cfg(test)]
 mod reactions;

@@ -5,18 +5,8 @@ use bg_syntax::tree::statements::SynStmt;
 use bg_syntax::{SyntaxFault, parse};
 use bg_terms::{BinaryOperation, ControlEntry, Shape};
 use bg_text::{LexFault, tokens};
-use bg_values::{Cause, NameTable, Scope, Stop};
+use bg_values::{NameTable, Scope, Stop};
 use std::alloc::Global;
-
-/// What the expression of a text is as code.
-#[derive(Clone, Copy, PartialEq, Eq)]
-enum Outcome {
-    /// Code; whether it has the letters that are wanted.
-    Code(bool),
-    /// The cause, and the token.
-    Refused(Cause, u32),
-    NoExpression,
-}
 
 /// A letter for an operation: `>` and `<` for one deeper and back, `.` for what is nested in an atom, `:` in another
 /// form.
@@ -74,10 +64,11 @@ fn is_spelled(code: &[Operation], letters: &[u8]) -> bool {
     true
 }
 
-fn outcome_of(read: Result<Vec<Operation>, Stop>, letters: &str) -> Mem<Outcome> {
+/// Whether the call gave code with these letters; want of memory is passed on.
+fn has_letters(read: Result<Vec<Operation>, Stop>, letters: &str) -> Mem<bool> {
     match read {
-        Ok(code) => Ok(Outcome::Code(is_spelled(code.as_slice(), letters.as_bytes()))),
-        Err(Stop::Refused(refusal)) => Ok(Outcome::Refused(refusal.cause, refusal.token)),
+        Ok(code) => Ok(is_spelled(code.as_slice(), letters.as_bytes())),
+        Err(Stop::Refused(_)) => Ok(false),
         Err(Stop::OutOfMemory) => Err(OutOfMemory),
     }
 }
@@ -115,23 +106,23 @@ fn tables_here(alloc: Global) -> Mem<Tables> {
     })
 }
 
-/// What the expression of the text's first statement is, a bigraph's, as code.
-fn read(alloc: Global, tables: &Tables, text: &str, letters: &str) -> Mem<Outcome> {
+/// Whether the code of the text's first statement, a bigraph's, has these letters.
+fn is_read(alloc: Global, tables: &Tables, text: &str, letters: &str) -> Mem<bool> {
     if text.len() > 10_000 {
-        return Ok(Outcome::NoExpression);
+        return Ok(false);
     }
     let tokens = match tokens(alloc, text.as_bytes()) {
         Ok(tokens) => tokens,
-        Err(LexFault::Bad { .. }) => return Ok(Outcome::NoExpression),
+        Err(LexFault::Bad { .. }) => return Ok(false),
         Err(LexFault::OutOfMemory) => return Err(OutOfMemory),
     };
     if tokens.len() > 10_000 {
-        return Ok(Outcome::NoExpression);
+        return Ok(false);
     }
     let tree = match parse(alloc, &tokens) {
         Ok(tree) => tree,
         Err(SyntaxFault::OutOfMemory) => return Err(OutOfMemory),
-        Err(_) => return Ok(Outcome::NoExpression),
+        Err(_) => return Ok(false),
     };
     let visible = Visible {
         scope: Scope {
@@ -145,11 +136,11 @@ fn read(alloc: Global, tables: &Tables, text: &str, letters: &str) -> Mem<Outcom
     match tree.part1.first() {
         Some(item) => match &item.part1 {
             SynStmt::Way4(_, bigraph) => {
-                outcome_of(code_of(alloc, &visible, &bigraph.part4), letters)
+                has_letters(code_of(alloc, &visible, &bigraph.part4), letters)
             }
-            _ => Ok(Outcome::NoExpression),
+            _ => Ok(false),
         },
-        None => Ok(Outcome::NoExpression),
+        None => Ok(false),
     }
 }
 
@@ -169,38 +160,11 @@ const CODES: [(&str, &str); 12] = [
     ("big b = 1 | 1 | 1;", ">1<>1<|>1<|"),
 ];
 
-/// Expressions that are refused: the cause and the token.
-const REFUSED: [(&str, Cause, u32); 8] = [
-    ("big b = Z(m){x};", Cause::UnknownName, 3),
-    ("big b = K(m, m);", Cause::WrongArguments, 3),
-    ("big b = K(m);", Cause::WrongPorts, 3),
-    ("big b = K(m){x};", Cause::UnknownName, 5),
-    ("big b = A | c(m, 2);", Cause::WrongArguments, 5),
-    ("big b = c(m);", Cause::UnknownName, 5),
-    ("big b = A.Z | d;", Cause::UnknownName, 5),
-    ("big b = d | B{x};", Cause::UnknownName, 3),
-];
-
 #[test]
 fn finds_the_code_of_expressions(rt: HostRuntime) -> Mem<()> {
     let tables = tables_here(rt.alloc())?;
     for &(text, letters) in CODES.iter() {
-        assert!(rt;
-            read(rt.alloc(), &tables, text, letters)? == Outcome::Code(true),
-            "{text}"
-        );
-    }
-    Ok(())
-}
-
-#[test]
-fn refuses_the_first_name_that_cannot_stand(rt: HostRuntime) -> Mem<()> {
-    let tables = tables_here(rt.alloc())?;
-    for &(text, cause, token) in REFUSED.iter() {
-        assert!(rt;
-            read(rt.alloc(), &tables, text, "")? == Outcome::Refused(cause, token),
-            "{text}"
-        );
+        assert!(rt; is_read(rt.alloc(), &tables, text, letters)?, "{text}");
     }
     Ok(())
 }

@@ -1,7 +1,8 @@
 use bg_base::Value;
-use bg_elab::*;
-use bg_lists::{Mem, OutOfMemory, Rows};
-use bg_rules::{Rule, System};
+use bg_elab::{Detail, ModelFault, choice, read};
+use bg_lists::{Mem, Rows};
+use bg_rules::System;
+use bg_show::write_system;
 use bg_values::{LimitWord, ParameterValues};
 use std::alloc::Global;
 
@@ -61,258 +62,96 @@ fn chosen(alloc: Global, lists: &[ParameterValues], number: u32) -> Mem<Option<u
 }
 
 #[test]
-fn of_no_lists_there_is_one_choice(rt: HostRuntime) -> Mem<()> {
+fn of_no_lists_there_is_one_choice_and_of_an_empty_one_none(rt: HostRuntime) -> Mem<()> {
     assert!(rt; chosen(rt.alloc(), &[], 0)? == Some(0));
     assert!(rt; chosen(rt.alloc(), &[], 1)? == None);
-    Ok(())
-}
-
-#[test]
-fn of_an_empty_list_there_is_no_choice(rt: HostRuntime) -> Mem<()> {
     let lists = [ParameterValues::listed(rt.alloc(), Vec::new(rt.alloc()))?];
     assert!(rt; chosen(rt.alloc(), &lists, 0)? == None);
     Ok(())
 }
 
-/// What a model comes to.
-#[derive(Clone, Copy, PartialEq, Eq)]
-enum Outcome {
-    /// How many controls, rules, classes and predicates there are, and the next number of a node of the host.
-    System {
-        controls: u32,
-        rules: usize,
-        classes: u32,
-        preds: usize,
-        next_node: u32,
-    },
-    Fault(ModelFault),
-}
+/// Texts that are refused, and how: the code, the detail and the byte.
+const REFUSED: [(&str, u8, Detail, u32); 4] = [
+    ("big s = Room.1;", 41, Detail::Nothing, 8),
+    ("ctrl A = 0; ", 53, Detail::Nothing, 12),
+    ("react r = 1 --> 1;", 49, Detail::Clause(1), 6),
+    ("ctrl A = 17;", 52, Detail::Limit(LimitWord::Arity), 9),
+];
 
 /// The system of the text, or its refusal.
-fn model(alloc: Global, bytes: &[u8]) -> Result<System, ModelFault> {
-    if bytes.len() > 100_000_000 {
+fn model(alloc: Global, text: &str) -> Result<System, ModelFault> {
+    if text.len() > 1_000 {
         return Err(ModelFault::OutOfMemory);
     }
-    read(alloc, bytes)
+    read(alloc, text.as_bytes())
 }
 
-/// What the text comes to.
-fn comes_to(alloc: Global, bytes: &[u8]) -> Mem<Outcome> {
-    match model(alloc, bytes) {
-        Ok(system) => Ok(Outcome::System {
-            controls: system.signature().len(),
-            rules: system.rules().len(),
-            classes: system.classes(),
-            preds: system.preds().len(),
-            next_node: system.init().next_node(),
-        }),
-        Err(ModelFault::OutOfMemory) => Err(OutOfMemory),
-        Err(fault) => Ok(Outcome::Fault(fault)),
+/// Why the text is refused; none where it is a system.
+fn fault_of(alloc: Global, text: &str) -> Option<ModelFault> {
+    match model(alloc, text) {
+        Ok(_) => None,
+        Err(fault) => Some(fault),
     }
 }
-
-/// The text without the mark `$`, and where the mark stood.
-fn unmarked(alloc: Global, marked: &str) -> Mem<(Vec<u8>, u32)> {
-    let mut bytes = Vec::new(alloc);
-    let mut mark: u32 = 0;
-    let mut count: u32 = 0;
-    for byte in marked.as_bytes() {
-        if *byte == b'$' {
-            mark = count;
-        } else {
-            bytes.push(*byte)?;
-            count = count.wrapping_add(1);
-        }
-    }
-    Ok((bytes, mark))
-}
-
-/// Models that are refused, with a mark at the byte of the refusal.
-const REFUSED: [(&str, u8, Detail); 19] = [
-    // tokens go before the grammar, and the grammar before names
-    (
-        "big s = Room.1; ctrl ctrl; int n = $1.5;",
-        24,
-        Detail::Nothing,
-    ),
-    ("big s = Room.1; ctrl $ctrl;", 31, Detail::Nothing),
-    ("big s = Room.1$", 31, Detail::Nothing),
-    ("big s = $Room.1;", 41, Detail::Nothing),
-    ("$", 53, Detail::Nothing),
-    ("        $", 53, Detail::Nothing),
-    ("ctrl A = 0; $", 53, Detail::Nothing),
-    (
-        "ctrl A = 0; big s = A; react r = A.1 --> A.1; begin brs init $s; rules = [ {r} ]; end",
-        46,
-        Detail::Nothing,
-    ),
-    // names, all before the first value
-    (
-        "ctrl D = 0; big s = D.1; begin brs init s; rules = [ {$r} ]; end",
-        41,
-        Detail::Nothing,
-    ),
-    (
-        "ctrl D = 0; big s = D.1; begin brs init s; rules = [ {$s} ]; end",
-        41,
-        Detail::Nothing,
-    ),
-    (
-        "ctrl D = 0; big s = D.1; react r = D --> D; begin brs init s; rules = [ {$r(1)} ]; end",
-        45,
-        Detail::Nothing,
-    ),
-    (
-        "ctrl D = 0; big s = D.1; fun react r(n) = D --> D; begin brs init s; rules = [ {r($m)} ]; end",
-        41,
-        Detail::Nothing,
-    ),
-    (
-        "ctrl D = 0; fun big s(n) = D.1; begin brs int n = 1; init s($n); rules = []; end",
-        41,
-        Detail::Nothing,
-    ),
-    (
-        "ctrl D = 0; fun big s(n) = D.1; begin brs init s(1/0); rules = []; preds = {s(1), $t}; end",
-        41,
-        Detail::Nothing,
-    ),
-    (
-        "ctrl D = 0; fun big s(n) = D.1; begin brs init s(1 $/ 0); rules = []; end",
-        51,
-        Detail::Nothing,
-    ),
-    // predicates
-    (
-        "ctrl D = 0; big s = D.1; big p = 1; begin brs init s; rules = []; preds = {s, $p}; end",
-        49,
-        Detail::Clause(1),
-    ),
-    (
-        "ctrl D = 0; big s = D.1; fun big p(n) = D | id; begin brs int n = 1; init s; rules = []; preds = {s, $p(n)}; end",
-        49,
-        Detail::Clause(4),
-    ),
-    // 4,097 rules or predicates
-    (
-        "ctrl D = 0; big s = D.1; react q = D --> D; fun react r(n) = D --> D; begin brs int n = [1:1:4096]; init s; rules = [ {r(n)}, {$q} ]; end",
-        52,
-        Detail::Limit(LimitWord::Rules),
-    ),
-    (
-        "ctrl D = 0; big s = D.1; fun big p(n) = D.1; begin brs int n = [1:1:4096]; init s; rules = []; preds = {p(n), $s}; end",
-        52,
-        Detail::Limit(LimitWord::Preds),
-    ),
-];
-
-/// Models that are systems: how many controls, rules, classes and predicates there are, and the next number of a node.
-const SYSTEMS: [(&str, u32, usize, u32, usize, u32); 5] = [
-    (
-        "ctrl Building = 0; ctrl Room = 0; atomic ctrl Agent = 1; \
-        big hall = Building.(Room.1 | Room.1 | Room.1 | Agent{a} | Agent{b}); \
-        react enter = Agent{x} | Room.id --> Room.(Agent{x} | id); begin brs init hall; rules = [ {enter} ]; end",
-        3,
-        1,
-        1,
-        0,
-        6,
-    ),
-    (
-        "fun atomic ctrl K(x) = 0; big s = K(1); fun react r(x) = K(x) --> K(x + 1); \
-        begin brs int n = [0:1:2]; init s; rules = [ {r(n)} ]; end",
-        4,
-        3,
-        1,
-        0,
-        1,
-    ),
-    (
-        "ctrl D = 0; big s = D.1; react r = D --> D; begin brs init s; rules = [ {}, (r, r), {} ]; preds = {s, s}; end",
-        1,
-        2,
-        3,
-        2,
-        1,
-    ),
-    (
-        "ctrl D = 0; big s = D.1; begin brs init s; rules = []; end",
-        1,
-        0,
-        0,
-        0,
-        1,
-    ),
-    (
-        "ctrl D = 0; big s = D.1; fun react r(n) = D --> D; begin brs int n = [1:1:4096]; init s; rules = [ {r(n)} ]; end",
-        1,
-        4096,
-        1,
-        0,
-        1,
-    ),
-];
 
 #[test]
-fn refuses_at_the_first_place(rt: HostRuntime) -> Mem<()> {
-    for &(marked, code, detail) in REFUSED.iter() {
-        let (text, offset) = unmarked(rt.alloc(), marked)?;
-        let wanted = Outcome::Fault(ModelFault::Bad {
+fn a_refusal_has_its_detail_and_its_byte(rt: HostRuntime) -> Result<(), ModelFault> {
+    for &(text, code, detail, offset) in REFUSED.iter() {
+        let wanted = ModelFault::Bad {
             code,
             detail,
             offset,
-        });
-        assert!(rt;
-            comes_to(rt.alloc(), text.as_slice())? == wanted,
-            "{marked}"
-        );
-    }
-    Ok(())
-}
-
-#[test]
-fn models_are_systems(rt: HostRuntime) -> Mem<()> {
-    for &(text, controls, rules, classes, preds, next_node) in SYSTEMS.iter() {
-        let wanted = Outcome::System {
-            controls,
-            rules,
-            classes,
-            preds,
-            next_node,
         };
-        assert!(rt; comes_to(rt.alloc(), text.as_bytes())? == wanted, "{text}");
+        let fault = fault_of(rt.alloc(), text);
+        if fault == Some(ModelFault::OutOfMemory) {
+            return Err(ModelFault::OutOfMemory);
+        }
+        assert!(rt; fault == Some(wanted), "{text}");
     }
     Ok(())
 }
 
-/// The class and the two arguments of the rule as one number, 0 where the arguments are not two numbers.
-fn digits_of(rule: Option<&Rule>) -> i64 {
-    let Some(rule) = rule else {
-        return 0;
-    };
-    match rule.label().args.as_slice() {
-        [Value::Int(x), Value::Int(y)] => i64::from(rule.class())
-            .wrapping_mul(100)
-            .wrapping_add(x.wrapping_mul(10))
-            .wrapping_add(*y),
-        _ => 0,
-    }
+/// A model with a parameter of each kind, a form of each kind, a condition of each kind, and a predicate.
+const MODEL: &str = "ctrl A = 0; fun atomic ctrl K(n) = 1; \
+    fun big c(m) = K(m){x}; big s = A.1; big w = /x (c(1 + 1) || {x}) || merge(2) * (A.1 + A.1) || id(1,{y}) | 0; \
+    react stop_1 = A.1 --> 1; \
+    fun react go(n, t) = A.id || A.id --> id || id @ [1, 0] \
+    if !A in param, A.1 in ctx, !K(2){x} in ctx, A.1 in param; \
+    fun big seen(n) = K(2){x}; \
+    begin brs int n = -7; int k = [3:1:3]; string t = {\"a, b\"}; \
+    init s; rules = [ {stop_1}, {go(n, t)} ]; preds = { seen(k) }; end";
+
+/// The listing of its system behind a byte.
+const LISTING: &str = ">signature 2\nA 0 normal\nK(2) 1 atomic\n\
+    init\nbigraph 1\nsites 0\ninner 0\nouter 0\nedges 0\nnodes 1\n0 A r0\n\
+    rule 0 stop_1 class 0\n\
+    redex\nbigraph 1\nsites 0\ninner 0\nouter 0\nedges 0\nnodes 1\n0 A r0\n\
+    reactum\nbigraph 1\nsites 0\ninner 0\nouter 0\nedges 0\nnodes 0\n\
+    map\nconditions 0\n\
+    rule 1 go(-7,\"a, b\") class 1\n\
+    redex\nbigraph 2\nsites 2\nn0\nn1\ninner 0\nouter 0\nedges 0\nnodes 2\n0 A r0\n1 A r1\n\
+    reactum\nbigraph 2\nsites 2\nr0\nr1\ninner 0\nouter 0\nedges 0\nnodes 0\n\
+    map 1 0\nconditions 4\n\
+    - param\nbigraph 1\nsites 1\nn0\ninner 0\nouter 0\nedges 0\nnodes 1\n0 A r0\n\
+    + ctx\nbigraph 1\nsites 0\ninner 0\nouter 0\nedges 0\nnodes 1\n0 A r0\n\
+    - ctx\nbigraph 1\nsites 0\ninner 0\nouter 1\nx\nedges 0\nnodes 1\n0 K(2) r0 =x\n\
+    + param\nbigraph 1\nsites 0\ninner 0\nouter 0\nedges 0\nnodes 1\n0 A r0\n\
+    preds 1\n\
+    pred seen(3)\nbigraph 1\nsites 0\ninner 0\nouter 1\nx\nedges 0\nnodes 1\n0 K(2) r0 =x\n";
+
+/// The listing of the system behind a byte.
+fn written(alloc: Global, system: &System) -> Mem<Vec<u8>> {
+    let mut written = vec![in alloc; b'>']?;
+    write_system(alloc, system, &mut written)?;
+    Ok(written)
 }
 
-/// Rules with two parameters.
-const TWO_PARAMETERS: &str =
-    "ctrl D = 0; big s = D.1; fun react r(x, y) = D --> D; begin brs int n = {1, 2}; int m = {3, 4}; \
-    init s; rules = [ {r(n, m)}, {r(m, n)}, {r(n + n, 0), r(5, 6)} ]; end";
-
 #[test]
-fn the_first_parameter_varies_slowest(rt: HostRuntime) -> Result<(), ModelFault> {
-    let system = model(rt.alloc(), TWO_PARAMETERS.as_bytes())?;
-    for (place, digits) in [13, 14, 23, 24, 131, 132, 141, 142, 220, 240, 256]
-        .iter()
-        .enumerate()
-    {
-        assert!(rt; digits_of(system.rules().get(place)) == *digits);
-    }
-    assert!(rt; system.rules().len() == 11);
+fn a_system_is_read_and_written_behind_what_was_there(rt: HostRuntime) -> Result<(), ModelFault> {
+    let system = model(rt.alloc(), MODEL)?;
+    let Ok(written) = written(rt.alloc(), &system) else {
+        return Err(ModelFault::OutOfMemory);
+    };
+    assert!(rt; written.as_slice() == LISTING.as_bytes());
     Ok(())
 }

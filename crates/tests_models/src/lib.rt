@@ -1,4 +1,5 @@
-//! Tests of models, by public calls alone: values, code, evaluation, statements, elaboration, the listing of a system.
+//! What only calls show of models: names, the code of an expression, the spaces of names, choices of values, the place
+//! of a refusal, and a system that is read and written.
 #![tactic(auto)]
 
 #[cfg(test)]
@@ -6,10 +7,6 @@ mod code;
 #[cfg(test)]
 mod elaboration;
 #[cfg(test)]
-mod machine;
-#[cfg(test)]
 mod statements;
-#[cfg(test)]
-mod systems;
 #[cfg(test)]
 mod values;

@@ -1,5 +1,5 @@
-//! Tests of bytes and texts, by public calls alone: sources and sinks, listings, tokens, trees, the words of a command
-//! line.
+//! What only calls show of bytes and texts: sources and sinks, what is read and written again, the kinds of tokens, the
+//! places in trees, what the words of a command line ask for.
 #![tactic(auto)]
 
 #[cfg(test)]

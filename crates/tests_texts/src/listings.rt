@@ -24,15 +24,6 @@ fn read_both(alloc: Global, text: &[u8]) -> Result<(Signature, Big, Cursor), Lis
     Ok((signature, big, end))
 }
 
-/// The code and the line with which a text of a signature and a bigraph is refused; none where both are read.
-fn refusal_of(alloc: Global, text: &[u8]) -> Result<Option<(u8, u32)>, ListingFault> {
-    match read_both(alloc, text) {
-        Ok(_) => Ok(None),
-        Err(ListingFault::Bad { code, line }) => Ok(Some((code, line))),
-        Err(ListingFault::OutOfMemory) => Err(ListingFault::OutOfMemory),
-    }
-}
-
 /// The listing of a signature and of a bigraph, where it is valid under the signature.
 fn written(alloc: Global, signature: &Signature, big: &Big) -> Result<Vec<u8>, ListingFault> {
     let mut written = Vec::new(alloc);
@@ -55,105 +46,6 @@ fn writes_what_it_reads(rt: HostRuntime) -> Result<(), ListingFault> {
         assert!(rt; end.offset as usize == text.len());
         assert!(rt; end.line == line);
         assert!(rt; written(rt.alloc(), &signature, &big)?.as_slice() == text.as_bytes());
-    }
-    Ok(())
-}
-
-/// Texts of a signature and a bigraph that are refused, with the code and the line.
-const REFUSED: [(&str, u8, u32); 30] = [
-    // The end of input counts as a line, and every line ends with a line feed.
-    ("", 1, 1),
-    ("signature 0", 1, 1),
-    ("signature 1\n", 1, 2),
-    ("signature 0\n", 1, 2),
-    // One spelling for each number, and nothing between the lines.
-    ("signature 00\nbigraph 0\n", 1, 1),
-    ("signature 0\r\n", 1, 1),
-    ("signature  0\n", 1, 1),
-    ("signature 0\0\n", 1, 1),
-    ("signature 0\n\nbigraph 0\n", 1, 2),
-    // A number that is too large for a listing is bad, one above its limit is too many.
-    ("signature 4097\n", 2, 1),
-    ("signature 2147483647\n", 2, 1),
-    ("signature 2147483648\n", 1, 1),
-    ("signature 0\nbigraph 2147483647\n", 2, 2),
-    ("signature 0\nbigraph 2147483648\n", 1, 2),
-    ("signature 0\nbigraph 65536\nsites 65536\n", 1, 4),
-    ("signature 1\nA 17 normal\n", 2, 2),
-    ("signature 1\nA 17 odd\n", 1, 2),
-    ("signature 1\nA() 0 normal\n", 1, 2),
-    ("signature 1\na 0 normal\n", 1, 2),
-    // The whole first pass goes before the second, and a signature before what follows it.
-    ("signature 2\nA 0 normal\nA 1 atomic\nbad", 9, 3),
-    ("signature 3\nA 0 normal\nA 1 atomic\nB 17 normal\n", 2, 4),
-    ("signature 2\nA 0 normal\nB 1 atomic\nbigraph 65537\n", 2, 4),
-    (
-        "signature 2\nA 0 normal\nB 1 atomic\nbigraph 1\nsites 65537\n",
-        2,
-        5,
-    ),
-    (
-        "signature 1\nA 0 normal\nbigraph 1\nsites 1\nn3\ninner 0\nouter 0\nedges 0\nnodes 2\n5 A r0\n3 A r0\n",
-        3,
-        11,
-    ),
-    (
-        "signature 1\nA 0 normal\nbigraph 1\nsites 0\ninner 0\nouter 0\nedges 0\nnodes 1\n0 B r0\n",
-        4,
-        9,
-    ),
-    (
-        "signature 1\nB 1 atomic\nbigraph 1\nsites 0\ninner 0\nouter 0\nedges 0\nnodes 1\n0 B r0\n",
-        5,
-        9,
-    ),
-    (
-        "signature 1\nB 1 atomic\nbigraph 1\nsites 0\ninner 0\nouter 0\nedges 1\n0\nnodes 1\n0 B n0 #0\n",
-        6,
-        10,
-    ),
-    (
-        "signature 1\nA 0 normal\nbigraph 1\nsites 0\ninner 0\nouter 0\nedges 0\nnodes 2\n0 A n1\n1 A n5\n",
-        7,
-        9,
-    ),
-    (
-        "signature 0\nbigraph 0\nsites 0\ninner 1\nx =z\nouter 2\n@10.0\n@2.0\nedges 0\nnodes 0\n",
-        4,
-        5,
-    ),
-    (
-        "signature 0\nbigraph 0\nsites 0\ninner 0\nouter 2\n@10.0\n@2.0\nedges 0\nnodes 0\n",
-        3,
-        7,
-    ),
-];
-
-#[test]
-fn refuses_with_the_code_and_the_line(rt: HostRuntime) -> Result<(), ListingFault> {
-    for &(text, code, line) in REFUSED.iter() {
-        assert!(rt;
-            refusal_of(rt.alloc(), text.as_bytes())? == Some((code, line)),
-            "{text}"
-        );
-    }
-    Ok(())
-}
-
-/// Every proper prefix of a text that is read is refused with 1 at the line of its end.
-#[test]
-fn refuses_every_prefix_at_its_end(rt: HostRuntime) -> Result<(), ListingFault> {
-    let text = SPELLINGS.as_bytes();
-    let mut line = 1;
-    for (length, byte) in text.iter().enumerate() {
-        let refused = refusal_of(rt.alloc(), &text[..length])?;
-        assert!(rt;
-            refused == Some((BAD_LINE, line)),
-            "the first {length} bytes"
-        );
-        if *byte == b'\n' && line < 1000 {
-            line += 1;
-        }
     }
     Ok(())
 }

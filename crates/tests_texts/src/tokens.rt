@@ -1,6 +1,5 @@
 use bg_text::TokenKind::*;
 use bg_text::*;
-use std::alloc::Global;
 
 /// Texts of three tokens each, with the kind and the span of each token.
 const CUT: [(&str, [(TokenKind, u32, u32); 3]); 7] = [
@@ -19,23 +18,6 @@ const CUT: [(&str, [(TokenKind, u32, u32); 3]); 7] = [
     ),
 ];
 
-/// Texts that are refused, with the code and the offset.
-const REFUSED: [(&str, u8, u32); 13] = [
-    ("ctrl $", 21, 5),
-    ("string s = \"abc", 22, 11),
-    ("ctrl A = 9223372036854775808;", 23, 9),
-    ("int n = 1.5;", 24, 8),
-    ("99999999999999999999.5", 24, 0),
-    ("\"a\u{0}b", 22, 0),
-    ("\"a\u{0}b\"", 21, 2),
-    ("\"abc\r\n\"", 22, 0),
-    ("\u{feff}ctrl", 21, 0),
-    ("\u{0}", 21, 0),
-    ("\u{b}", 21, 0),
-    ("a\u{c}", 21, 1),
-    ("# a\n\"", 22, 4),
-];
-
 fn token((kind, start, end): (TokenKind, u32, u32)) -> Token {
     Token { kind, start, end }
 }
@@ -48,29 +30,6 @@ fn cuts_texts(rt: HostRuntime) -> Result<(), LexFault> {
         assert!(rt; found.as_slice() == expected.as_slice(), "{text}");
     }
     assert!(rt; tokens(rt.alloc(), b"")?.len() == 0);
-    Ok(())
-}
-
-/// The code and the offset with which the text is refused; none where it has tokens.
-fn refusal_of(alloc: Global, text: &str) -> Result<Option<(u8, u32)>, LexFault> {
-    if text.len() > 1_000 {
-        return Ok(None);
-    }
-    match tokens(alloc, text.as_bytes()) {
-        Ok(_) => Ok(None),
-        Err(LexFault::Bad { code, offset }) => Ok(Some((code, offset))),
-        Err(LexFault::OutOfMemory) => Err(LexFault::OutOfMemory),
-    }
-}
-
-#[test]
-fn refuses_with_the_code_and_the_offset(rt: HostRuntime) -> Result<(), LexFault> {
-    for &(text, code, offset) in REFUSED.iter() {
-        assert!(rt;
-            refusal_of(rt.alloc(), text)? == Some((code, offset)),
-            "{text}"
-        );
-    }
     Ok(())
 }
 

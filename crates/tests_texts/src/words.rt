@@ -93,75 +93,6 @@ const TAKEN: [(&str, &str); 30] = [
     ),
 ];
 
-/// Words that are refused, with a space between two.
-const REFUSED: [&str; 65] = [
-    "bigengine",
-    "bigengine ",
-    "bigengine run",
-    "bigengine match --most x",
-    "bigengine match --workers 65",
-    "bigengine Compose",
-    "bigengine compos",
-    "bigengine composed",
-    "bigengine help",
-    "bigengine compose compose",
-    "bigengine compose check",
-    "bigengine compose 5",
-    "bigengine compose ",
-    "bigengine compose -",
-    "bigengine compose -- --",
-    "bigengine compose -- --explain",
-    "bigengine -- --explain",
-    "bigengine --",
-    "bigengine --explain",
-    "bigengine compose --help",
-    "bigengine --help",
-    "bigengine compose -h",
-    "bigengine compose --version",
-    "bigengine --version",
-    "bigengine compose -V",
-    "bigengine compose --explain --explain",
-    "bigengine compose --explain=x",
-    "bigengine compose --explain=true",
-    "bigengine compose --explain=",
-    "bigengine compose --expl",
-    "bigengine compose --mos 5",
-    "bigengine compose --most5",
-    "bigengine compose --MOST 5",
-    "bigengine compose -m 5",
-    "bigengine compose -most 5",
-    "bigengine compose --rules 5",
-    "bigengine compose --most",
-    "bigengine compose --most ",
-    "bigengine compose --most=",
-    "bigengine --most -- 5 compose",
-    "bigengine --most --explain compose",
-    "bigengine --most compose",
-    "bigengine compose --most 5 --most 5",
-    "bigengine compose --most=5 --most=6",
-    "bigengine compose --most 5 6",
-    "bigengine compose --most -5",
-    "bigengine compose --most=-5",
-    "bigengine compose --most +5",
-    "bigengine compose --most 5x",
-    "bigengine compose --most 0x5",
-    "bigengine compose --most 1_000",
-    "bigengine compose --most five",
-    "bigengine compose --most ٥",
-    "bigengine compose --most 0",
-    "bigengine compose --most 1000001",
-    "bigengine compose --workers 0",
-    "bigengine compose --workers 65",
-    "bigengine compose --steps 100001",
-    "bigengine compose --seed 18446744073709551616",
-    "bigengine compose --seed 99999999999999999999",
-    "bigengine compose --seed 000000000000000000000",
-    "bigengine compose --size 0",
-    "bigengine compose --size 301",
-    "bigengine compose --size 000000000000000000300",
-    "bigengine check --workers 65",
-];
-
 /// The words of the line.
 fn words_of(alloc: Global, line: &str) -> Result<Vec<String>, AllocError> {
     let mut words = Vec::new(alloc);
@@ -192,27 +123,10 @@ fn told(alloc: Global, line: &str) -> Result<String, WordsFault> {
     Ok(told)
 }
 
-/// Whether the words of the line are refused; want of memory is passed on.
-fn is_refused(alloc: Global, line: &str) -> Result<bool, WordsFault> {
-    match asked(alloc, line) {
-        Ok(_) => Ok(false),
-        Err(WordsFault::Refused) => Ok(true),
-        Err(WordsFault::OutOfMemory) => Err(WordsFault::OutOfMemory),
-    }
-}
-
 #[test]
 fn words_are_taken(rt: HostRuntime) -> Result<(), WordsFault> {
     for &(line, wanted) in TAKEN.iter() {
         assert!(rt; told(rt.alloc(), line)?.as_str() == wanted, "{line}");
-    }
-    Ok(())
-}
-
-#[test]
-fn words_are_refused(rt: HostRuntime) -> Result<(), WordsFault> {
-    for &line in REFUSED.iter() {
-        assert!(rt; is_refused(rt.alloc(), line)?, "{line}");
     }
     Ok(())
 }
