@@ -11,7 +11,7 @@ mod ReferenceRead
 mod Turns
 mod UsesMade
 pub mod SystemsKept
-mod Described
+pub mod Described
 mod Said
 mod SaidRows
 mod SaidFormulas

@@ -1,98 +1,82 @@
 -- Which status a call ends with, and what is then written.
-use Rattle.std.proofs.Common.{◌≡◌, ◌≢◌, ◌<◌, ◌≤◌, ℕ, List, ◌⊎◌, None, Some, true, false, Bool, Result, Ok, Err, nat_lt, length, inl, inr, refl, sym, subst, ap, ◌∙◌, ⊎_elim, MatchBool, arith}
+use Rattle.std.proofs.Common.{◌≡◌, ◌≢◌, ◌<◌, ◌≤◌, ℕ, List, ◌⊎◌, None, Some, true, false, Bool, nat_lt, length, inl, inr, refl, sym, subst, ap, ◌∙◌, ⊎_elim, MatchBool, arith, ◌==◌, if◌then◌else◌, cc}
 use Rattle.std.specs.Prelude.{IfSome}
 use Rattle.std.specs.Option.{IsSomeAnd}
 use Rattle.std.proofs.lemmas.Bool.Decides.{nat_tests, eqb_tells, leb_tells}
 use Rattle.std.specs.declared.option.Option.{Option}
-use Rattle.bg_top.specs.Answer.{Answer, number, wrong_words, too_long}
-use Rattle.bg_rules.specs.Systems.{SystemParts}
-use Rattle.bg_top.specs.Model.{IsModelAnswer, IsModelText}
-use Rattle.bg_top.specs.Model as model
-use Rattle.bg_matches.specs.Counts.{AreFew}
-use Rattle.bg_top.specs.Match.{IsMatchAnswer, IsMatchOf, HasTooMany, listed, too_many}
-use Rattle.bg_top.specs.Match as matching
-use Rattle.bg_top.specs.Compose.{IsComposition, composed}
-use Rattle.bg_top.specs.Refusal.{told}
-use Rattle.bg_top.specs.Right.{IsReply, IsReplyOf, IsTextOf, IsMadeBy, IsTooMuch, IsTooMuchFor, IsTaken, IsRefused, IsRight, IsAccepted, Answers}
+use Rattle.bg_answers.specs.Answer.{Answer, number, wrong_words, too_long}
+use Rattle.bg_answers.specs.Promise.{Promise, IsRightAnswer, made, refused, IsSettled}
+use Rattle.bg_answers.specs.Refusal.{refusing}
+use Rattle.bg_answers.specs.declared.refusal.Refusal.{Refusal}
+use Rattle.bg_answers.specs.declared.status.Status.{Status}
+use Rattle.bg_answers.specs.declared.status.Status.TheVariants.{Done, Refused, WrongWords, TooMany, NoRun, TooLong, Unsorted}
 use Rattle.bg_top.specs.Ended.{Ended, IsStopped, ComesWhere}
-use Rattle.bg_words.specs.declared.asking.Request.{Request}
-use Rattle.bg_words.specs.declared.command.Command.{Command}
-use Rattle.bg_words.specs.declared.command.Command.TheVariants.{Compose, Check, Show, Match}
-use Rattle.bg_top.specs.declared.refusal.Refusal.{Refusal}
-use Rattle.bg_top.specs.declared.reply.Status.TheVariants.{Refused, TooMany}
 use Rattle.bg_top.specs.Numbers.{failed_read, failed_write, out_of_memory}
-use Rattle.bg_elab.specs.declared.fault.ModelFault.{ModelFault}
-use Rattle.bg_elab.specs.Reading.{IsReading}
-use Rattle.bg_elab.proofs.Readings.{one_reading}
-use Rattle.bg_lists.specs.Lists.{Mem}
-use Rattle.bg_rules.specs.Occurrences.{AreMoreThan}
-use Rattle.bg_show.specs.SystemText.{system_text}
-use Rattle.bg_top.specs.Check.{check_text}
-use Rattle.bg_top.proofs.Excess.{few_or_more, first_is_one}
-use Rattle.bg_top.proofs.Law.{composition_of, composed_of}
+use Rattle.bg_top.specs.Right.{promise_of, IsReply, IsTaken, IsRefused, IsTooMuch, EndsWith, IsRight, IsAnsweredWith, AsksOf, Answers}
+use Rattle.bg_top.proofs.Right.{over}
+use Rattle.bg_top.proofs.Settled.{settled}
+use Rattle.bg_words.specs.declared.asking.Request.{Request}
 
--- what a right answer of the command says: it is the text that the command makes of the input; it refuses the input; or it
--- tells that the text would be too much
-data Verdict (command : Command) (request : Request) (input : List ℕ) (answer : Answer) : Type 0 where
-  done : number answer.status ≡ 0 → IsMadeBy command request input answer.text → (¬ IsTooMuchFor command request input)
-      → Verdict command request input answer
-  turned_down : number answer.status ≡ 1 → ((text : List ℕ) → ¬ IsMadeBy command request input text) → (¬ IsTooMuchFor command request input)
-      → Verdict command request input answer
-  cut_short : number answer.status ≡ 6 → ((text : List ℕ) → ¬ IsMadeBy command request input text) → IsTooMuchFor command request input
-      → Verdict command request input answer
+-- ---- statuses and their numbers
 
-told_ends : (request : Request) (input : List ℕ) (outcome : Result (List ℕ) Refusal) (answer : Answer) → composed input ≡ outcome → answer ≡ told outcome
-    → Verdict Compose request input answer
-told_ends request input (Ok text) answer outcome_is is =
-    let made = composition_of input text outcome_is in
-    done (ap (λ a. number a.status) is) (subst (IsComposition input) (sym (ap (λ a. a.text) is)) made) (λ never. never)
-told_ends request input (Err refusal) answer outcome_is is =
-    turned_down (ap (λ a. number a.status) is) (λ text taken. let made = composed_of input text taken in absurd cc) (λ never. never)
+named : ℕ → Status
+named n =
+    if n == 0 then Done
+    else (if n == 1 then Refused
+    else (if n == 2 then WrongWords
+    else (if n == 6 then TooMany
+    else (if n == 7 then NoRun
+    else (if n == 8 then TooLong
+    else Unsorted)))))
 
--- an input that is refused describes no system
-no_system : (input : List ℕ) {fault : ModelFault} → IsReading input (Err fault) → (system : SystemParts) → IsReading input (Ok system) → ⊥
-no_system input refused system read = let same = one_reading input _ _ refused read in absurd cc
+number_named : (status : Status) → named (number status) ≡ status
+unfolding named
+number_named Done = refl
+number_named Refused = refl
+number_named WrongWords = refl
+number_named TooMany = refl
+number_named NoRun = refl
+number_named TooLong = refl
+number_named Unsorted = refl
 
--- the systems that the input describes are one
-one_system : (input : List ℕ) {system other : SystemParts} → IsReading input (Ok system) → IsReading input (Ok other) → system ≡ other
-one_system input read also = let same = one_reading input _ _ read also in cc
+same_status : (one other : Status) → number one ≡ number other → one ≡ other
+same_status one other same = sym (number_named one) ∙ ap named same ∙ number_named other
 
-model_ends : (command : Command) (text_of : SystemParts → List ℕ) (request : Request) (input : List ℕ) (answer : Answer)
-    → ((text : List ℕ) → IsModelText text_of input text → IsMadeBy command request input text)
-    → ((text : List ℕ) → IsMadeBy command request input text → IsModelText text_of input text)
-    → (¬ IsTooMuchFor command request input) → IsModelAnswer text_of input answer → Verdict command request input answer
-model_ends command text_of request input answer made unmade little (model.described {system = system} read) =
-    done refl (made (text_of system) (system, read, refl)) little
-model_ends command text_of request input answer made unmade little (model.refused read) =
-    turned_down refl (λ text is. let so = unmade text is in no_system input read so.0 so.1) little
+abbrev Goes : ℕ → Type 0
+Goes result = (result ≢ failed_read) × (result ≢ failed_write) × (result ≢ out_of_memory)
 
-match_ends : (request : Request) (input : List ℕ) (answer : Answer) → IsMatchAnswer request.most request.explain input answer
-    → Verdict Match request input answer
-match_ends request input answer (listed {system = system} read few lists) =
-    done refl (record { system = system; described = read; few = few; lists = lists })
-    (λ (more : HasTooMany request.most input). few_or_more request.most system few
-    (subst (λ z. Mem more.rule z.rules) (one_system input more.described read) more.of_system)
-    (subst (λ z. AreMoreThan request.most z.init.big more.rule.redex) (one_system input more.described read) more.more))
-match_ends request input answer (too_many {system = system} {number = number} {rule = rule} read first) =
-    cut_short refl
-    (λ text (made : IsMatchOf request.most request.explain input text). few_or_more request.most system
-    (subst (AreFew request.most) (one_system input made.described read) made.few) (first_is_one first) first.more)
-    (record { system = system; described = read; rule = rule; of_system = first_is_one first; more = first.more })
-match_ends request input answer (matching.refused read) =
-    turned_down refl (λ text (made : IsMatchOf request.most request.explain input text). no_system input read made.system made.described)
-    (λ (more : HasTooMany request.most input). no_system input read more.system more.described)
+number_goes : (status : Status) → Goes (number status)
+number_goes Done = ((λ e. omega (arith, e)), (λ e. omega (arith, e)), (λ e. omega (arith, e)))
+number_goes Refused = ((λ e. omega (arith, e)), (λ e. omega (arith, e)), (λ e. omega (arith, e)))
+number_goes WrongWords = ((λ e. omega (arith, e)), (λ e. omega (arith, e)), (λ e. omega (arith, e)))
+number_goes TooMany = ((λ e. omega (arith, e)), (λ e. omega (arith, e)), (λ e. omega (arith, e)))
+number_goes NoRun = ((λ e. omega (arith, e)), (λ e. omega (arith, e)), (λ e. omega (arith, e)))
+number_goes TooLong = ((λ e. omega (arith, e)), (λ e. omega (arith, e)), (λ e. omega (arith, e)))
+number_goes Unsorted = ((λ e. omega (arith, e)), (λ e. omega (arith, e)), (λ e. omega (arith, e)))
 
-reply_ends : (command : Command) (request : Request) (input : List ℕ) (answer : Answer) → IsReplyOf command request input answer
-    → Verdict command request input answer
-reply_ends Compose request input answer is = told_ends request input (composed input) answer refl is
-reply_ends Check request input answer is = model_ends Check check_text request input answer (λ text so. so) (λ text so. so) (λ never. never) is
-reply_ends Show request input answer is = model_ends Show system_text request input answer (λ text so. so) (λ text so. so) (λ never. never) is
-reply_ends Match request input answer is = match_ends request input answer is
+status_goes : (result : ℕ) (status : Status) → result ≡ number status → Goes result
+status_goes result status is = subst Goes (sym is) (number_goes status)
+
+-- the call was stopped, or was not
+stops : (result : ℕ) → IsStopped result ⊎ Goes result
+stops result =
+    ⊎_elim (λ a. inl (inl a.1)) (λ a. ⊎_elim (λ b. inl (inr (inl b.1))) (λ b. ⊎_elim (λ d. inl (inr (inr d.1))) (λ d. inr (a.1, b.1, d.1))
+    (eqb_tells result out_of_memory)) (eqb_tells result failed_write)) (eqb_tells result failed_read)
+
+-- ---- right answers
+
+-- right answers to one input have one status
+one_status : (promise : Promise) → IsSettled promise → (input : List ℕ) {one other : Answer} → IsRightAnswer promise input one
+    → IsRightAnswer promise input other → one.status ≡ other.status
+one_status promise is input {one} {other} (made first) (made second) = is.one_status input one other first second
+one_status promise is input {one} (made first) (refused {refusal = refusal} second) = absurd (is.refused_unmade input one refusal first second)
+one_status promise is input {one} {other} (refused {refusal = refusal} first) (made second) = absurd (is.refused_unmade input other refusal second first)
+one_status promise is input (refused first) (refused second) = refl
 
 -- what a right answer to an input says
 data Judged (most : ℕ) (request : Request) (input : List ℕ) (answer : Answer) : Type 0 where
-  long : number answer.status ≡ 8 → most < length input → Judged most request input answer
-  short : length input ≤ most → Verdict request.command request input answer → Judged most request input answer
+  long : answer ≡ too_long → most < length input → Judged most request input answer
+  short : length input ≤ most → IsReply request input answer → Judged most request input answer
 
 abbrev IsMatched : ℕ → Request → List ℕ → Answer → Bool → Type 0
 IsMatched most request input answer test = MatchBool test (answer ≡ too_long) (IsReply request input answer)
@@ -103,153 +87,214 @@ judged most request input answer right =
     ⊎_elim
     (λ few. let within : length input ≤ most = few.1 in
     let test : nat_lt most (length input) ≡ false = search (arith, nat_tests) in
-    let is : IsReply request input answer = subst (IsMatched most request input answer) test right in
-    short within (reply_ends request.command request input answer is))
+    short within (subst (IsMatched most request input answer) test right))
     (λ more. let past : most < length input = more.1 in
     let test : nat_lt most (length input) ≡ true = search (arith, nat_tests) in
-    let is : answer ≡ too_long = subst (IsMatched most request input answer) test right in
-    long (ap (λ a. number a.status) is) past)
+    long (subst (IsMatched most request input answer) test right) past)
     (leb_tells (length input) most)
+
+fits : (most : ℕ) (request : Request) (input : List ℕ) (answer : Answer) → length input ≤ most → IsReply request input answer
+    → IsRight most (Some request) (Some input) answer
+fits most request input answer few right =
+    let test : nat_lt most (length input) ≡ false = search (arith, nat_tests) in
+    (input, refl, subst (IsMatched most request input answer) (sym test) right)
+
+judged_at : (most : ℕ) (request : Request) (input : List ℕ) (answer : Answer) → IsRight most (Some request) (Some input) answer
+    → Judged most request input answer
+judged_at most request input answer right =
+    subst (λ i. Judged most request i answer) right.1 (judged most request right.0 answer right.2)
+
+same_judged : (most : ℕ) (request : Request) (input : List ℕ) (one other : Answer) → Judged most request input one
+    → Judged most request input other → one.status ≡ other.status
+same_judged most request input one other (long is past) (long also more) = ap (λ (a : Answer). a.status) (is ∙ sym also)
+same_judged most request input one other (long is past) (short few right) = absurd (omega (arith, past, few))
+same_judged most request input one other (short few right) (long is past) = absurd (omega (arith, past, few))
+same_judged most request input one other (short few first) (short also second) = one_status (promise_of request) (settled request) input first second
+
+same_right : (most : ℕ) (asked : Option Request) (input : List ℕ) (one other : Answer) → IsRight most asked (Some input) one
+    → IsRight most asked (Some input) other → one.status ≡ other.status
+same_right most None input one other first second = ap (λ (a : Answer). a.status) (first ∙ sym second)
+same_right most (Some request) input one other first second =
+    same_judged most request input one other (judged_at most request input one first) (judged_at most request input other second)
+
+-- ---- statuses of commands
+
+not_made : {promise : Promise} (settled : IsSettled promise) {input : List ℕ} {answer : Answer} → promise.makes input answer
+    → (answer.status ≢ Refused) × (answer.status ≢ WrongWords) × (answer.status ≢ TooLong)
+not_made settled {input} {answer} m = settled.no_refusal input answer m
+
+-- no right answer of a command is that of refused words or of a long input
+own_status : (promise : Promise) → IsSettled promise → (input : List ℕ) {answer : Answer} → IsRightAnswer promise input answer
+    → (answer.status ≢ WrongWords) × (answer.status ≢ TooLong)
+own_status promise is input (made m) = let not = not_made is m in (not.1, not.2)
+own_status promise is input (refused r) = ((λ e. absurd cc), (λ e. absurd cc))
+
+-- a right answer that says that the input is refused
+refused_of : (promise : Promise) → IsSettled promise → (input : List ℕ) {answer : Answer} → IsRightAnswer promise input answer → answer.status ≡ Refused
+    → (refusal : Refusal) × promise.refuses input refusal
+refused_of promise is input (made m) e = absurd ((not_made is m).0 e)
+refused_of promise is input (refused {refusal = refusal} r) e = (refusal, r)
+
+-- a right answer that says something else is made by the command
+made_of : (promise : Promise) (input : List ℕ) {answer : Answer} → IsRightAnswer promise input answer → answer.status ≢ Refused → promise.makes input answer
+made_of promise input (made m) not = m
+made_of promise input (refused r) not = absurd (not refl)
 
 -- ---- the clauses of `engine`
 
--- the call was stopped, or was not
-stops : (status : ℕ) → IsStopped status ⊎ ((status ≢ failed_read) × (status ≢ failed_write) × (status ≢ out_of_memory))
-stops status =
-    ⊎_elim (λ a. inl (inl a.1)) (λ a. ⊎_elim (λ b. inl (inr (inl b.1))) (λ b. ⊎_elim (λ d. inl (inr (inr d.1))) (λ d. inr (a.1, b.1, d.1))
-    (eqb_tells status out_of_memory)) (eqb_tells status failed_write)) (eqb_tells status failed_read)
+module _ (most : ℕ) (result : ℕ) (reads writes flushed : Type 0) (old new : Option (List ℕ)) where
+  abbrev Ends : Option Request → Option (List ℕ) → Type 0
+  Ends asked left = Ended (IsRight most asked left) result reads writes flushed old new
 
--- the answer of refused words
-no_words : (answer : Answer) (status : ℕ) → status ≡ number answer.status → answer ≡ wrong_words → status ≡ 2
-no_words answer status is so = is ∙ ap (λ a. number a.status) so
+  -- a right answer with that result
+  abbrev HasAnswer : Option Request → Option (List ℕ) → Type 0
+  HasAnswer asked left = (answer : Answer) × IsRight most asked left answer × (result ≡ number answer.status)
 
--- at status 0
-zero_says : (most : ℕ) (request : Request) (input : List ℕ) (answer : Answer) (status : ℕ) → status ≡ number answer.status → status ≡ 0
-    → Judged most request input answer → IsTextOf request input answer.text
-zero_says most request input answer status is zero (long eight more) = absurd (omega (arith, is, zero, eight))
-zero_says most request input answer status is zero (short few (done none text little)) = text
-zero_says most request input answer status is zero (short few (turned_down one none little)) = absurd (omega (arith, is, zero, one))
-zero_says most request input answer status is zero (short few (cut_short six none much)) = absurd (omega (arith, is, zero, six))
+  answer_of : (asked : Option Request) (left : Option (List ℕ)) → Ends asked left → Goes result → HasAnswer asked left
+  answer_of asked left ended goes = let some = ended.answered goes.0 goes.1 goes.2 in (some.0, some.1, some.2.0)
 
-pub written_from : (most : ℕ) (asked : Option Request) (left : Option (List ℕ)) (status : ℕ) (reads writes flushed : Type 0) (old new : Option (List ℕ))
-    → Ended (IsRight most asked left) status reads writes flushed old new → status ≡ 0
-    → IsSomeAnd asked (λ request. Answers request left old new)
-written_from most None left status reads writes flushed old new ended zero =
-    let some = ended.answered (omega arith) (omega arith) (omega arith) in
-    absurd (omega (arith, zero, no_words some.0 status some.2.0 some.1))
-written_from most (Some request) left status reads writes flushed old new ended zero =
-    let some = ended.answered (omega arith) (omega arith) (omega arith) in
-    let input = some.1.0 in
-    (input, some.1.1, (some.0.text, zero_says most request input some.0 status some.2.0 zero (judged most request input some.0 some.1.2), some.2.1))
+  -- each status comes exactly where some right answer has it
+  comes : (asked : Option Request) (input : List ℕ) → Ends asked (Some input) → (status : Status)
+      → ComesWhere result status (IsAnsweredWith most asked (Some input) status)
+  comes asked input ended status =
+      record {
+        only = λ is.
+            let some = answer_of asked (Some input) ended (status_goes result status is) in
+            (some.0, some.1, same_status some.0.status status (sym some.2 ∙ is));
+        always = λ answered. ⊎_elim (λ stopped. inl stopped) (λ goes.
+            let some = answer_of asked (Some input) ended goes in
+            inr (some.2 ∙ ap number (same_right most asked input some.0 answered.0 some.1 answered.1 ∙ answered.2))) (stops result);
+      }
 
-abbrev IsFewRefused : ℕ → Request → List ℕ → Type 0
-IsFewRefused most request input = (length input ≤ most) × IsRefused request input
+  -- so of other words for the same
+  comes_by : {P : Type 0} (asked : Option Request) (input : List ℕ) → Ends asked (Some input) → (status : Status)
+      → (IsAnsweredWith most asked (Some input) status → P) → (P → IsAnsweredWith most asked (Some input) status) → ComesWhere result status P
+  comes_by asked input ended status there back =
+      let comes_where = comes asked input ended status in
+      record { only = λ is. there (comes_where.only is); always = λ p. comes_where.always (back p) }
 
-abbrev IsFewTooMuch : ℕ → Request → List ℕ → Type 0
-IsFewTooMuch most request input = (length input ≤ most) × IsTooMuch request input
+  pub statuses_from : (asked : Option Request) (left : Option (List ℕ)) → Ends asked left
+      → IfSome left (λ input. (status : Status) → ComesWhere result status (IsAnsweredWith most asked (Some input) status))
+  statuses_from asked None ended = tt
+  statuses_from asked (Some input) ended = comes asked input ended
 
--- at status 1, and where the input is refused
-one_says : (most : ℕ) (request : Request) (input : List ℕ) (answer : Answer) (status : ℕ) → status ≡ number answer.status → status ≡ 1
-    → Judged most request input answer → IsFewRefused most request input
-one_says most request input answer status is one (long eight more) = absurd (omega (arith, is, one, eight))
-one_says most request input answer status is one (short few (done zero text little)) = absurd (omega (arith, is, one, zero))
-one_says most request input answer status is one (short few (turned_down also none little)) = (few, ((λ taken. none taken.0 taken.1), little))
-one_says most request input answer status is one (short few (cut_short six none much)) = absurd (omega (arith, is, one, six))
+  -- refused words
+  words_only : (asked : Option Request) (left : Option (List ℕ)) → Ends asked left → result ≡ number WrongWords → asked ≡ None
+  words_only None left ended is = refl
+  words_only (Some request) left ended is =
+      let some = answer_of (Some request) left ended (status_goes result WrongWords is) in
+      let status : some.0.status ≡ WrongWords = same_status some.0.status WrongWords (sym some.2 ∙ is) in
+      absurd (of (judged most request some.1.0 some.0 some.1.2) status)
+    where
+      of : {input : List ℕ} {answer : Answer} → Judged most request input answer → answer.status ≡ WrongWords → ⊥
+      of (long same past) e = let both = sym e ∙ ap (λ (a : Answer). a.status) same in absurd cc
+      of {input} (short few right) e = (own_status (promise_of request) (settled request) input right).0 e
 
-refused_ends : (most : ℕ) (request : Request) (input : List ℕ) (answer : Answer) (status : ℕ) → status ≡ number answer.status
-    → IsFewRefused most request input → Judged most request input answer → status ≡ 1
-refused_ends most request input answer status is where_it (long eight more) = absurd (omega (arith, where_it.0, more))
-refused_ends most request input answer status is where_it (short few (done zero text little)) = absurd (where_it.1.0 (answer.text, text))
-refused_ends most request input answer status is where_it (short few (turned_down one none little)) = is ∙ one
-refused_ends most request input answer status is where_it (short few (cut_short six none much)) = absurd (where_it.1.1 much)
-
--- at status 6, and where the text would be too much
-six_says : (most : ℕ) (request : Request) (input : List ℕ) (answer : Answer) (status : ℕ) → status ≡ number answer.status → status ≡ 6
-    → Judged most request input answer → IsFewTooMuch most request input
-six_says most request input answer status is six (long eight more) = absurd (omega (arith, is, six, eight))
-six_says most request input answer status is six (short few (done zero text little)) = absurd (omega (arith, is, six, zero))
-six_says most request input answer status is six (short few (turned_down one none little)) = absurd (omega (arith, is, six, one))
-six_says most request input answer status is six (short few (cut_short also none much)) = (few, much)
-
-much_ends : (most : ℕ) (request : Request) (input : List ℕ) (answer : Answer) (status : ℕ) → status ≡ number answer.status
-    → IsFewTooMuch most request input → Judged most request input answer → status ≡ 6
-much_ends most request input answer status is where_it (long eight more) = absurd (omega (arith, where_it.0, more))
-much_ends most request input answer status is where_it (short few (done zero text little)) = absurd (little where_it.1)
-much_ends most request input answer status is where_it (short few (turned_down one none little)) = absurd (little where_it.1)
-much_ends most request input answer status is where_it (short few (cut_short six none much)) = is ∙ six
-
--- where the input is taken
-taken_ends : (most : ℕ) (request : Request) (input : List ℕ) (answer : Answer) (status : ℕ) → status ≡ number answer.status
-    → (length input ≤ most) × IsTaken request input → Judged most request input answer → status ≡ 0
-taken_ends most request input answer status is where_it (long eight more) = absurd (omega (arith, where_it.0, more))
-taken_ends most request input answer status is where_it (short few (done zero text little)) = is ∙ zero
-taken_ends most request input answer status is where_it (short few (turned_down one none little)) = absurd (none where_it.1.0 where_it.1.1)
-taken_ends most request input answer status is where_it (short few (cut_short six none much)) = absurd (none where_it.1.0 where_it.1.1)
-
--- a status that is that of answers of one kind comes exactly where the input is of that kind
-module _ (most : ℕ) (status : ℕ) (reads writes flushed : Type 0) (old new : Option (List ℕ)) where
-  refused_only : (asked : Option Request) (input : List ℕ) → Ended (IsRight most asked (Some input)) status reads writes flushed old new
-      → status ≡ 1 → IsSomeAnd asked (λ request. IsFewRefused most request input)
-  refused_only None input ended one =
-      let some = ended.answered (omega arith) (omega arith) (omega arith) in
-      absurd (omega (arith, one, no_words some.0 status some.2.0 some.1))
-  refused_only (Some request) input ended one =
-      let some = ended.answered (omega arith) (omega arith) (omega arith) in
-      subst (IsFewRefused most request) some.1.1
-      (one_says most request some.1.0 some.0 status some.2.0 one (judged most request some.1.0 some.0 some.1.2))
-
-  refused_always : (asked : Option Request) (input : List ℕ) → Ended (IsRight most asked (Some input)) status reads writes flushed old new
-      → IsSomeAnd asked (λ request. IsFewRefused most request input) → IsStopped status ⊎ (status ≡ 1)
-  refused_always None input ended where_it = absurd where_it
-  refused_always (Some request) input ended where_it =
+  words_always : (asked : Option Request) (left : Option (List ℕ)) → Ends asked left → asked ≡ None → IsStopped result ⊎ (result ≡ number WrongWords)
+  words_always None left ended none =
       ⊎_elim (λ stopped. inl stopped) (λ goes.
+      let some = answer_of None left ended goes in
+      inr (some.2 ∙ ap (λ (a : Answer). number a.status) some.1)) (stops result)
+  words_always (Some request) left ended none = absurd cc
+
+  pub words_from : (asked : Option Request) (left : Option (List ℕ)) → Ends asked left → ComesWhere result WrongWords (asked ≡ None)
+  words_from asked left ended = record { only = words_only asked left ended; always = words_always asked left ended }
+
+  -- inputs of too many bytes
+  abbrev IsLong : Option Request → List ℕ → Type 0
+  IsLong asked input = IsSomeAnd asked (λ request. most < length input)
+
+  long_of : (asked : Option Request) (input : List ℕ) → IsAnsweredWith most asked (Some input) TooLong → IsLong asked input
+  long_of None input answered = let both = sym answered.2 ∙ ap (λ (a : Answer). a.status) answered.1 in absurd cc
+  long_of (Some request) input answered = of (judged_at most request input answered.0 answered.1) answered.2
+    where
+      of : {answer : Answer} → Judged most request input answer → answer.status ≡ TooLong → most < length input
+      of (long same past) e = past
+      of (short few right) e = absurd ((own_status (promise_of request) (settled request) input right).1 e)
+
+  of_long : (asked : Option Request) (input : List ℕ) → IsLong asked input → IsAnsweredWith most asked (Some input) TooLong
+  of_long None input past = absurd past
+  of_long (Some request) input past = (too_long, (input, refl, over most request input past), refl)
+
+  pub long_from : (asked : Option Request) (left : Option (List ℕ)) → Ends asked left
+      → IfSome left (λ input. ComesWhere result TooLong (IsSomeAnd asked (λ request. most < length input)))
+  long_from asked None ended = tt
+  long_from asked (Some input) ended = comes_by asked input ended TooLong (long_of asked input) (of_long asked input)
+
+  -- refused inputs
+  refused_there : (asked : Option Request) (input : List ℕ) → IsAnsweredWith most asked (Some input) Refused → AsksOf most asked input IsRefused
+  refused_there None input answered = let both = sym answered.2 ∙ ap (λ (a : Answer). a.status) answered.1 in absurd cc
+  refused_there (Some request) input answered = of (judged_at most request input answered.0 answered.1) answered.2
+    where
+      of : {answer : Answer} → Judged most request input answer → answer.status ≡ Refused → (length input ≤ most) × IsRefused request input
+      of (long same past) e = let both = sym e ∙ ap (λ (a : Answer). a.status) same in absurd cc
+      of (short few right) e = (few, refused_of (promise_of request) (settled request) input right e)
+
+  there_refused : (asked : Option Request) (input : List ℕ) → AsksOf most asked input IsRefused → IsAnsweredWith most asked (Some input) Refused
+  there_refused None input asks = absurd asks
+  there_refused (Some request) input asks =
+      (refusing asks.1.0, fits most request input (refusing asks.1.0) asks.0 (refused asks.1.1), refl)
+
+  pub refused_from : (asked : Option Request) (left : Option (List ℕ)) → Ends asked left
+      → IfSome left (λ input. ComesWhere result Refused (AsksOf most asked input IsRefused))
+  refused_from asked None ended = tt
+  refused_from asked (Some input) ended = comes_by asked input ended Refused (refused_there asked input) (there_refused asked input)
+
+  -- inputs of which there would be too much to list
+  much_there : (asked : Option Request) (input : List ℕ) → IsAnsweredWith most asked (Some input) TooMany → AsksOf most asked input IsTooMuch
+  much_there None input answered = let both = sym answered.2 ∙ ap (λ (a : Answer). a.status) answered.1 in absurd cc
+  much_there (Some request) input answered = of answered.0 (judged_at most request input answered.0 answered.1) answered.2
+    where
+      of : (answer : Answer) → Judged most request input answer → answer.status ≡ TooMany → (length input ≤ most) × IsTooMuch request input
+      of answer (long same past) e = let both = sym e ∙ ap (λ (a : Answer). a.status) same in absurd cc
+      of answer (short few right) e =
+          (few, (answer, made_of (promise_of request) input right (λ r. let both = sym e ∙ r in absurd cc), e))
+
+  there_much : (asked : Option Request) (input : List ℕ) → AsksOf most asked input IsTooMuch → IsAnsweredWith most asked (Some input) TooMany
+  there_much None input asks = absurd asks
+  there_much (Some request) input asks = (asks.1.0, fits most request input asks.1.0 asks.0 (made asks.1.1), asks.1.2)
+
+  pub much_from : (asked : Option Request) (left : Option (List ℕ)) → Ends asked left
+      → IfSome left (λ input. ComesWhere result TooMany (AsksOf most asked input IsTooMuch))
+  much_from asked None ended = tt
+  much_from asked (Some input) ended = comes_by asked input ended TooMany (much_there asked input) (there_much asked input)
+
+  -- what is written at status 0
+  pub written_from : (asked : Option Request) (left : Option (List ℕ)) → Ends asked left → result ≡ number Done
+      → IsSomeAnd asked (λ request. Answers request left old new)
+  written_from None left ended is =
+      let some = answer_of None left ended (status_goes result Done is) in
+      let both = sym is ∙ some.2 ∙ ap (λ (a : Answer). number a.status) some.1 in absurd cc
+  written_from (Some request) left ended is =
+      let goes = status_goes result Done is in
       let some = ended.answered goes.0 goes.1 goes.2 in
-      let here = subst (IsFewRefused most request) (sym some.1.1) where_it in
-      inr (refused_ends most request some.1.0 some.0 status some.2.0 here (judged most request some.1.0 some.0 some.1.2)))
-      (stops status)
+      let status : some.0.status ≡ Done = same_status some.0.status Done (sym some.2.0 ∙ is) in
+      let input = some.1.0 in
+      (input, some.1.1, (some.0.text, of input some.0 (judged most request input some.0 some.1.2) status, some.2.1))
+    where
+      of : (input : List ℕ) (answer : Answer) → Judged most request input answer → answer.status ≡ Done
+          → (promise_of request).makes input (record { status = Done; text = answer.text })
+      of input answer (long same past) e = let both = sym e ∙ ap (λ (a : Answer). a.status) same in absurd cc
+      of input answer (short few right) e =
+          let plain : answer ≡ record { status = Done; text = answer.text } = ap (λ (s : Status). record { status = s; text = answer.text }) e in
+          subst ((promise_of request).makes input) plain (made_of (promise_of request) input right (λ r. let both = sym e ∙ r in absurd cc))
 
-  much_only : (asked : Option Request) (input : List ℕ) → Ended (IsRight most asked (Some input)) status reads writes flushed old new
-      → status ≡ 6 → IsSomeAnd asked (λ request. IsFewTooMuch most request input)
-  much_only None input ended six =
-      let some = ended.answered (omega arith) (omega arith) (omega arith) in
-      absurd (omega (arith, six, no_words some.0 status some.2.0 some.1))
-  much_only (Some request) input ended six =
-      let some = ended.answered (omega arith) (omega arith) (omega arith) in
-      subst (IsFewTooMuch most request) some.1.1
-      (six_says most request some.1.0 some.0 status some.2.0 six (judged most request some.1.0 some.0 some.1.2))
+  -- an accepted input is answered
+  accepted_ends : (asked : Option Request) (input : List ℕ) → Ends asked (Some input) → AsksOf most asked input IsTaken → ¬ reads → ¬ writes
+      → (result ≡ out_of_memory) ⊎ AsksOf most asked input (EndsWith result)
+  accepted_ends None input ended asks no_read no_write = absurd asks
+  accepted_ends (Some request) input ended asks no_read no_write =
+      ⊎_elim (λ e. inl e.1) (λ e.
+      let some = ended.answered (λ is. no_read (ended.read_failure is).0) (λ is. no_write (ended.write_failure is).0) e.1 in
+      inr (asks.0, of some.0 (judged_at most request input some.0 some.1) some.2.0)) (eqb_tells result out_of_memory)
+    where
+      of : (answer : Answer) → Judged most request input answer → result ≡ number answer.status → EndsWith result request input
+      of answer (long same past) is = absurd (omega (arith, past, asks.0))
+      of answer (short few (made m)) is = (answer, m, is)
+      of answer (short few (refused {refusal = refusal} r)) is = absurd ((settled request).refused_unaccepted input refusal asks.1 r)
 
-  much_always : (asked : Option Request) (input : List ℕ) → Ended (IsRight most asked (Some input)) status reads writes flushed old new
-      → IsSomeAnd asked (λ request. IsFewTooMuch most request input) → IsStopped status ⊎ (status ≡ 6)
-  much_always None input ended where_it = absurd where_it
-  much_always (Some request) input ended where_it =
-      ⊎_elim (λ stopped. inl stopped) (λ goes.
-      let some = ended.answered goes.0 goes.1 goes.2 in
-      let here = subst (IsFewTooMuch most request) (sym some.1.1) where_it in
-      inr (much_ends most request some.1.0 some.0 status some.2.0 here (judged most request some.1.0 some.0 some.1.2)))
-      (stops status)
-
-pub refused_from : (most : ℕ) (asked : Option Request) (left : Option (List ℕ)) (status : ℕ) (reads writes flushed : Type 0) (old new : Option (List ℕ))
-    → Ended (IsRight most asked left) status reads writes flushed old new
-    → IfSome left (λ input. ComesWhere status Refused (IsSomeAnd asked (λ request. IsFewRefused most request input)))
-refused_from most asked None status reads writes flushed old new ended = tt
-refused_from most asked (Some input) status reads writes flushed old new ended =
-    record { only = refused_only most status reads writes flushed old new asked input ended; always = refused_always most status reads writes flushed old new asked input ended }
-
-pub too_many_from : (most : ℕ) (asked : Option Request) (left : Option (List ℕ)) (status : ℕ) (reads writes flushed : Type 0) (old new : Option (List ℕ))
-    → Ended (IsRight most asked left) status reads writes flushed old new
-    → IfSome left (λ input. ComesWhere status TooMany (IsSomeAnd asked (λ request. IsFewTooMuch most request input)))
-too_many_from most asked None status reads writes flushed old new ended = tt
-too_many_from most asked (Some input) status reads writes flushed old new ended =
-    record { only = much_only most status reads writes flushed old new asked input ended; always = much_always most status reads writes flushed old new asked input ended }
-
-pub complete_from : (most : ℕ) (asked : Option Request) (left : Option (List ℕ)) (status : ℕ) (reads writes flushed : Type 0) (old new : Option (List ℕ))
-    → Ended (IsRight most asked left) status reads writes flushed old new → IsAccepted most asked left → ¬ reads → ¬ writes
-    → (status ≡ 0) ⊎ (status ≡ out_of_memory)
-complete_from most None left status reads writes flushed old new ended accepted no_read no_write = absurd accepted
-complete_from most (Some request) None status reads writes flushed old new ended accepted no_read no_write = absurd accepted
-complete_from most (Some request) (Some input) status reads writes flushed old new ended accepted no_read no_write =
-    ⊎_elim (λ e. inr e.1) (λ e.
-    let some = ended.answered (λ is. no_read (ended.read_failure is).0) (λ is. no_write (ended.write_failure is).0) e.1 in
-    let here = subst (λ i. (length i ≤ most) × IsTaken request i) (sym some.1.1) accepted in
-    inl (taken_ends most request some.1.0 some.0 status some.2.0 here (judged most request some.1.0 some.0 some.1.2)))
-    (eqb_tells status out_of_memory)
+  pub complete_from : (asked : Option Request) (left : Option (List ℕ)) → Ends asked left
+      → IfSome left (λ input. AsksOf most asked input IsTaken → ¬ reads → ¬ writes
+      → (result ≡ out_of_memory) ⊎ AsksOf most asked input (EndsWith result))
+  complete_from asked None ended = tt
+  complete_from asked (Some input) ended = accepted_ends asked input ended

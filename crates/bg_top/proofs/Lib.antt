@@ -1,8 +1,3 @@
 mod Ends
-mod Excess
-mod Joined
-mod Law
-mod Reading
 mod Right
-mod Texts
-mod Verdicts
+mod Settled

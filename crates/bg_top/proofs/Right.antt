@@ -3,7 +3,7 @@ use Rattle.std.proofs.Common.{◌≡◌, ◌<◌, ◌+◌, ℕ, List, None, Some
 use Rattle.std.proofs.lemmas.Bool.Decides.{nat_tests}
 use Rattle.std.specs.declared.option.Option.{Option}
 use Rattle.bg_io.specs.Transfers.{ConsumesExactly}
-use Rattle.bg_top.specs.Answer.{Answer, too_long}
+use Rattle.bg_answers.specs.Answer.{Answer, too_long}
 use Rattle.bg_top.specs.Right.{IsReply, ReadsRight, IsRight}
 use Rattle.bg_top.specs.Ended.{Ended, SomeAnswer}
 use Rattle.bg_words.specs.declared.asking.Request.{Request}
@@ -24,7 +24,7 @@ ended_under right wider status reads fails writes flushed old new widen failed e
     widened : {P : Answer → Type 0} → SomeAnswer right P → SomeAnswer wider P
     widened some = (some.0, widen some.0 some.1, some.2)
 
-over : (most : ℕ) (request : Request) (input : List ℕ) → most < length input
+pub over : (most : ℕ) (request : Request) (input : List ℕ) → most < length input
     → MatchBool (nat_lt most (length input)) (too_long ≡ too_long) (IsReply request input too_long)
 over most request input more =
     let test : nat_lt most (length input) ≡ true = search (arith, nat_tests) in

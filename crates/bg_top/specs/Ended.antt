@@ -3,8 +3,8 @@ use Rattle.std.specs.Prelude.{◌≡◌, ◌≢◌, ℕ, List, ◌⊎◌}
 use Rattle.std.specs.declared.option.Option.{Option}
 use Rattle.std.specs.Io.KnownBytes.{Appends, Keeps}
 use Rattle.bg_io.specs.Transfers.{AppendsPrefix}
-use Rattle.bg_top.specs.Answer.{Answer, number}
-use Rattle.bg_top.specs.declared.reply.Status.{Status}
+use Rattle.bg_answers.specs.Answer.{Answer, number}
+use Rattle.bg_answers.specs.declared.status.Status.{Status}
 use Rattle.bg_top.specs.Numbers.{failed_read, failed_write, out_of_memory}
 
 -- some right answer of which P holds

@@ -1,12 +1,4 @@
-pub mod Answer
-pub mod Check
-pub mod Compose
 pub mod Ended
-pub mod Failure
-pub mod Refusal
+pub mod Numbers
 pub mod Right
 pub mod Words
-pub mod Numbers
-pub mod Match
-pub mod Model
-pub mod Outcome

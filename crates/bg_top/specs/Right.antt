@@ -2,55 +2,53 @@
 use Rattle.std.specs.Prelude.{◌≡◌, ℕ, ◌≤◌, List, length, nat_lt, IfSome, MatchOption, MatchBool}
 use Rattle.std.specs.Option.{IsSomeAnd}
 use Rattle.std.specs.declared.option.Option.{Option}
-use Rattle.bg_top.specs.Answer.{Answer, wrong_words, too_long}
-use Rattle.bg_show.specs.SystemText.{system_text}
-use Rattle.bg_top.specs.Check.{check_text}
-use Rattle.bg_top.specs.Compose.{IsComposition, compose_answer}
-use Rattle.bg_top.specs.Ended.{Writes}
-use Rattle.bg_top.specs.Match.{IsMatchAnswer, IsMatchOf, HasTooMany}
-use Rattle.bg_top.specs.Model.{IsModelAnswer, IsModelText}
+use Rattle.bg_answers.specs.Answer.{Answer, number, wrong_words, too_long}
+use Rattle.bg_answers.specs.Promise.{Promise, IsRightAnswer}
+use Rattle.bg_answers.specs.declared.refusal.Refusal.{Refusal}
+use Rattle.bg_answers.specs.declared.status.Status.{Status}
+use Rattle.bg_answers.specs.declared.status.Status.TheVariants.{Done, TooMany}
+use Rattle.bg_top.specs.Ended.{SomeAnswer, Writes}
 use Rattle.bg_words.specs.declared.asking.Request.{Request}
 use Rattle.bg_words.specs.declared.command.Command.{Command}
 use Rattle.bg_words.specs.declared.command.Command.TheVariants.{Compose, Check, Show, Match}
+use Rattle.command_compose.specs.Compose.{compose_promise}
+use Rattle.command_match.specs.Match.{match_promise}
+use Rattle.command_models.specs.Models.{check_promise, show_promise}
 
--- a right answer of the command, for the options of the request, to the input
-abbrev pub IsReplyOf : Command → Request → List ℕ → Answer → Type 0
-IsReplyOf Compose request input answer = answer ≡ compose_answer input
-IsReplyOf Check request input answer = IsModelAnswer check_text input answer
-IsReplyOf Show request input answer = IsModelAnswer system_text input answer
-IsReplyOf Match request input answer = IsMatchAnswer request.most request.explain input answer
+-- what the command promises, for the options of the request
+abbrev pub promise_with : Request → Command → Promise
+promise_with request Compose = compose_promise
+promise_with request Check = check_promise
+promise_with request Show = show_promise
+promise_with request Match = match_promise request.most request.explain
 
--- the text that the command makes of the input
-abbrev pub IsMadeBy : Command → Request → List ℕ → List ℕ → Type 0
-IsMadeBy Compose request input text = IsComposition input text
-IsMadeBy Check request input text = IsModelText check_text input text
-IsMadeBy Show request input text = IsModelText system_text input text
-IsMadeBy Match request input text = IsMatchOf request.most request.explain input text
+-- what the command of the request promises
+abbrev pub promise_of : Request → Promise
+promise_of request = promise_with request request.command
 
--- the command would have more to list than the request asks for
-abbrev pub IsTooMuchFor : Command → Request → List ℕ → Type 0
-IsTooMuchFor Compose request input = ⊥
-IsTooMuchFor Check request input = ⊥
-IsTooMuchFor Show request input = ⊥
-IsTooMuchFor Match request input = HasTooMany request.most input
-
--- so it is with the command of the request
+-- a right answer to the input
 abbrev pub IsReply : Request → List ℕ → Answer → Type 0
-IsReply request = IsReplyOf request.command request
+IsReply request = IsRightAnswer (promise_of request)
 
-abbrev pub IsTextOf : Request → List ℕ → List ℕ → Type 0
-IsTextOf request = IsMadeBy request.command request
-
-abbrev pub IsTooMuch : Request → List ℕ → Type 0
-IsTooMuch request = IsTooMuchFor request.command request
-
--- the command takes the input: it makes some text of it
+-- the input is one that the command takes
 abbrev pub IsTaken : Request → List ℕ → Type 0
-IsTaken request input = (text : List ℕ) × IsTextOf request input text
+IsTaken request input = (promise_of request).accepts input
 
--- the command refuses the input: it makes no text of it, and not because that would be too much
+-- the input is refused: the listings, the composition, or the model that it is read as
 abbrev pub IsRefused : Request → List ℕ → Type 0
-IsRefused request input = (¬ IsTaken request input) × (¬ IsTooMuch request input)
+IsRefused request input = (refusal : Refusal) × (promise_of request).refuses input refusal
+
+-- the command makes of the input an answer of which P holds
+abbrev pub Makes : Request → List ℕ → (Answer → Type 0) → Type 0
+Makes request input P = (answer : Answer) × (promise_of request).makes input answer × P answer
+
+-- what the command makes of the input tells that there would be too much to list
+abbrev pub IsTooMuch : Request → List ℕ → Type 0
+IsTooMuch request input = Makes request input (λ answer. answer.status ≡ TooMany)
+
+-- the result is the status of what the command makes of the input
+abbrev pub EndsWith : ℕ → Request → List ℕ → Type 0
+EndsWith result request input = Makes request input (λ answer. result ≡ number answer.status)
 
 -- the input is what was left, where that is told
 abbrev pub IsLeft : Option (List ℕ) → List ℕ → Type 0
@@ -65,10 +63,15 @@ ReadsRight most request left answer = (input : List ℕ) × IsLeft left input
 abbrev pub IsRight : ℕ → Option Request → Option (List ℕ) → Answer → Type 0
 IsRight most asked left answer = MatchOption asked (answer ≡ wrong_words) (λ request. ReadsRight most request left answer)
 
--- the words ask for a command that takes what is left, which is not too long
-abbrev pub IsAccepted : ℕ → Option Request → Option (List ℕ) → Type 0
-IsAccepted most asked left = IsSomeAnd asked (λ request. IsSomeAnd left (λ input. (length input ≤ most) × IsTaken request input))
+-- some right answer has that status
+abbrev pub IsAnsweredWith : ℕ → Option Request → Option (List ℕ) → Status → Type 0
+IsAnsweredWith most asked left status = SomeAnswer (IsRight most asked left) (λ answer. answer.status ≡ status)
+
+-- the words ask for a command and an input of at most so many bytes is left, of which P holds
+abbrev pub AsksOf : ℕ → Option Request → List ℕ → (Request → List ℕ → Type 0) → Type 0
+AsksOf most asked input P = IsSomeAnd asked (λ request. (length input ≤ most) × P request input)
 
 -- some input, which is what was left where that is told, and the text that the command makes of it, written whole
 abbrev pub Answers : Request → Option (List ℕ) → Option (List ℕ) → Option (List ℕ) → Type 0
-Answers request left old new = (input : List ℕ) × IsLeft left input × Writes (IsTextOf request input) old new
+Answers request left old new = (input : List ℕ) × IsLeft left input
+    × Writes (λ text. (promise_of request).makes input (record { status = Done; text = text })) old new

@@ -1,19 +1,21 @@
 //! The top call.
-ghost use Rattle.std.specs.Prelude.{◌≡◌, ◌≢◌, ◌≤◌, ◌<◌, ◌+◌, ◌⊎◌, None, length, IfOk, IfSome, IsErrOf};
+ghost use Rattle.std.specs.Prelude.{◌≡◌, ◌≢◌, ◌≤◌, ◌<◌, ◌+◌, ◌⊎◌, None, Some, length, IfOk, IfSome, IsErrOf};
 ghost use Rattle.std.specs.Option.{IsSomeAnd};
+ghost use Rattle.bg_answers.specs.Answer.{number, answer_of};
 ghost use Rattle.bg_io.specs.Faults.{Rose};
-ghost use Rattle.bg_top.specs.Numbers.{failed_read, failed_write, out_of_memory, most_bytes};
-ghost use Rattle.bg_top.specs.Words.{asked};
-ghost use Rattle.bg_top.specs.Answer.{number, answer_of};
-ghost use Rattle.bg_top.specs.Right.{IsReply, IsRight, Answers, IsRefused, IsTooMuch, IsAccepted};
 ghost use Rattle.bg_top.specs.Ended.{Ended, ComesWhere};
+ghost use Rattle.bg_top.specs.Numbers.{failed_read, failed_write, out_of_memory, most_bytes};
+ghost use Rattle.bg_top.specs.Right.{IsReply, IsRight, IsAnsweredWith, AsksOf, Answers, IsRefused, IsTooMuch, IsTaken, EndsWith};
+ghost use Rattle.bg_top.specs.Words.{asked};
 
-use crate::composition::composition;
-use crate::models::{check_text, match_text, show_text};
-use crate::reply::{Reply, Status, reply_with};
+use bg_answers::{Reply, Status};
 use bg_io::{ReadAllFault, Sink, SinkFault, Source, read_all, write_all};
+use bg_lists::{Mem, OutOfMemory};
 use bg_words::{Command, Request, WordsFault, request};
-use std::alloc::{AllocError, Global};
+use command_compose::answer_compose;
+use command_match::answer_match;
+use command_models::{answer_check, answer_show};
+use std::alloc::Global;
 
 /// The most bytes of an input; a longer one is refused.
 pub const MOST_BYTES: u32 = 8_388_608;
@@ -67,20 +69,25 @@ pub fn engine<S: Source, K: Sink>(
     // the source is read until its end, or just past the most
     ensures few_reads { S.reads source.new ≤ S.reads source.old + most_bytes + 1 }
 
-    // refused inputs
+    // inputs that are too long, that are refused, of which a rule has too many occurrences: each status of an answer
+    // comes exactly where some right answer has it
     ensures too_long { IfSome (S.left source.old) (λ input.
         ComesWhere result Status.TooLong (IsSomeAnd (asked words.now) (λ request. most_bytes < length input))) }
     ensures refused { IfSome (S.left source.old) (λ input.
-        ComesWhere result Status.Refused (IsSomeAnd (asked words.now) (λ request. (length input ≤ most_bytes) × IsRefused request input))) }
+        ComesWhere result Status.Refused (AsksOf most_bytes (asked words.now) input IsRefused)) }
     ensures too_many { IfSome (S.left source.old) (λ input.
-        ComesWhere result Status.TooMany (IsSomeAnd (asked words.now) (λ request. (length input ≤ most_bytes) × IsTooMuch request input))) }
+        ComesWhere result Status.TooMany (AsksOf most_bytes (asked words.now) input IsTooMuch)) }
+    ensures statuses { IfSome (S.left source.old) (λ input. (status : Status) →
+        ComesWhere result status (IsAnsweredWith most_bytes (asked words.now) (Some input) status)) }
 
-    // an input that is accepted is answered, and the text that the command makes of it is written
+    // the text that the command makes of an input is written
     ensures written { result ≡ number Status.Done →
         IsSomeAnd (asked words.now) (λ request. Answers request (S.left source.old) (K.held sink.old) (K.held sink.new)) }
-    ensures complete { IsAccepted most_bytes (asked words.now) (S.left source.old)
+
+    // an input that is accepted is answered by what the command makes of it
+    ensures complete { IfSome (S.left source.old) (λ input. AsksOf most_bytes (asked words.now) input IsTaken
         → ¬ Rose (S.faults source.old) (S.faults source.new) → ¬ Rose (K.faults sink.old) (K.faults sink.new)
-        → (result ≡ number Status.Done) ⊎ (result ≡ out_of_memory) }
+        → (result ≡ out_of_memory) ⊎ AsksOf most_bytes (asked words.now) input (EndsWith result)) }
 {
     run(alloc, words, source, sink)
 }
@@ -118,23 +125,20 @@ fn answer<K: Sink>(alloc: Global, request: Request, input: &[u8], sink: &mut K) 
 {
     match reply_to(alloc, request, input) {
         Ok(reply) => respond(sink, reply.status, reply.text.as_slice()),
-        Err(AllocError) => NO_MEMORY,
+        Err(OutOfMemory) => NO_MEMORY,
     }
 }
 
 /// The answer to a request and its input.
-fn reply_to(alloc: Global, request: Request, input: &[u8]) -> Result<Reply, AllocError>
+fn reply_to(alloc: Global, request: Request, input: &[u8]) -> Mem<Reply>
     requires { length input.now ≤ most_bytes }
     ensures { IfOk result (λ reply. IsReply request input.now (answer_of reply)) }
 {
     match request.command {
-        Command::Compose => reply_with(alloc, composition(alloc, input)),
-        Command::Check => reply_with(alloc, check_text(alloc, input)),
-        Command::Show => reply_with(alloc, show_text(alloc, input)),
-        Command::Match => {
-            let made = match_text(alloc, input, request.most, request.explain);
-            reply_with(alloc, made)
-        }
+        Command::Compose => answer_compose(alloc, input),
+        Command::Check => answer_check(alloc, input),
+        Command::Show => answer_show(alloc, input),
+        Command::Match => answer_match(alloc, input, request.most, request.explain),
     }
 }
 

@@ -2,7 +2,7 @@ use bg_base::Value;
 use bg_elab::{Detail, ModelFault, choice, read};
 use bg_lists::{Mem, Rows};
 use bg_rules::System;
-use bg_show::write_system;
+use bg_show_text::write_system;
 use bg_values::{LimitWord, ParameterValues};
 use std::alloc::Global;
 

@@ -1,6 +1,6 @@
 use Rattle.std.proofs.Common.{◌≡◌, ◌+◌, Some, rules}
 use Rattle.bg_io.specs.Transfers.{ConsumesExactly}
-use Rattle.bg_top.specs.Answer.{too_long}
+use Rattle.bg_answers.specs.Answer.{too_long}
 use Rattle.bg_top.specs.Words.{asked}
 use Rattle.bg_top.specs.Numbers.{most_bytes}
 use Rattle.bg_top.proofs.Right.{ended_with, right_too_long}

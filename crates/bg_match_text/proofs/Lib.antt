@@ -1,0 +1,5 @@
+pub mod Writing
+mod Occurrences
+mod OneRule
+pub mod OneText
+pub mod SomeText

@@ -1,5 +1,0 @@
-mod Writing
-mod Occurrences
-mod OneRule
-mod Rules
-mod OneText

@@ -1,5 +1,0 @@
-use Rattle.bg_matches.specs.MatchText.{map_line, plain}
-use Rattle.bg_matches.proofs.occurrence.put_plain.Goals as goal
-
-pub returns : goal.returns
-returns c = record { text = map_line c.args.map.now; is_text = plain; appended = c.in_ok-put_map.ensures }

@@ -1,0 +1,29 @@
+-- Each command has one status for each input: the law of each, in one line.
+use Rattle.std.proofs.Common.{◌≡◌, ℕ, Bool, List, sym, subst}
+use Rattle.bg_answers.specs.Answer.{Answer}
+use Rattle.bg_answers.specs.Promise.{IsRightAnswer, IsSettled}
+use Rattle.bg_show_text.specs.SystemText.{system_text}
+use Rattle.bg_top.specs.Right.{promise_with, promise_of, IsReply}
+use Rattle.bg_words.specs.declared.asking.Request.{Request}
+use Rattle.bg_words.specs.declared.command.Command.{Command}
+use Rattle.bg_words.specs.declared.command.Command.TheVariants.{Compose, Check, Show, Match}
+use Rattle.command_compose.proofs.Settled.{compose_settled}
+use Rattle.command_match.proofs.OneAnswer.{match_settled, one_right}
+use Rattle.command_models.proofs.Settled.{text_settled}
+use Rattle.command_models.specs.Check.{check_text}
+
+settled_with : (request : Request) (command : Command) → IsSettled (promise_with request command)
+settled_with request Compose = compose_settled
+settled_with request Check = text_settled check_text
+settled_with request Show = text_settled system_text
+settled_with request Match = match_settled request.most request.explain
+
+pub settled : (request : Request) → IsSettled (promise_of request)
+settled request = settled_with request request.command
+
+pub same_for_workers : (request : Request) (workers : ℕ) (input : List ℕ) (one other : Answer) → request.command ≡ Match
+    → IsReply request input one → IsReply (record request { workers = workers }) input other → one ≡ other
+same_for_workers request workers input one other is first second =
+    one_right request.most request.explain input one other
+    (subst (λ command. IsRightAnswer (promise_with request command) input one) is first)
+    (subst (λ command. IsRightAnswer (promise_with (record request { workers = workers }) command) input other) is second)

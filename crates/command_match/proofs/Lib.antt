@@ -1,0 +1,5 @@
+mod Answering
+mod Excess
+pub mod OneAnswer
+mod Rules
+mod SomeAnswer

@@ -1,0 +1,7 @@
+use Rattle.bg_answers.proofs.Answered.{answered}
+use Rattle.command_match.specs.Match.{match_promise}
+use Rattle.command_match.proofs.answer.answer_match.Goals as goal
+
+pub returns : goal.returns
+returns c =
+    answered (match_promise c.args.most c.args.explain) c.args.input.now c.reply.result c.of.result c.reply.ensures c.of.ensures

@@ -1,0 +1,20 @@
+-- A command that makes a text of each model has one status for each input.
+use Rattle.std.proofs.Common.{◌≡◌, ◌≢◌, List, ℕ, sym, ◌∙◌}
+use Rattle.bg_answers.proofs.Models.{no_system}
+use Rattle.bg_answers.specs.Promise.{IsSettled}
+use Rattle.bg_answers.specs.declared.status.Status.{Status}
+use Rattle.bg_answers.specs.declared.status.Status.TheVariants.{Done, Refused, WrongWords, TooLong}
+use Rattle.bg_rules.specs.Systems.{SystemParts}
+use Rattle.command_models.specs.Models.{text_promise}
+
+no_refusal : (status : Status) → status ≡ Done → (status ≢ Refused) × (status ≢ WrongWords) × (status ≢ TooLong)
+no_refusal status is = ((λ e. let both = sym is ∙ e in absurd cc), (λ e. let both = sym is ∙ e in absurd cc), (λ e. let both = sym is ∙ e in absurd cc))
+
+pub text_settled : (text_of : SystemParts → List ℕ) → IsSettled (text_promise text_of)
+text_settled text_of =
+    record {
+      one_status = λ input one other first second. first.0 ∙ sym second.0;
+      no_refusal = λ input answer made. no_refusal answer.status made.0;
+      refused_unmade = λ input answer refusal made refused. no_system input made.1.described refused;
+      refused_unaccepted = λ input refusal accepted refused. no_system input accepted.described refused;
+    }
