@@ -76,7 +76,7 @@ module _ (most : ℕ) (host : Big) (ground : IsGround host) where
   few_with : (rule : RuleParts) (rules : List RuleParts) → AreAtMost most host rule.redex
       → ((other : RuleParts) → Mem other rules → AreAtMost most host other.redex)
       → (other : RuleParts) → Mem other (rule ∷ rules) → AreAtMost most host other.redex
-  few_with rule rules few all other (here same) = subst (λ (r : RuleParts). AreAtMost most host r.redex) (sym same) few
+  few_with rule rules few all other (here same) = subst (λ (r : RuleParts). AreAtMost most host r.redex) same few
   few_with rule rules few all other (there m) = all other m
 
   found : (rules : List RuleParts) → ((rule : RuleParts) → Mem rule rules → IsPattern rule.redex) → Found rules

@@ -1,5 +1,5 @@
 -- `match` has one answer to each model, and one status for each input.
-use Rattle.std.proofs.Common.{◌≡◌, ◌≢◌, ◌<◌, ◌⊎◌, ℕ, Bool, List, Some, Ok, inl, inr, slice_get, refl, sym, ap, subst, ◌∙◌, ⊎_elim, arith, cc}
+use Rattle.std.proofs.Common.{◌≡◌, ◌≢◌, ◌<◌, ◌⊎◌, ℕ, Bool, List, Some, Ok, inl, inr, slice_get, refl, sym, ap, subst, ◌∙◌, ⊎_elim, arith}
 use Rattle.bg_answers.proofs.Models.{one_system, one_refusal, no_system}
 use Rattle.bg_answers.specs.Answer.{Answer}
 use Rattle.bg_answers.specs.Promise.{IsRightAnswer, made, refused, IsSettled}

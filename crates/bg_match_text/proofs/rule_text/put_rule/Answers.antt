@@ -1,4 +1,4 @@
-use Rattle.std.proofs.Common.{All, refl, sym, subst, ◌∙◌}
+use Rattle.std.proofs.Common.{All, length, refl, sym, subst}
 use Rattle.bg_base.specs.declared.big.Big.{Big}
 use Rattle.bg_rules.specs.Decomposition.{Occurs}
 use Rattle.bg_match_text.proofs.Occurrences.{all_occur}
@@ -18,5 +18,5 @@ returns-in_err-put_maps-clause-kept c =
 
 pub returns-clause-text : goal.returns-clause-text
 returns-clause-text c =
-    line_and_texts c.args.number c.args.rule.now c.args.maps.now c.args.maps.now c.len.result c.args.out.now.items _ _
-    c.requires.all c.len.ensures refl c.redex.ensures.same c.in_ok-write_rule_line.ensures.ok c.in_ok-put_maps.ensures.text
+    line_and_texts c.args.number c.args.rule.now c.args.maps.now c.args.maps.now (length c.args.maps.now) c.args.out.now.items _ _
+    c.requires.all refl refl c.redex.ensures.same c.in_ok-write_rule_line.ensures.ok c.in_ok-put_maps.ensures.text

@@ -12,5 +12,5 @@ write_rule-requires-clause-all c =
 
 pub returns-clause-text : goal.returns-clause-text
 returns-clause-text c =
-    subst (λ (big : Big). Appends (IsRuleText c.args.signature.now big c.args.explain c.args.number c.args.rule.now) c.args.text.now.items c.write_rule.new.text.items)
+    subst (λ (big : Big). Appends (IsRuleText c.args.signature.now big c.args.explain c.args.number c.args.rule.now) c.args.text.now.items c.write_rule.new.out.items)
     c.host.ensures.same c.in_ok-write_rule.ensures.ok
