@@ -1,5 +1,5 @@
 -- Which status a call ends with, and what is then written.
-use Rattle.std.proofs.Common.{◌≡◌, ◌≢◌, ◌<◌, ◌≤◌, ℕ, List, ◌⊎◌, None, Some, true, false, Bool, nat_lt, length, inl, inr, refl, sym, subst, ap, ◌∙◌, ⊎_elim, MatchBool, arith, ◌==◌, if◌then◌else◌, cc}
+use Rattle.std.proofs.Common.{◌≡◌, ◌≢◌, ◌<◌, ◌≤◌, ℕ, List, ◌⊎◌, None, Some, true, false, Bool, nat_lt, length, inl, inr, refl, sym, subst, ap, ◌∙◌, ⊎_elim, MatchBool, arith, ◌==◌, if◌then◌else◌}
 use Rattle.std.specs.Prelude.{IfSome}
 use Rattle.std.specs.Option.{IsSomeAnd}
 use Rattle.std.proofs.lemmas.Bool.Decides.{nat_tests, eqb_tells, leb_tells}

@@ -2,20 +2,18 @@
 use Rattle.std.proofs.Common.{◌≡◌, ℕ, Bool, List, sym, subst}
 use Rattle.bg_answers.specs.Answer.{Answer}
 use Rattle.bg_answers.specs.Promise.{IsRightAnswer, IsSettled}
-use Rattle.bg_show_text.specs.SystemText.{system_text}
 use Rattle.bg_top.specs.Right.{promise_with, promise_of, IsReply}
 use Rattle.bg_words.specs.declared.asking.Request.{Request}
 use Rattle.bg_words.specs.declared.command.Command.{Command}
 use Rattle.bg_words.specs.declared.command.Command.TheVariants.{Compose, Check, Show, Match}
 use Rattle.command_compose.proofs.Settled.{compose_settled}
 use Rattle.command_match.proofs.OneAnswer.{match_settled, one_right}
-use Rattle.command_models.proofs.Settled.{text_settled}
-use Rattle.command_models.specs.Check.{check_text}
+use Rattle.command_models.proofs.Settled.{check_settled, show_settled}
 
 settled_with : (request : Request) (command : Command) → IsSettled (promise_with request command)
 settled_with request Compose = compose_settled
-settled_with request Check = text_settled check_text
-settled_with request Show = text_settled system_text
+settled_with request Check = check_settled
+settled_with request Show = show_settled
 settled_with request Match = match_settled request.most request.explain
 
 pub settled : (request : Request) → IsSettled (promise_of request)

@@ -5,12 +5,14 @@ use Rattle.bg_answers.specs.Promise.{IsSettled}
 use Rattle.bg_answers.specs.declared.status.Status.{Status}
 use Rattle.bg_answers.specs.declared.status.Status.TheVariants.{Done, Refused, WrongWords, TooLong}
 use Rattle.bg_rules.specs.Systems.{SystemParts}
-use Rattle.command_models.specs.Models.{text_promise}
+use Rattle.bg_show_text.specs.SystemText.{system_text}
+use Rattle.command_models.specs.Check.{check_text}
+use Rattle.command_models.specs.Models.{text_promise, check_promise, show_promise}
 
 no_refusal : (status : Status) → status ≡ Done → (status ≢ Refused) × (status ≢ WrongWords) × (status ≢ TooLong)
 no_refusal status is = ((λ e. let both = sym is ∙ e in absurd cc), (λ e. let both = sym is ∙ e in absurd cc), (λ e. let both = sym is ∙ e in absurd cc))
 
-pub text_settled : (text_of : SystemParts → List ℕ) → IsSettled (text_promise text_of)
+text_settled : (text_of : SystemParts → List ℕ) → IsSettled (text_promise text_of)
 text_settled text_of =
     record {
       one_status = λ input one other first second. first.0 ∙ sym second.0;
@@ -18,3 +20,9 @@ text_settled text_of =
       refused_unmade = λ input answer refusal made refused. no_system input made.1.described refused;
       refused_unaccepted = λ input refusal accepted refused. no_system input accepted.described refused;
     }
+
+pub check_settled : IsSettled check_promise
+check_settled = text_settled check_text
+
+pub show_settled : IsSettled show_promise
+show_settled = text_settled system_text
