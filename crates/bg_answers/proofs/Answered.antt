@@ -1,5 +1,5 @@
 -- The answer that a call gives is right.
-use Rattle.std.proofs.Common.{◌≡◌, List, ℕ, Result, Ok, Err, IfOk, sym, subst}
+use Rattle.std.proofs.Common.{List, ℕ, Result, Ok, Err, IfOk, sym, subst}
 use Rattle.bg_answers.specs.Answer.{Answer, answer_of}
 use Rattle.bg_answers.specs.Promise.{Promise, IsRightAnswer, made, refused, Keeps, IsTold}
 use Rattle.bg_answers.specs.declared.failure.Failure.{Failure}

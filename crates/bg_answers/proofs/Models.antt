@@ -1,7 +1,5 @@
 -- What is read of a model is one system or one refusal.
 use Rattle.std.proofs.Common.{◌≡◌, List, ℕ, Result, Ok, Err, sym, ap, subst, ◌∙◌}
-use Rattle.std.specs.Prelude.{IsErr, IsErrAnd}
-use Rattle.bg_elab.specs.declared.fault.ModelFault.{ModelFault}
 use Rattle.bg_elab.specs.Reading.{IsReading}
 use Rattle.bg_elab.proofs.Readings.{one_reading}
 use Rattle.bg_rules.specs.Systems.{SystemParts}
@@ -30,12 +28,3 @@ one_refusal input one other first second =
 -- an input that is refused describes no system
 pub no_system : (input : List ℕ) {system : SystemParts} {refusal : Refusal} → IsReading input (Ok system) → IsRefusedModel input refusal → ⊥
 no_system input read is = let same = one_reading input _ _ is.refused read in absurd cc
-
--- a failure of reading that is handed on
-pub handed_on : (promise : Promise) (input : List ℕ) (given : Result Reply Failure) (failure : Failure)
-    → ((refusal : Refusal) → IsRefusedModel input refusal → promise.refuses input refusal)
-    → IsErr given → IsErrAnd given (λ other. other ≡ failure) → Describes (Err failure) input → Keeps promise given input
-handed_on promise input (Ok reply) failure refused err is so = absurd cc
-handed_on promise input (Err (Refused refusal)) failure refused err is so =
-    refused refusal (subst (λ z. Describes (Err z) input) (sym is) so)
-handed_on promise input (Err OutOfMemory) failure refused err is so = tt

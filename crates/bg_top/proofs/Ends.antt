@@ -4,7 +4,7 @@ use Rattle.std.specs.Prelude.{IfSome}
 use Rattle.std.specs.Option.{IsSomeAnd}
 use Rattle.std.proofs.lemmas.Bool.Decides.{nat_tests, eqb_tells, leb_tells}
 use Rattle.std.specs.declared.option.Option.{Option}
-use Rattle.bg_answers.specs.Answer.{Answer, number, wrong_words, too_long}
+use Rattle.bg_answers.specs.Answer.{Answer, number, too_long}
 use Rattle.bg_answers.specs.Promise.{Promise, IsRightAnswer, made, refused, IsSettled}
 use Rattle.bg_answers.specs.Refusal.{refusing}
 use Rattle.bg_answers.specs.declared.refusal.Refusal.{Refusal}

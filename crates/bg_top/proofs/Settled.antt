@@ -1,5 +1,5 @@
 -- Each command has one status for each input: the law of each, in one line.
-use Rattle.std.proofs.Common.{◌≡◌, ℕ, Bool, List, sym, subst}
+use Rattle.std.proofs.Common.{◌≡◌, ℕ, List, subst}
 use Rattle.bg_answers.specs.Answer.{Answer}
 use Rattle.bg_answers.specs.Promise.{IsRightAnswer, IsSettled}
 use Rattle.bg_top.specs.Right.{promise_with, promise_of, IsReply}

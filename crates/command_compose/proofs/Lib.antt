@@ -2,5 +2,4 @@ mod Joined
 mod Law
 mod Reading
 mod Verdicts
-mod Told
 pub mod Settled

@@ -1,5 +1,5 @@
 -- `compose` has one status for each input.
-use Rattle.std.proofs.Common.{◌≡◌, ◌≢◌, List, ℕ, Ok, Err, sym, ◌∙◌}
+use Rattle.std.proofs.Common.{◌≡◌, ◌≢◌, List, ℕ, Err, sym, ◌∙◌}
 use Rattle.bg_answers.specs.Promise.{IsSettled}
 use Rattle.bg_answers.specs.declared.refusal.Refusal.{Refusal}
 use Rattle.bg_answers.specs.declared.status.Status.{Status}

@@ -9,7 +9,6 @@ use Rattle.bg_listing.specs.Combinators.{◌>>=◌}
 use Rattle.bg_listing.specs.Limits.{IsReadableSignature, IsReadableBig}
 use Rattle.bg_listing.specs.Spelling.{signature_text, big_text}
 use Rattle.bg_listing.specs.Verdict.{signature_verdict, big_verdict, line_of}
-use Rattle.bg_answers.specs.Answer.{Answer}
 use Rattle.bg_answers.specs.Promise.{Promise}
 use Rattle.command_compose.specs.declared.operands.Operands.{Operands}
 use Rattle.bg_answers.specs.declared.refusal.Refusal.{Refusal}

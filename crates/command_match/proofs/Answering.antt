@@ -1,5 +1,5 @@
 -- What is made of a system, as an answer.
-use Rattle.std.proofs.Common.{◌≡◌, ℕ, Bool, Result, Ok, Err, IfOk, ◌<◌, List, [], Some, length, slice_get, sym, ap, subst, ◌∙◌}
+use Rattle.std.proofs.Common.{◌≡◌, ℕ, Bool, Result, Ok, Err, IfOk, ◌<◌, List, [], Some, length, slice_get, sym, subst, ◌∙◌}
 use Rattle.std.proofs.lemmas.Option.{slice_get_within}
 use Rattle.bg_answers.specs.Answer.{Answer, answer_of}
 use Rattle.bg_answers.specs.declared.reply.Reply.{Reply}

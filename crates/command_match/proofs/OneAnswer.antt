@@ -1,15 +1,13 @@
 -- `match` has one answer to each model, and one status for each input.
-use Rattle.std.proofs.Common.{◌≡◌, ◌≢◌, ◌<◌, ◌⊎◌, ℕ, Bool, List, Some, Ok, inl, inr, slice_get, refl, sym, ap, subst, ◌∙◌, ⊎_elim, arith}
+use Rattle.std.proofs.Common.{◌≡◌, ◌≢◌, ℕ, Bool, List, ap, subst, ◌∙◌}
 use Rattle.bg_answers.proofs.Models.{one_system, one_refusal, no_system}
 use Rattle.bg_answers.specs.Answer.{Answer}
 use Rattle.bg_answers.specs.Promise.{IsRightAnswer, made, refused, IsSettled}
 use Rattle.bg_answers.specs.Refusal.{refusing}
-use Rattle.bg_answers.specs.declared.status.Status.{Status}
 use Rattle.bg_answers.specs.declared.status.Status.TheVariants.{Done, TooMany, Refused, WrongWords, TooLong}
 use Rattle.bg_elab.proofs.Described.{described_is_system}
 use Rattle.bg_match_text.proofs.OneText.{one_text}
-use Rattle.bg_match_text.specs.Counts.{AreFew, IsFirstExcess, excess_line}
-use Rattle.bg_rules.specs.Rules.{RuleParts}
+use Rattle.bg_match_text.specs.Counts.{excess_line}
 use Rattle.bg_rules.specs.Systems.{SystemParts, IsSystem}
 use Rattle.command_match.proofs.Excess.{few_or_first, one_first}
 use Rattle.command_match.specs.Match.{IsMatchAnswer, listed, too_many, IsMatchOf, match_promise}

@@ -1,5 +1,5 @@
 -- `match` has an answer to each model.
-use Rattle.std.proofs.Common.{ℕ, Bool, List, ◌⊎◌, inl, inr, ⊎_elim}
+use Rattle.std.proofs.Common.{ℕ, Bool, List, ⊎_elim}
 use Rattle.bg_answers.specs.Answer.{Answer}
 use Rattle.bg_answers.specs.Described.{IsModel}
 use Rattle.bg_answers.specs.declared.status.Status.TheVariants.{Done, TooMany}

@@ -1,5 +1,5 @@
 -- What `match` promises: where the rules of the system that its input describes occur.
-use Rattle.std.specs.Prelude.{◌≡◌, ℕ, Bool, List, Ok}
+use Rattle.std.specs.Prelude.{ℕ, Bool, List, Ok}
 use Rattle.bg_answers.specs.Answer.{Answer}
 use Rattle.bg_answers.specs.Described.{IsModel, IsRefusedModel}
 use Rattle.bg_answers.specs.Promise.{Promise}

@@ -1,6 +1,5 @@
 use Rattle.std.proofs.Common.{refl}
 use Rattle.command_compose.proofs.Law.{composition_of}
-use Rattle.command_compose.proofs.Told.{handed_on}
 use Rattle.command_compose.proofs.answer.reply.Goals as goal
 
 pub returns : goal.returns
