@@ -1,14 +1,10 @@
 -- What is read of a model is one system or one refusal.
-use Rattle.std.proofs.Common.{◌≡◌, List, ℕ, Result, Ok, Err, sym, ap, subst, ◌∙◌}
+use Rattle.std.proofs.Common.{◌≡◌, List, ℕ, Ok, sym, ap, ◌∙◌}
 use Rattle.bg_elab.specs.Reading.{IsReading}
 use Rattle.bg_elab.proofs.Readings.{one_reading}
 use Rattle.bg_rules.specs.Systems.{SystemParts}
-use Rattle.bg_answers.specs.Described.{refused_at, IsRefusedModel, Describes}
-use Rattle.bg_answers.specs.Promise.{Promise, Keeps}
-use Rattle.bg_answers.specs.declared.failure.Failure.{Failure}
-use Rattle.bg_answers.specs.declared.failure.Failure.TheVariants.{Refused, OutOfMemory}
+use Rattle.bg_answers.specs.Described.{refused_at, IsRefusedModel}
 use Rattle.bg_answers.specs.declared.refusal.Refusal.{Refusal}
-use Rattle.bg_answers.specs.declared.reply.Reply.{Reply}
 
 -- the systems that the input describes are one
 pub one_system : (input : List ℕ) {system other : SystemParts} → IsReading input (Ok system) → IsReading input (Ok other) → system ≡ other
