@@ -5,9 +5,8 @@ pub mod Images
 pub mod Occurrences
 pub mod Instantiation
 pub mod Climbs
-pub mod Reaction
-pub mod Recomposition
 pub mod Rules
+pub mod Reaction
 pub mod Limits
 pub mod Hosts
 pub mod Faults
