@@ -28,6 +28,7 @@ pub mod Reactions
 pub mod SideTests
 pub mod Signed
 pub mod Grounded
+pub mod Parted
 pub mod Kept
 pub mod Ancestry
 pub mod Wholes

@@ -22,7 +22,8 @@ use Rattle.bg_rules.specs.Solid.{IsPattern}
 use Rattle.bg_rules.specs.Decomposition.{Decomposes}
 use Rattle.bg_rules.specs.Reaction.{HostState, IsNumbered, next_frame, next_instance, recomposed, Reacts}
 use Rattle.bg_rules.specs.Rules.{RuleParts, IsRule}
-use Rattle.bg_rules.proofs.Glued.{Glued, pattern_row, parameter_row}
+use Rattle.bg_rules.specs.Parting.{pattern_row, parameter_row}
+use Rattle.bg_rules.proofs.Glued.{Glued}
 use Rattle.bg_rules.proofs.Patterns.{parent_there, site_there, full_region}
 use Rattle.bg_rules.proofs.Occurrences.{glued_of}
 use Rattle.bg_rules.proofs.Frames.{counted_new, frame_valid_under}

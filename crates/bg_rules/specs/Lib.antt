@@ -1,6 +1,7 @@
 pub mod Solid
 pub mod Decomposition
 pub mod LocalConditions
+pub mod Parting
 pub mod Images
 pub mod Occurrences
 pub mod Instantiation

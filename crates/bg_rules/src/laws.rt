@@ -9,6 +9,7 @@ ghost use Rattle.bg_rules.specs.Solid.{IsPattern};
 ghost use Rattle.bg_rules.specs.Decomposition.{frame, Decomposes, Occurs};
 ghost use Rattle.bg_rules.specs.LocalConditions.{Meets, MeetsLocally};
 ghost use Rattle.bg_rules.specs.Occurrences.{AreOccurrences};
+ghost use Rattle.bg_rules.specs.Parting.{ArePartsOf};
 
 /// Occurrences are the local conditions: a pattern occurs at some nodes of a ground host, that is, some context and
 /// some discrete parameter compose with it to the host, exactly where these nodes meet the local conditions.
@@ -51,6 +52,15 @@ pub fn a_decomposition_is_ground()
         → inner_names context.inner ≡ pattern.outer ++ parameter.outer }
     ensures parts { (host pattern : Big) (nodes : List ℕ) (context : Big) (edges : List ℕ) (parameter : Big)
         → IsPattern pattern → Decomposes host pattern nodes context edges parameter → parameter.regions ≡ length pattern.sites }
+{}
+
+/// Context, pattern and parameter are the parts of a host that decomposes. Each node of the host is in exactly one of
+/// the three, the images being those of the pattern, and these have no other; each edge is one of the context or an
+/// image. A node of the context has the row that it has in the host; the image of a node, and a node of the parameter,
+/// have the control of that node, and the place and the links that the context gives to its own.
+pub fn a_decomposition_parts_the_host()
+    ensures { (host pattern : Big) (nodes : List ℕ) (context : Big) (edges : List ℕ) (parameter : Big) → IsPattern pattern
+        → Decomposes host pattern nodes context edges parameter → ArePartsOf host pattern nodes context edges parameter }
 {}
 
 /// Going up from a node of a valid bigraph, what is met is the node itself and its proper ancestors.
