@@ -17,6 +17,7 @@ pub mod Construct
 pub mod TupleLaws
 pub mod Occurrences
 pub mod SolidLaws
+pub mod SolidNumbers
 pub mod SolidCounts
 pub mod Counters
 pub mod ParameterParts

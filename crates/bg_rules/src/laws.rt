@@ -1,11 +1,11 @@
 //! The theorem on which the engine stands, and what follows from it. A call does nothing.
-ghost use Rattle.std.specs.Prelude.{◌≡◌, ◌↔◌, ◌++◌, ℕ, IsTrue, List, length};
+ghost use Rattle.std.specs.Prelude.{◌≡◌, ◌↔◌, ◌++◌, ℕ, IsTrue, Some, List, length};
 ghost use Rattle.bg_base.specs.declared.names.Place.TheVariants.{Node};
 ghost use Rattle.bg_base.specs.declared.big.Big.{Big};
 ghost use Rattle.bg_base.specs.Bigraph.{IsValid, IsGround};
 ghost use Rattle.bg_base.specs.Composition.{compose, inner_names};
 ghost use Rattle.bg_place.specs.Places.{places_of, is_within, is_ancestor};
-ghost use Rattle.bg_rules.specs.Solid.{IsPattern};
+ghost use Rattle.bg_rules.specs.Solid.{IsSolid, IsPattern, SolidClause, IsLeastUnsolid, unsolid_clause};
 ghost use Rattle.bg_rules.specs.Decomposition.{frame, Decomposes, Occurs};
 ghost use Rattle.bg_rules.specs.LocalConditions.{Meets, MeetsLocally};
 ghost use Rattle.bg_rules.specs.Occurrences.{AreOccurrences};
@@ -69,4 +69,11 @@ pub fn meeting_is_ancestry()
         → (Meets big.nodes node (Node other) ↔ IsTrue (is_within (places_of big).parents node other)) }
     ensures above { (big : Big) (node other : ℕ) → IsValid big → (node ≡ other → ⊥)
         → (Meets big.nodes node (Node other) ↔ IsTrue (is_ancestor (places_of big) node other)) }
+{}
+
+/// A bigraph is solid exactly where each of the six clauses holds; the number that [`first_unsolid`](crate::first_unsolid)
+/// and [`unsolid_clause`](crate::unsolid_clause) tell is that of the least clause that fails.
+pub fn solid_clauses_have_numbers()
+    ensures all { (big : Big) → (IsSolid big ↔ ((number : ℕ) → SolidClause big number)) }
+    ensures least { (big : Big) (number : ℕ) → ((unsolid_clause big ≡ Some number) ↔ IsLeastUnsolid big number) }
 {}
