@@ -1,5 +1,5 @@
 //! Rules: what a reaction may do.
-ghost use Rattle.std.specs.Prelude.{◌≡◌, ◌↔◌, ◌<◌, IfOk, IsErrOf, IsTrue};
+ghost use Rattle.std.specs.Prelude.{◌≡◌, ◌↔◌, ◌<◌, ◌-◌, ◌^◌, IfOk, IsErrOf, IsTrue, length};
 ghost use Rattle.std.specs.List.{All};
 ghost use Rattle.bg_base.specs.Bigraph.{IsValid};
 ghost use Rattle.bg_rules.specs.Rules as defined;
@@ -121,9 +121,10 @@ impl Rule {
         &self.map
     }
 
-    /// The conditions, in order.
+    /// The conditions, in order, fewer than 4,294,967,295.
     pub fn conditions(&self) -> &[Condition]
-        ensures { result.now ≡ self.now.conditions }
+        ensures same { result.now ≡ self.now.conditions }
+        ensures few { length result.now < 2 ^ 32 - 1 }
     {
         self.conditions.as_slice()
     }
