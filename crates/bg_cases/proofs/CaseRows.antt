@@ -13,6 +13,7 @@ use Rattle.bg_base.specs.declared.big.InnerRow.{InnerRow}
 use Rattle.bg_base.specs.declared.big.Big.{Big}
 use Rattle.bg_base.specs.declared.signature.Control.{Control}
 use Rattle.bg_base.specs.declared.signature.Kind.TheVariants.{Normal}
+use Rattle.bg_rules.specs.Rules.{RuleParts}
 
 -- ---- controls and nodes
 
@@ -133,3 +134,10 @@ l_half_closed = with_links (node_l 0 (Region 0) (Edge 0) (Outer y) ∷ []) (0 �
 abbrev pub two_closed_links : Big
 two_closed_links =
     with_links (node_k 0 (Region 0) (Edge 0) ∷ node_k 1 (Region 0) (Edge 1) ∷ []) (0 ∷ 1 ∷ []) [] 1
+
+-- ---- rules
+
+-- a rule called R, without conditions
+abbrev pub rule_of : Big → Big → List ℕ → RuleParts
+rule_of redex reactum map =
+    record { label = record { name = 82 ∷ []; args = [] }; redex = redex; reactum = reactum; map = map; conditions = []; class = 0 }

@@ -1,5 +1,5 @@
--- Tests that compute, for small cases: they tell that a bigraph is valid, that it is a pattern, and that a host is made of
--- a context, a pattern and a parameter.
+-- Tests that compute, for small cases: they tell that a bigraph is valid, that it is a pattern, that a host is made of
+-- a context, a pattern and a parameter, and that it reacts.
 use Rattle.std.proofs.Common.{◌≡◌, ℕ, zero, suc, ◌+◌, ◌≤◌, ◌<◌, Bool, true, false, not, ◌&&◌, eqb, ltb, None, List, [], ◌∷◌, map, length, All, refl, sym, ap, arith, nat_cmp, eqb-true, eq-eqb, ltb-true, inl, inr, ◌∙◌}
 use Rattle.std.specs.Option.{is_some}
 use Rattle.std.specs.Ordering.{eq_by_cmp}
@@ -32,6 +32,9 @@ use Rattle.bg_rules.specs.LocalConditions.{IsImage, MeetsLocally}
 use Rattle.bg_rules.proofs.Patterns.{image_row_mem}
 use Rattle.bg_rules.proofs.Occurrences.{occurs_locally}
 use Rattle.bg_rules.specs.Decomposition.{port_names, names_of, IsParameter, frame, AreNew, FitTogether, Decomposes, Occurs}
+use Rattle.bg_rules.specs.Instantiation.{instantiate}
+use Rattle.bg_rules.specs.Reaction.{HostState, next_instance, host_after, Reacts}
+use Rattle.bg_rules.specs.Rules.{RuleParts}
 
 -- ---- lists
 
@@ -206,6 +209,26 @@ fits_by pattern nodes context edges parameter e =
         placed_apart = SupportsApart-from_test context inside placed.1;
       },
     )
+
+-- a host that decomposes reacts where the reactum and the instance pass the tests
+pub reacts_by : (host : HostState) (rule : RuleParts) (nodes : List ℕ) (after : HostState) (context : Big) (edges : List ℕ) (parameter : Big)
+    → Decomposes host.big rule.redex nodes context edges parameter
+    → parts_fit rule.reactum (counted host.next_node (length rule.reactum.nodes)) context (counted host.next_edge (length rule.reactum.edges))
+    (next_instance host rule parameter)
+    ≡ true
+    → after ≡ host_after host rule context parameter → Reacts host rule nodes after
+unfolding instantiate
+reacts_by host rule nodes after context edges parameter d e same =
+    let fits = fits_by rule.reactum (counted host.next_node (length rule.reactum.nodes)) context
+    (counted host.next_edge (length rule.reactum.edges)) (next_instance host rule parameter) e in
+    record {
+      context = context;
+      edges = edges;
+      parameter = parameter;
+      decomposes = d;
+      defined = fits.2;
+      becomes = same;
+    }
 
 module _ (signature : List Control) where
   pub parameter_by : (parameter : Big) → fault_of signature parameter ≡ None → (is_without_inside parameter && is_nil parameter.edges) ≡ true → Discrete parameter

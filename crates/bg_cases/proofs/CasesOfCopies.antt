@@ -10,7 +10,9 @@ use Rattle.bg_base.specs.Elementary.{counted, identity}
 use Rattle.bg_base.specs.Translation.{along, rename}
 use Rattle.bg_base.specs.Products.{tensor, lean}
 use Rattle.bg_rules.specs.Instantiation.{part, late_nodes, number_in_copy, copies_from, instantiate, next_after}
-use Rattle.bg_rules.specs.Reaction.{HostParts, recomposed}
+use Rattle.bg_rules.specs.Reaction.{HostState, recomposed}
+use Rattle.bg_rules.specs.Rules.{RuleParts}
+use Rattle.bg_cases.proofs.CaseRows.{rule_of}
 
 -- a node without ports
 abbrev node : ℕ → ℕ → Place → NodeRow
@@ -44,12 +46,12 @@ none_asked : instantiate two_parts [] 10 ≡ places [] [] 0
 unfolding instantiate copies_from sort
 none_asked = refl
 
--- what is in node 0 is copied beside it: redex 0 with a site in it, reactum 0 with a site in it and one beside it
-abbrev host : HostParts
+-- what is in node 0 is copied beside it: redex 0 with a site in it, reactum 3 with a site in it and one beside it
+abbrev host : HostState
 host = record { big = places (node 0 0 (Region 0) ∷ node 1 1 (Node 0) ∷ node 2 2 (Node 1) ∷ []) [] 1; next_node = 3; next_edge = 0 }
 
-abbrev reactum : Big
-reactum = places (node 0 3 (Region 0) ∷ []) (Node 0 ∷ Region 0 ∷ []) 1
+abbrev rule : RuleParts
+rule = rule_of (places (node 0 0 (Region 0) ∷ []) (Node 0 ∷ []) 1) (places (node 0 3 (Region 0) ∷ []) (Node 0 ∷ Region 0 ∷ []) 1) (0 ∷ 0 ∷ [])
 
 abbrev context : Big
 context = places [] (Region 0 ∷ []) 1
@@ -57,7 +59,7 @@ context = places [] (Region 0 ∷ []) 1
 abbrev parameter : Big
 parameter = places (node 1 1 (Region 0) ∷ node 2 2 (Node 1) ∷ []) [] 1
 
-copied_beside : recomposed host reactum (0 ∷ 0 ∷ []) context parameter
+copied_beside : recomposed host rule context parameter
     ≡ places (node 1 1 (Node 3) ∷ node 2 2 (Node 1) ∷ node 3 3 (Region 0) ∷ node 4 1 (Region 0) ∷ node 5 2 (Node 4) ∷ []) [] 1
 unfolding lean compose tensor rename identity counted along instantiate copies_from number_in_copy late_nodes part sort put
 copied_beside = refl

@@ -12,9 +12,10 @@ use Rattle.bg_base.specs.Faults.{fault_of, sites_fault, inner_fault, outer_fault
 use Rattle.bg_base.specs.Translation.{along, rename}
 use Rattle.bg_base.specs.Products.{tensor, lean}
 use Rattle.bg_rules.specs.Instantiation.{part, late_nodes, number_in_copy, copies_from, instantiate, next_after}
-use Rattle.bg_rules.specs.Reaction.{AreSides, Reacts}
-use Rattle.bg_cases.proofs.CaseTests.{valid_by, pattern_by, parameter_by, decomposes_by}
-use Rattle.bg_cases.proofs.CaseRows.{four_controls, node_a, node_b, node_k, in_places, with_links, context_of, parameter_of, tied, nothing, x, y, a_open, k_on_x}
+use Rattle.bg_rules.specs.Reaction.{Reacts}
+use Rattle.bg_rules.specs.Rules.{AreSides}
+use Rattle.bg_cases.proofs.CaseTests.{valid_by, pattern_by, parameter_by, decomposes_by, reacts_by}
+use Rattle.bg_cases.proofs.CaseRows.{four_controls, node_a, node_b, node_k, in_places, with_links, context_of, parameter_of, tied, nothing, x, y, a_open, k_on_x, rule_of}
 
 -- ---- instantiation
 
@@ -61,7 +62,8 @@ copying_sides =
 
 -- A.id, with map 0, 0, becomes A.id | A.id: A.B.1 at node 0 becomes A.B.1 | A.B.1. The nodes of the reactum get the next
 -- numbers, 2 and 3, then the late copy of the B, 4
-copied : Reacts (record { big = in_places (node_a 0 (Region 0) ∷ node_b 1 (Node 0) ∷ []) [] 1; next_node = 2; next_edge = 0 }) a_open two_open (0 ∷ 0 ∷ []) (0 ∷ [])
+copied : Reacts (record { big = in_places (node_a 0 (Region 0) ∷ node_b 1 (Node 0) ∷ []) [] 1; next_node = 2; next_edge = 0 })
+    (rule_of a_open two_open (0 ∷ 0 ∷ [])) (0 ∷ [])
     (record {
       big = in_places (node_b 1 (Node 2) ∷ node_a 2 (Region 0) ∷ node_a 3 (Region 0) ∷ node_b 4 (Node 3) ∷ []) [] 1;
       next_node = 5;
@@ -69,18 +71,13 @@ copied : Reacts (record { big = in_places (node_a 0 (Region 0) ∷ node_b 1 (Nod
     })
 unfolding compose tensor identity rename along counted sort put lean instantiate copies_from number_in_copy late_nodes part fault_of sites_fault inner_fault outer_fault edges_fault nodes_fault
 copied =
-    record {
-      context = in_places [] (Region 0 ∷ []) 1;
-      edges = [];
-      parameter = in_places (node_b 1 (Region 0) ∷ []) [] 1;
-      decomposes = decomposes_by four_controls _ _ _ _ _ _ (valid_by four_controls _ refl) (valid_by four_controls _ refl)
-          (parameter_by four_controls _ refl refl (refl, tt) refl) refl refl;
-      becomes = refl;
-    }
+    reacts_by _ _ _ _ (in_places [] (Region 0 ∷ []) 1) [] (in_places (node_b 1 (Region 0) ∷ []) [] 1)
+    (decomposes_by four_controls _ _ _ _ _ _ (valid_by four_controls _ refl) (valid_by four_controls _ refl) (parameter_by four_controls _ refl refl (refl, tt) refl) refl refl)
+    refl refl
 
 -- K{x}.1 becomes /y (K{x} | K{y}): K{y} at node 0 becomes K{y} | /z K{z}, with a new edge, 7
-tied_anew : Reacts (record { big = with_links (node_k 0 (Region 0) (Outer y) ∷ []) [] (y ∷ []) 1; next_node = 5; next_edge = 7 }) k_on_x
-    (with_links (node_k 0 (Region 0) (Outer x) ∷ node_k 1 (Region 0) (Edge 0) ∷ []) (0 ∷ []) (x ∷ []) 1) [] (0 ∷ [])
+tied_anew : Reacts (record { big = with_links (node_k 0 (Region 0) (Outer y) ∷ []) [] (y ∷ []) 1; next_node = 5; next_edge = 7 })
+    (rule_of k_on_x (with_links (node_k 0 (Region 0) (Outer x) ∷ node_k 1 (Region 0) (Edge 0) ∷ []) (0 ∷ []) (x ∷ []) 1) []) (0 ∷ [])
     (record {
       big = with_links (node_k 5 (Region 0) (Outer y) ∷ node_k 6 (Region 0) (Edge 7) ∷ []) (7 ∷ []) (y ∷ []) 1;
       next_node = 7;
@@ -88,18 +85,13 @@ tied_anew : Reacts (record { big = with_links (node_k 0 (Region 0) (Outer y) ∷
     })
 unfolding compose tensor identity rename along counted sort put lean instantiate copies_from number_in_copy late_nodes part fault_of sites_fault inner_fault outer_fault edges_fault nodes_fault
 tied_anew =
-    record {
-      context = context_of [] [] (Region 0 ∷ []) (tied x (Outer y) ∷ []) 1 (y ∷ []);
-      edges = [];
-      parameter = nothing;
-      decomposes = decomposes_by four_controls _ _ _ _ _ _ (valid_by four_controls _ refl) (valid_by four_controls _ refl)
-          (parameter_by four_controls _ refl refl tt refl) refl refl;
-      becomes = refl;
-    }
+    reacts_by _ _ _ _ (context_of [] [] (Region 0 ∷ []) (tied x (Outer y) ∷ []) 1 (y ∷ [])) [] nothing
+    (decomposes_by four_controls _ _ _ _ _ _ (valid_by four_controls _ refl) (valid_by four_controls _ refl) (parameter_by four_controls _ refl refl tt refl) refl refl)
+    refl refl
 
 -- K{x}.1 becomes A.1 with x idle: /z K{z} | B.1 at node 0 becomes A.1 | B.1, without the edge that has lost its point
-edge_dropped : Reacts (record { big = with_links (node_k 0 (Region 0) (Edge 3) ∷ node_b 1 (Region 0) ∷ []) (3 ∷ []) [] 1; next_node = 2; next_edge = 4 }) k_on_x
-    (with_links (node_a 0 (Region 0) ∷ []) [] (x ∷ []) 1) [] (0 ∷ [])
+edge_dropped : Reacts (record { big = with_links (node_k 0 (Region 0) (Edge 3) ∷ node_b 1 (Region 0) ∷ []) (3 ∷ []) [] 1; next_node = 2; next_edge = 4 })
+    (rule_of k_on_x (with_links (node_a 0 (Region 0) ∷ []) [] (x ∷ []) 1) []) (0 ∷ [])
     (record {
       big = in_places (node_b 1 (Region 0) ∷ node_a 2 (Region 0) ∷ []) [] 1;
       next_node = 3;
@@ -107,27 +99,17 @@ edge_dropped : Reacts (record { big = with_links (node_k 0 (Region 0) (Edge 3) �
     })
 unfolding compose tensor identity rename along counted sort put lean instantiate copies_from number_in_copy late_nodes part fault_of sites_fault inner_fault outer_fault edges_fault nodes_fault
 edge_dropped =
-    record {
-      context = context_of (node_b 1 (Region 0) ∷ []) (3 ∷ []) (Region 0 ∷ []) (tied x (Edge 3) ∷ []) 1 [];
-      edges = [];
-      parameter = nothing;
-      decomposes = decomposes_by four_controls _ _ _ _ _ _ (valid_by four_controls _ refl) (valid_by four_controls _ refl)
-          (parameter_by four_controls _ refl refl tt refl) refl refl;
-      becomes = refl;
-    }
+    reacts_by _ _ _ _ (context_of (node_b 1 (Region 0) ∷ []) (3 ∷ []) (Region 0 ∷ []) (tied x (Edge 3) ∷ []) 1 []) [] nothing
+    (decomposes_by four_controls _ _ _ _ _ _ (valid_by four_controls _ refl) (valid_by four_controls _ refl) (parameter_by four_controls _ refl refl tt refl) refl refl)
+    refl refl
 
 -- a part of the parameter that no entry asks for is discarded, and an edge that only it was tied to goes with it:
 -- A.id, with no entry, becomes B.1: /z A.K{z} at node 0 becomes B.1
-part_discarded : Reacts (record { big = with_links (node_a 0 (Region 0) ∷ node_k 1 (Node 0) (Edge 3) ∷ []) (3 ∷ []) [] 1; next_node = 2; next_edge = 4 }) a_open
-    (in_places (node_b 0 (Region 0) ∷ []) [] 1) [] (0 ∷ [])
+part_discarded : Reacts (record { big = with_links (node_a 0 (Region 0) ∷ node_k 1 (Node 0) (Edge 3) ∷ []) (3 ∷ []) [] 1; next_node = 2; next_edge = 4 })
+    (rule_of a_open (in_places (node_b 0 (Region 0) ∷ []) [] 1) []) (0 ∷ [])
     (record { big = in_places (node_b 2 (Region 0) ∷ []) [] 1; next_node = 3; next_edge = 4 })
 unfolding compose tensor identity rename along counted sort put lean instantiate copies_from number_in_copy late_nodes part fault_of sites_fault inner_fault outer_fault edges_fault nodes_fault
 part_discarded =
-    record {
-      context = context_of [] (3 ∷ []) (Region 0 ∷ []) (tied (Port 1 0) (Edge 3) ∷ []) 1 [];
-      edges = [];
-      parameter = parameter_of (node_k 1 (Region 0) (Outer (Port 1 0)) ∷ []) 1 (Port 1 0 ∷ []);
-      decomposes = decomposes_by four_controls _ _ _ _ _ _ (valid_by four_controls _ refl) (valid_by four_controls _ refl)
-          (parameter_by four_controls _ refl refl (refl, tt) refl) refl refl;
-      becomes = refl;
-    }
+    reacts_by _ _ _ _ (context_of [] (3 ∷ []) (Region 0 ∷ []) (tied (Port 1 0) (Edge 3) ∷ []) 1 []) [] (parameter_of (node_k 1 (Region 0) (Outer (Port 1 0)) ∷ []) 1 (Port 1 0 ∷ []))
+    (decomposes_by four_controls _ _ _ _ _ _ (valid_by four_controls _ refl) (valid_by four_controls _ refl) (parameter_by four_controls _ refl refl (refl, tt) refl) refl refl)
+    refl refl

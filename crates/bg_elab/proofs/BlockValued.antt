@@ -9,7 +9,7 @@ use Rattle.bg_elab.specs.References.{Reference}
 use Rattle.bg_elab.specs.Systems.{init_valued, rules_valued, predicates_valued, block_valued}
 use Rattle.bg_elab.proofs.Labels.{values_are}
 use Rattle.bg_rules.specs.declared.predicate.Predicate.{Predicate}
-use Rattle.bg_rules.specs.Reaction.{HostParts}
+use Rattle.bg_rules.specs.Reaction.{HostState}
 use Rattle.bg_rules.specs.Rules.{RuleParts}
 use Rattle.bg_rules.specs.Systems.{SystemParts}
 use Rattle.bg_statements.specs.Defined.{Defined}
@@ -37,19 +37,19 @@ module _ (d : Defined) (r : Reference) (code : ReferenceCode) (is : code ≡ ref
 -- ---- all parts
 
 module _ (d : Defined) (b : Block) where
-  abbrev with_preds : HostParts → List RuleParts → List Predicate × List Control → Result SystemParts Refusal
+  abbrev with_preds : HostState → List RuleParts → List Predicate × List Control → Result SystemParts Refusal
   with_preds host rules preds = Ok (record { signature = preds.1; init = host; rules = rules; classes = b.classes; preds = preds.0 })
 
-  abbrev with_rest : HostParts → List RuleParts × List Control → Result SystemParts Refusal
+  abbrev with_rest : HostState → List RuleParts × List Control → Result SystemParts Refusal
   with_rest host rules = predicates_valued d b.preds rules.1 >>= with_preds host rules.0
 
-  abbrev with_all : HostParts × List Control → Result SystemParts Refusal
+  abbrev with_all : HostState × List Control → Result SystemParts Refusal
   with_all host = rules_valued d b.rules host.1 >>= with_rest host.0
 
   pub host_stops : (stop : Stop) → Stops stop (init_valued d b.init) → Stops stop (block_valued d b)
   host_stops stop stops = stops_there stop (init_valued d b.init) (block_valued d b) with_all refl stops
 
-  module _ (host : HostParts) (reached : List Control) (begins : init_valued d b.init ≡ Ok (host, reached)) where
+  module _ (host : HostState) (reached : List Control) (begins : init_valued d b.init ≡ Ok (host, reached)) where
     begun : block_valued d b ≡ rules_valued d b.rules reached >>= with_rest host
     begun = ap (λ r. r >>= with_all) begins
 

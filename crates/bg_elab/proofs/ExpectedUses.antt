@@ -11,8 +11,7 @@ use Rattle.bg_elab.specs.Systems.{room_at, label_with, with_rule, with_rules, wi
 use Rattle.bg_machine.specs.declared.met.Met.{Met}
 use Rattle.bg_machine.specs.Calls.{begun, evaluated}
 use Rattle.bg_rules.specs.declared.predicate.Predicate.{Predicate}
-use Rattle.bg_rules.specs.Reaction.{sides_agree, map_fits}
-use Rattle.bg_rules.specs.Rules.{RuleParts}
+use Rattle.bg_rules.specs.Rules.{RuleParts, sides_agree, map_fits}
 use Rattle.bg_rules.specs.Solid.{unsolid_clause}
 use Rattle.bg_statements.specs.declared.rule_values.ConditionValue.{ConditionValue}
 use Rattle.bg_statements.specs.Defined.{Defined}

@@ -7,7 +7,7 @@ use Rattle.bg_elab.specs.Blocks.{Block, Listed, block_read}
 use Rattle.bg_elab.specs.Choices.{choices}
 use Rattle.bg_elab.specs.References.{Reference}
 use Rattle.bg_rules.specs.declared.predicate.Predicate.{Predicate}
-use Rattle.bg_rules.specs.Reaction.{HostParts}
+use Rattle.bg_rules.specs.Reaction.{HostState}
 use Rattle.bg_rules.specs.Rules.{RuleParts}
 use Rattle.bg_rules.specs.Systems.{SystemParts}
 use Rattle.bg_statements.specs.Defined.{Defined}
@@ -62,7 +62,7 @@ with_predicates d r = in_turn (with_predicate d r) (choices r.lists)
 -- ---- the block, once its names were looked up
 
 -- what a run begins with, and the signature then reached
-abbrev pub init_valued : Defined → Reference → Result (HostParts × List Control) Refusal
+abbrev pub init_valued : Defined → Reference → Result (HostState × List Control) Refusal
 init_valued d r = values [] r.arguments >>= λ args. host_used d r.at r.number args d.signature
 
 -- the rules of all references, in turn

@@ -6,7 +6,7 @@ use Rattle.bg_decompose.specs.Joining.{IsJoinable}
 use Rattle.bg_rules.specs.Decomposition.{Decomposes}
 use Rattle.bg_rules.specs.Instantiation.{next_after}
 use Rattle.bg_rules.specs.Limits.{most_rows, AreSmallCounters}
-use Rattle.bg_rules.specs.Reaction.{HostParts}
+use Rattle.bg_rules.specs.Reaction.{HostState}
 use Rattle.bg_rules.specs.Rules.{RuleParts}
 use Rattle.bg_react.specs.Counting.{copied_nodes}
 
@@ -21,15 +21,15 @@ abbrev pub nodes_after : RuleParts → Big → Big → ℕ
 nodes_after rule context parameter = length context.nodes + (length rule.reactum.nodes + copied_nodes parameter rule.map)
 
 -- the number after those of the reactum's nodes, which the first late copy gets
-abbrev pub after_reactum : HostParts → RuleParts → ℕ
+abbrev pub after_reactum : HostState → RuleParts → ℕ
 after_reactum host rule = host.next_node + length rule.reactum.nodes
 
 -- the nodes and the counters of what the host becomes are within the limits
-pub record HasRoom (host : HostParts) (rule : RuleParts) (context parameter : Big) : Type 0 where
+pub record HasRoom (host : HostState) (rule : RuleParts) (context parameter : Big) : Type 0 where
   pub few_nodes : nodes_after rule context parameter ≤ most_rows
   pub counters_small : AreSmallCounters (next_after parameter rule.map (after_reactum host rule)) (host.next_edge + length rule.reactum.edges)
 
 -- the reactum with the next numbers goes between the context and the instance
-abbrev pub GoesBetween : HostParts → Big → Big → Big → Type 0
+abbrev pub GoesBetween : HostState → Big → Big → Big → Type 0
 GoesBetween host reactum context instance =
     IsJoinable reactum (counted host.next_node (length reactum.nodes)) context (counted host.next_edge (length reactum.edges)) instance

@@ -41,9 +41,9 @@ const LARGEST_COUNTER: u32 = 2_147_483_648;
 /// proportion to these.
 pub fn react(alloc: Global, host: &mut Host, rule: &Rule, map: &[u32]) -> Result<(), ReactFault>
     requires occurs { Occurs host.old.big rule.now.redex map.now }
-    ensures reacts { OnOk result (Reacts host.old rule.now.redex rule.now.reactum rule.now.map map.now host.new) }
+    ensures reacts { OnOk result (Reacts host.old rule.now map.now host.new) }
     ensures within { OnOk result (IsWithinLimits host.new) }
-    ensures full { IsErrOf result ReactFault.Full → PassesALimit host.old rule.now.redex rule.now.reactum rule.now.map map.now }
+    ensures full { IsErrOf result ReactFault.Full → PassesALimit host.old rule.now map.now }
     ensures kept { OnErr result (host.new ≡ host.old) }
 {
     let after = reacted(alloc, host, rule, map)?;
@@ -54,9 +54,9 @@ pub fn react(alloc: Global, host: &mut Host, rule: &Rule, map: &[u32]) -> Result
 /// What the host becomes.
 fn reacted(alloc: Global, host: &Host, rule: &Rule, map: &[u32]) -> Result<Host, ReactFault>
     requires occurs { Occurs host.now.big rule.now.redex map.now }
-    ensures reacts { IfOk result (Reacts host.now rule.now.redex rule.now.reactum rule.now.map map.now) }
+    ensures reacts { IfOk result (Reacts host.now rule.now map.now) }
     ensures within { IfOk result IsWithinLimits }
-    ensures full { IsErrOf result ReactFault.Full → PassesALimit host.now rule.now.redex rule.now.reactum rule.now.map map.now }
+    ensures full { IsErrOf result ReactFault.Full → PassesALimit host.now rule.now map.now }
 {
     let parts = split(alloc, host.big(), rule.redex(), map)?;
     let after = put_together(alloc, host, rule, parts)?;
@@ -73,9 +73,9 @@ fn put_together(
     requires is_host { IsHost host.now }
     requires is_rule { IsRule rule.now }
     requires between { LiesBetween host.now.big rule.now.redex parts.context parts.parameter }
-    ensures value { IfOk result (λ after. after ≡ defined.host_after host.now rule.now.reactum rule.now.map parts.context parts.parameter) }
+    ensures value { IfOk result (λ after. after ≡ defined.host_after host.now rule.now parts.context parts.parameter) }
     ensures within { IfOk result IsWithinLimits }
-    ensures full { IsErrOf result ReactFault.Full → IsWithinLimits (defined.host_after host.now rule.now.reactum rule.now.map parts.context parts.parameter) → ⊥ }
+    ensures full { IsErrOf result ReactFault.Full → IsWithinLimits (defined.host_after host.now rule.now parts.context parts.parameter) → ⊥ }
 {
     let Decomposition {
         context,
@@ -199,7 +199,7 @@ fn big_after(
     requires is_rule { IsRule rule.now }
     requires between { LiesBetween host.now.big rule.now.redex context.now parameter.now }
     requires room { HasRoom host.now rule.now context.now parameter.now }
-    ensures { IfOk result (λ big. big ≡ defined.recomposed host.now rule.now.reactum rule.now.map context.now parameter.now) }
+    ensures { IfOk result (λ big. big ≡ defined.recomposed host.now rule.now context.now parameter.now) }
 {
     let after_reactum = host.next_node() + rule.reactum().nodes.len();
     let Instance { big: instance, .. } = instance_of(alloc, parameter, rule.map(), after_reactum)?;

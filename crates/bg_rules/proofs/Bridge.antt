@@ -28,8 +28,9 @@ use Rattle.bg_algebra.proofs.Through.{link_same}
 use Rattle.bg_algebra.proofs.CompositionLaws.{same_parts, same_nodes, same_edges}
 use Rattle.bg_rules.specs.Decomposition.{IsParameter, frame, AreNew, Decomposes}
 use Rattle.bg_rules.specs.LocalConditions.{image_of}
+use Rattle.bg_rules.specs.Parting.{place_filled, pattern_row, parameter_row}
 use Rattle.bg_rules.proofs.Frames.{IsSide, frame_is, frame_regions, frame_outer, frame_sites, frame_inner, frame_width, frame_names, frame_number, frame_edge, frame_apart}
-use Rattle.bg_rules.proofs.Glued.{place_filled, pattern_row, parameter_row, Glued}
+use Rattle.bg_rules.proofs.Glued.{Glued}
 
 identity_inner : (names : List Name) → map row_to_itself names ≡ (identity 0 names).inner
 unfolding identity

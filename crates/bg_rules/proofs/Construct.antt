@@ -26,7 +26,8 @@ use Rattle.bg_algebra.proofs.CompositionLaws.{At-counted}
 use Rattle.bg_rules.specs.Solid.{IsPattern}
 use Rattle.bg_rules.specs.Decomposition.{port_names, names_of}
 use Rattle.bg_rules.specs.LocalConditions.{IsImage, IsEdgeImage, MeetsLocally}
-use Rattle.bg_rules.proofs.Glued.{lifted, pattern_row, parameter_row, Glued}
+use Rattle.bg_rules.specs.Parting.{lifted, pattern_row, parameter_row}
+use Rattle.bg_rules.proofs.Glued.{Glued}
 use Rattle.bg_rules.proofs.Patterns.{same_node_row, parent_region, link_there, edge_there, name_there, full_region, used_name, plain_name, number_row, along_at_place, edge_onto}
 use Rattle.bg_rules.specs.Instantiation.{is_among}
 use Rattle.bg_rules.proofs.Upwards.{is_among-none, among_cases, not_among, IsMet, not_IsMet-region, IsMet-here, meets_some, IsMet-from_meets_some}

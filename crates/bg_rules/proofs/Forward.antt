@@ -18,7 +18,8 @@ use Rattle.bg_base.specs.Translation.{along, node_numbers, place_renamed, link_r
 use Rattle.bg_base.proofs.LookUps.{inner_of-member}
 use Rattle.bg_rules.specs.Solid.{IsPattern}
 use Rattle.bg_rules.specs.LocalConditions.{Meets, at_place, above, image_of, IsImage, MeetsLocally}
-use Rattle.bg_rules.proofs.Glued.{Glued, lifted, pattern_row}
+use Rattle.bg_rules.specs.Parting.{lifted, pattern_row}
+use Rattle.bg_rules.proofs.Glued.{Glued}
 use Rattle.bg_rules.proofs.Patterns.{same_node_row, place_node, place_region, site_there, parent_there, parent_node, parent_region, link_there, inner_there, edge_there, name_there, number_mem, number_row, site_node, image_mem, image_injective, edge_mem, edge_injective}
 
 module _ {host pattern : Big} {nodes : List ℕ} {context : Big} {edges : List ℕ} {parameter : Big} (is : IsPattern pattern)

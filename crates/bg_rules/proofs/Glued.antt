@@ -1,47 +1,14 @@
 -- A decomposition row by row: what it says of the rows of the host, of the context, of the pattern and of the parameter.
 -- It is the middle between decompositions and the local conditions.
-use Rattle.std.proofs.Common.{◌≡◌, ℕ, ◌⊎◌, List, ◌++◌, map, length}
-use Rattle.std.specs.Prelude.{slice_index_or}
+use Rattle.std.proofs.Common.{◌≡◌, ℕ, ◌⊎◌, List, ◌++◌, length}
 use Rattle.bg_lists.specs.Lists.{Mem, Disjoint}
-use Rattle.bg_base.specs.declared.names.Place.{Place}
-use Rattle.bg_base.specs.declared.names.Place.TheVariants.{Node, Region}
-use Rattle.bg_base.specs.declared.names.Link.{Link}
 use Rattle.bg_base.specs.declared.big.NodeRow.{NodeRow}
 use Rattle.bg_base.specs.declared.big.Big.{Big}
 use Rattle.bg_base.specs.Bigraph.{IsValid}
-use Rattle.bg_base.specs.Composition.{place_through, link_through, inner_names}
-use Rattle.bg_base.specs.Translation.{node_numbers, place_renamed, link_renamed}
+use Rattle.bg_base.specs.Composition.{inner_names}
+use Rattle.bg_base.specs.Translation.{node_numbers}
 use Rattle.bg_rules.specs.Decomposition.{IsParameter, AreNew}
-use Rattle.bg_rules.specs.LocalConditions.{image_of}
-
--- a place of the parameter, in the pattern: region j becomes the place of site j
-abbrev pub place_filled : Big → List ℕ → Place → Place
-place_filled pattern nodes (Node node) = Node node
-place_filled pattern nodes (Region region) = place_renamed pattern nodes (slice_index_or pattern.sites region (Region region))
-
--- a place of the parameter, in the host
-abbrev pub lifted : Big → List ℕ → Big → Place → Place
-lifted pattern nodes context place = place_through context (place_filled pattern nodes place)
-
--- a row of the pattern, in the host
-abbrev pub pattern_row : Big → List ℕ → Big → List ℕ → NodeRow → NodeRow
-pattern_row pattern nodes context edges row =
-    record {
-      id = image_of pattern nodes row.id;
-      control = row.control;
-      parent = place_through context (place_renamed pattern nodes row.parent);
-      links = map (λ (link : Link). link_through context (link_renamed pattern edges link)) row.links;
-    }
-
--- a row of the parameter, in the host
-abbrev pub parameter_row : Big → List ℕ → Big → NodeRow → NodeRow
-parameter_row pattern nodes context row =
-    record {
-      id = row.id;
-      control = row.control;
-      parent = lifted pattern nodes context row.parent;
-      links = map (link_through context) row.links;
-    }
+use Rattle.bg_rules.specs.Parting.{pattern_row, parameter_row}
 
 pub record Glued (host pattern : Big) (nodes : List ℕ) (context : Big) (edges : List ℕ) (parameter : Big) : Type 0 where
   pub context_valid : IsValid context

@@ -17,6 +17,7 @@ pub mod Construct
 pub mod TupleLaws
 pub mod Occurrences
 pub mod SolidLaws
+pub mod SolidNumbers
 pub mod SolidCounts
 pub mod Counters
 pub mod ParameterParts
@@ -28,6 +29,7 @@ pub mod Reactions
 pub mod SideTests
 pub mod Signed
 pub mod Grounded
+pub mod Parted
 pub mod Kept
 pub mod Ancestry
 pub mod Wholes

@@ -11,7 +11,7 @@ use Rattle.bg_base.specs.declared.big.Big.{Big}
 use Rattle.bg_base.specs.Order.{name_cmp}
 use Rattle.bg_base.proofs.CompositionTests.{same_names, names_same}
 use Rattle.bg_rules.proofs.SolidLaws.{nil_from_test}
-use Rattle.bg_rules.specs.Reaction.{SidesAgree, MapFits, sides_agree, map_fits}
+use Rattle.bg_rules.specs.Rules.{SidesAgree, MapFits, sides_agree, map_fits}
 
 below_all : (count : ℕ) (entries : List ℕ) → list_all (λ entry. nat_lt entry count) entries ≡ true → All (λ entry. entry < count) entries
 below_all count entries all =

@@ -20,9 +20,10 @@ use Rattle.bg_algebra.proofs.Changes.{lean_valid_under}
 use Rattle.bg_algebra.proofs.Parts.{valid_under_from_rows}
 use Rattle.bg_rules.specs.Solid.{IsPattern}
 use Rattle.bg_rules.specs.Decomposition.{Decomposes}
-use Rattle.bg_rules.specs.Reaction.{HostParts, IsNumbered, AreSides, recomposed, Reacts}
-use Rattle.bg_rules.specs.Recomposition.{next_frame, next_instance}
-use Rattle.bg_rules.proofs.Glued.{Glued, pattern_row, parameter_row}
+use Rattle.bg_rules.specs.Reaction.{HostState, IsNumbered, next_frame, next_instance, recomposed, Reacts}
+use Rattle.bg_rules.specs.Rules.{RuleParts, IsRule}
+use Rattle.bg_rules.specs.Parting.{pattern_row, parameter_row}
+use Rattle.bg_rules.proofs.Glued.{Glued}
 use Rattle.bg_rules.proofs.Patterns.{parent_there, site_there, full_region}
 use Rattle.bg_rules.proofs.Occurrences.{glued_of}
 use Rattle.bg_rules.proofs.Frames.{counted_new, frame_valid_under}
@@ -94,29 +95,29 @@ module _ (signature : List Control) where
 
 -- ---- the result
 
-module _ (signature : List Control) (host : HostParts) (redex reactum : Big) (entries nodes : List ℕ) (numbered : IsNumbered host)
-    (sides : AreSides redex reactum entries) (host_fits : IsValidUnder signature host.big) (reactum_fits : IsValidUnder signature reactum) where
-  recomposed_valid_under : (context : Big) (edges : List ℕ) (parameter : Big) → Decomposes host.big redex nodes context edges parameter
-      → IsValidUnder signature (recomposed host reactum entries context parameter)
+module _ (signature : List Control) (host : HostState) (rule : RuleParts) (nodes : List ℕ) (numbered : IsNumbered host) (is_rule : IsRule rule)
+    (host_fits : IsValidUnder signature host.big) (reactum_fits : IsValidUnder signature rule.reactum) where
+  recomposed_valid_under : (context : Big) (edges : List ℕ) (parameter : Big) → Decomposes host.big rule.redex nodes context edges parameter
+      → IsValidUnder signature (recomposed host rule context parameter)
   recomposed_valid_under context edges parameter d =
-      let glued = glued_of host.big redex nodes context edges parameter sides.is_pattern d in
-      let defined = recomposable host redex reactum entries nodes numbered sides context edges parameter d in
-      let frame_is = frame_of_next host redex reactum entries nodes numbered sides context edges parameter d in
-      let instance_is = instance_of_next host redex reactum entries nodes numbered sides context edges parameter d in
-      let frame_fits = frame_valid_under reactum (counted host.next_node (length reactum.nodes)) (counted host.next_edge (length reactum.edges)) parameter
-      (reactum_side redex reactum entries sides) glued.is_parameter (counted_new host.next_node (length reactum.nodes))
-      (counted_new host.next_edge (length reactum.edges)) signature reactum_fits in
-      let instance_fits = instance_valid_under parameter entries (host.next_node + length reactum.nodes) glued.is_parameter
-      (next_below host redex reactum entries nodes numbered sides context edges parameter d) signature
-      (parameter_valid_under signature sides.is_pattern numbered.ground host_fits glued) in
-      let inside_fits = compose_valid_under (next_frame host reactum parameter) (next_instance host reactum entries parameter) defined.filled defined.filled_apart
+      let glued = glued_of host.big rule.redex nodes context edges parameter is_rule.sides.is_pattern d in
+      let defined = recomposable host rule nodes numbered is_rule context edges parameter d in
+      let frame_is = frame_of_next host rule nodes numbered is_rule context edges parameter d in
+      let instance_is = instance_of_next host rule nodes numbered is_rule context edges parameter d in
+      let frame_fits = frame_valid_under rule.reactum (counted host.next_node (length rule.reactum.nodes)) (counted host.next_edge (length rule.reactum.edges)) parameter
+      (reactum_side rule is_rule) glued.is_parameter (counted_new host.next_node (length rule.reactum.nodes))
+      (counted_new host.next_edge (length rule.reactum.edges)) signature reactum_fits in
+      let instance_fits = instance_valid_under parameter rule.map (host.next_node + length rule.reactum.nodes) glued.is_parameter
+      (next_below host rule nodes numbered is_rule context edges parameter d) signature
+      (parameter_valid_under signature is_rule.sides.is_pattern numbered.ground host_fits glued) in
+      let inside_fits = compose_valid_under (next_frame host rule parameter) (next_instance host rule parameter) defined.filled defined.filled_apart
       frame_is instance_is signature frame_fits instance_fits in
-      lean_valid_under (compose context (compose (next_frame host reactum parameter) (next_instance host reactum entries parameter)))
-      (whole_valid host redex reactum entries nodes numbered sides context edges parameter d) signature
-      (compose_valid_under context (compose (next_frame host reactum parameter) (next_instance host reactum entries parameter)) defined.placed defined.placed_apart
-      glued.context_valid (inside_valid host redex reactum entries nodes numbered sides context edges parameter d) signature
-      (context_valid_under signature sides.is_pattern numbered.ground host_fits glued) inside_fits)
+      lean_valid_under (compose context (compose (next_frame host rule parameter) (next_instance host rule parameter)))
+      (whole_valid host rule nodes numbered is_rule context edges parameter d) signature
+      (compose_valid_under context (compose (next_frame host rule parameter) (next_instance host rule parameter)) defined.placed defined.placed_apart
+      glued.context_valid (inside_valid host rule nodes numbered is_rule context edges parameter d) signature
+      (context_valid_under signature is_rule.sides.is_pattern numbered.ground host_fits glued) inside_fits)
 
-  pub result_valid_under : (after : HostParts) → Reacts host redex reactum entries nodes after → IsValidUnder signature after.big
+  pub result_valid_under : (after : HostState) → Reacts host rule nodes after → IsValidUnder signature after.big
   result_valid_under after r =
       subst (IsValidUnder signature) (sym (big_after r)) (recomposed_valid_under r.context r.edges r.parameter r.decomposes)

@@ -1,5 +1,5 @@
 -- The tests of the clauses of a solid bigraph, and what they say.
-use Rattle.std.proofs.Common.{◌≡◌, ℕ, zero, suc, ◌+◌, ◌<◌, Bool, true, false, not, ◌==◌, IsTrue, None, List, [], ◌∷◌, length, refl, sym, ap, subst, ◌∙◌, inl, inr, eqb-true, eq-eqb, arith}
+use Rattle.std.proofs.Common.{◌≡◌, ℕ, zero, suc, ◌+◌, ◌<◌, Bool, true, false, not, ◌==◌, IsTrue, None, List, [], ◌∷◌, length, All, refl, sym, ap, subst, ◌∙◌, inl, inr, eqb-true, eq-eqb, arith}
 use Rattle.std.specs.Prelude.{◌↔◌}
 use Rattle.std.specs.List.{list_any, list_all, IsDistinct}
 use Rattle.std.proofs.lemmas.Bool.{false≢true, cases_Bool, and_parts, and_from, false_from_ne_true, not-true, not_from_false}
@@ -94,9 +94,41 @@ nil_from_test (x ∷ xs) e = let none : suc (length xs) ≡ 0 = eqb-true (suc (l
 test_from_nil : {X : Type 0} (xs : List X) → xs ≡ [] → (length xs == 0) ≡ true
 test_from_nil xs e = eq-eqb (length xs) 0 (ap length e)
 
+all_tell : {X : Type 0} (test : X → Bool) (xs : List X) → (list_all test xs ≡ true) ↔ All (λ (x : X). IsTrue (test x)) xs
+all_tell {X} test xs = (
+  λ all. All-from_members (λ (x : X). IsTrue (test x)) xs (λ x m. list_all-member test xs all m),
+  λ all. list_all-from_members test xs (λ x m. All-member (λ (x : X). IsTrue (test x)) xs all m),
+)
+
 module _ (big : Big) where
   abbrev used : Name → Bool
   used name = has_point big (Outer name)
+
+  -- ---- what each test tells
+
+  pub filled_tells : (are_filled big big.regions ≡ true) ↔ ((region : ℕ) → region < big.regions → IsTrue (has_child big (Region region)))
+  filled_tells = (λ filled region below. filled_below big big.regions region filled below, filled_from_each big big.regions)
+
+  pub used_tells : (list_all used big.outer ≡ true) ↔ All (λ (name : Name). IsTrue (has_point big (Outer name))) big.outer
+  used_tells = all_tell used big.outer
+
+  pub apart_tells : (are_apart big.sites ≡ true) ↔ IsDistinct same_place big.sites
+  apart_tells = (distinct_from_apart big.sites, apart_from_distinct big.sites)
+
+  pub inside_tells : (list_all is_node big.sites ≡ true) ↔ All (λ (place : Place). IsTrue (is_node place)) big.sites
+  inside_tells = all_tell is_node big.sites
+
+  pub some_tells : (not (length big.nodes == 0) ≡ true) ↔ (0 < length big.nodes)
+  some_tells = (some_from_test (length big.nodes), test_from_some (length big.nodes))
+
+  pub face_tells : (has_plain_face big ≡ true) ↔ ((big.inner ≡ []) × All (λ (name : Name). IsTrue (is_plain name)) big.outer)
+  face_tells = (
+    λ plain. let w = and_parts (length big.inner == 0) (list_all is_plain big.outer) plain in
+        (nil_from_test big.inner w.0, (all_tell is_plain big.outer).0 w.1),
+    λ face. and_from (length big.inner == 0) (list_all is_plain big.outer) (test_from_nil big.inner face.0) ((all_tell is_plain big.outer).1 face.1),
+  )
+
+  -- ---- all of them
 
   pub solid_from_clause : unsolid_clause big ≡ None → IsSolid big
   unfolding unsolid_clause
@@ -107,34 +139,26 @@ module _ (big : Big) where
       let fourth = all_pass 4 (list_all is_node big.sites) _ third.1 in
       let fifth = all_pass 5 (not (length big.nodes == 0)) _ fourth.1 in
       let sixth = all_pass 6 (has_plain_face big) _ fifth.1 in
-      let face = and_parts (length big.inner == 0) (list_all is_plain big.outer) sixth.0 in
+      let face = face_tells.0 sixth.0 in
       record {
-        regions_filled = λ region below. filled_below big big.regions region first.0 below;
-        names_used = All-from_members (λ (name : Name). IsTrue (has_point big (Outer name))) big.outer
-            (λ name m. list_all-member used big.outer second.0 m);
-        sites_apart = distinct_from_apart big.sites third.0;
-        sites_inside = All-from_members (λ (place : Place). IsTrue (is_node place)) big.sites
-            (λ place m. list_all-member is_node big.sites fourth.0 m);
-        some_node = some_from_test (length big.nodes) fifth.0;
-        no_inner = nil_from_test big.inner face.0;
-        names_plain = All-from_members (λ (name : Name). IsTrue (is_plain name)) big.outer
-            (λ name m. list_all-member is_plain big.outer face.1 m);
+        regions_filled = filled_tells.0 first.0;
+        names_used = used_tells.0 second.0;
+        sites_apart = apart_tells.0 third.0;
+        sites_inside = inside_tells.0 fourth.0;
+        some_node = some_tells.0 fifth.0;
+        no_inner = face.0;
+        names_plain = face.1;
       }
 
   pub clause_from_solid : IsSolid big → unsolid_clause big ≡ None
   unfolding unsolid_clause
   clause_from_solid solid =
-      pass_all 1 (are_filled big big.regions) _ (filled_from_each big big.regions solid.regions_filled)
-      (pass_all 2 (list_all used big.outer) _
-      (list_all-from_members used big.outer (λ name m. All-member (λ (name : Name). IsTrue (has_point big (Outer name))) big.outer solid.names_used m))
-      (pass_all 3 (are_apart big.sites) _ (apart_from_distinct big.sites solid.sites_apart)
-      (pass_all 4 (list_all is_node big.sites) _
-      (list_all-from_members is_node big.sites (λ place m. All-member (λ (place : Place). IsTrue (is_node place)) big.sites solid.sites_inside m))
-      (pass_all 5 (not (length big.nodes == 0)) _ (test_from_some (length big.nodes) solid.some_node)
-      (pass_all 6 (has_plain_face big) _
-      (and_from (length big.inner == 0) (list_all is_plain big.outer) (test_from_nil big.inner solid.no_inner)
-      (list_all-from_members is_plain big.outer (λ name m. All-member (λ (name : Name). IsTrue (is_plain name)) big.outer solid.names_plain m)))
-      refl)))))
+      pass_all 1 (are_filled big big.regions) _ (filled_tells.1 solid.regions_filled)
+      (pass_all 2 (list_all used big.outer) _ (used_tells.1 solid.names_used)
+      (pass_all 3 (are_apart big.sites) _ (apart_tells.1 solid.sites_apart)
+      (pass_all 4 (list_all is_node big.sites) _ (inside_tells.1 solid.sites_inside)
+      (pass_all 5 (not (length big.nodes == 0)) _ (some_tells.1 solid.some_node)
+      (pass_all 6 (has_plain_face big) _ (face_tells.1 (solid.no_inner, solid.names_plain)) refl)))))
 
   pub solid_clause : (unsolid_clause big ≡ None) ↔ IsSolid big
   solid_clause = (solid_from_clause, clause_from_solid)

@@ -23,7 +23,8 @@ use Rattle.bg_algebra.proofs.CompositionLaws.{same_parts, same_nodes, same_edges
 use Rattle.bg_rules.specs.Solid.{IsPattern}
 use Rattle.bg_rules.specs.Decomposition.{names_of, port_names}
 use Rattle.bg_rules.specs.LocalConditions.{Meets, at_place, above, image_of}
-use Rattle.bg_rules.proofs.Glued.{Glued, lifted, pattern_row, parameter_row}
+use Rattle.bg_rules.specs.Parting.{lifted, pattern_row, parameter_row}
+use Rattle.bg_rules.proofs.Glued.{Glued}
 use Rattle.bg_rules.proofs.Patterns.{node_place, number_mem, parent_there, place_node, place_region, full_region, used_name, used_edge, one_site, image_mem, image_injective, edges_along, discrete_links, parameter_name, inner_link}
 use Rattle.bg_rules.proofs.Forward.{image_is, pattern_image, context_clear, context_node_apart, site_place, named_row}
 

@@ -1,13 +1,13 @@
 pub mod Solid
 pub mod Decomposition
 pub mod LocalConditions
+pub mod Parting
 pub mod Images
 pub mod Occurrences
 pub mod Instantiation
 pub mod Climbs
-pub mod Reaction
-pub mod Recomposition
 pub mod Rules
+pub mod Reaction
 pub mod Limits
 pub mod Hosts
 pub mod Faults

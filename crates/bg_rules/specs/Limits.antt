@@ -1,7 +1,7 @@
 -- The limits of a host, and when a reaction passes one.
 use Rattle.std.specs.Prelude.{ℕ, ◌≤◌, List, length}
-use Rattle.bg_base.specs.declared.big.Big.{Big}
-use Rattle.bg_rules.specs.Reaction.{HostParts, Reacts}
+use Rattle.bg_rules.specs.Reaction.{HostState, Reacts}
+use Rattle.bg_rules.specs.Rules.{RuleParts}
 
 -- the most nodes, and the most edges
 abbrev pub most_rows : ℕ
@@ -17,13 +17,13 @@ pub record AreSmallCounters (next_node next_edge : ℕ) : Type 0 where
   pub next_edge_small : next_edge ≤ largest_counter
 
 -- not too many nodes or edges, and no counter too large
-pub record IsWithinLimits (host : HostParts) : Type 0 where
+pub record IsWithinLimits (host : HostState) : Type 0 where
   pub few_nodes : length host.big.nodes ≤ most_rows
   pub few_edges : length host.big.edges ≤ most_rows
   pub counters_small : AreSmallCounters host.next_node host.next_edge
 
--- the host reacts at these nodes to something that passes a limit
-pub record PassesALimit (host : HostParts) (redex reactum : Big) (entries nodes : List ℕ) : Type 0 where
-  pub after : HostParts
-  pub reacts : Reacts host redex reactum entries nodes after
+-- the host reacts by the rule, at these nodes, to something that passes a limit
+pub record PassesALimit (host : HostState) (rule : RuleParts) (nodes : List ℕ) : Type 0 where
+  pub after : HostState
+  pub reacts : Reacts host rule nodes after
   pub passes : IsWithinLimits after → ⊥

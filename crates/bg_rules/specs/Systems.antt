@@ -5,14 +5,14 @@ use Rattle.bg_base.specs.Bigraph.{IsValidUnder}
 use Rattle.bg_rules.specs.declared.condition.Condition.{Condition}
 use Rattle.bg_rules.specs.declared.predicate.Predicate.{Predicate}
 use Rattle.bg_rules.specs.Hosts.{IsHost}
-use Rattle.bg_rules.specs.Reaction.{HostParts}
+use Rattle.bg_rules.specs.Reaction.{HostState}
 use Rattle.bg_rules.specs.Rules.{RuleParts, IsRule}
 use Rattle.bg_rules.specs.Solid.{IsPattern}
 
 -- a system, as contracts see it
 pub record SystemParts : Type 0 where
   pub signature : List Control
-  pub init : HostParts
+  pub init : HostState
   pub rules : List RuleParts
   pub classes : ℕ
   pub preds : List Predicate

@@ -23,10 +23,10 @@ pub struct Host {
 }
 
 impl Model for Host {
-    ghost use Rattle.bg_rules.specs.Reaction.{HostParts};
+    ghost use Rattle.bg_rules.specs.Reaction.{HostState};
     ghost use Rattle.bg_rules.specs.Hosts.{IsHost};
 
-    ghost Value = { HostParts };
+    ghost Value = { HostState };
 
     ghost view = { λ host. record { big = host.big; next_node = host.next_node; next_edge = host.next_edge } };
 

@@ -5,7 +5,8 @@
 //! - [`Rule`] and [`Condition`]: what a reaction replaces, and where it may.
 //! - [`sides_agree`] and [`map_fits`]: what a rule asks of its sides.
 //! - [`Host`]: a bigraph that rules change. [`System`] and [`Predicate`]: what a model describes.
-//! - [`images`]: the image of a node and of a link where a map lists the images of a pattern's nodes.
+//! - [`images`]: the image of a node and of a link where a map lists the images of a pattern's nodes; what is met going
+//!   up from a place.
 //! - [`RuleFault`], [`ReactFault`], [`ListFault`]: why a call gives no result.
 //! - [`laws`]: occurrences are decompositions. [`reaction_laws`]: a reaction at an occurrence has one result.
 #![tactic(auto)]

@@ -10,9 +10,11 @@ ghost use Rattle.bg_base.specs.Elementary.{counted};
 ghost use Rattle.bg_base.specs.Translation.{node_numbers};
 ghost use Rattle.bg_base.specs.Products.{has_point};
 ghost use Rattle.bg_rules.specs.Decomposition.{IsParameter, Decomposes, Occurs};
+ghost use Rattle.bg_rules.specs.Hosts.{IsHost};
 ghost use Rattle.bg_rules.specs.Instantiation.{part, instantiate, next_after};
-ghost use Rattle.bg_rules.specs.Reaction.{HostParts, IsNumbered, AreSides, Reacts};
-ghost use Rattle.bg_rules.specs.Recomposition.{IsRecomposable};
+ghost use Rattle.bg_rules.specs.Limits.{IsWithinLimits};
+ghost use Rattle.bg_rules.specs.Reaction.{HostState, IsNumbered, IsRecomposable, Reacts};
+ghost use Rattle.bg_rules.specs.Rules.{RuleParts, IsRule};
 
 /// Each node of a parameter is in the part under one of its regions, and under no other; a part has nothing else.
 pub fn parts_of_a_parameter()
@@ -49,38 +51,42 @@ pub fn instance_of_all_is_the_parameter()
         → instantiate parameter (counted 0 parameter.regions) next ≡ parameter }
 {}
 
-/// A numbered host reacts at each occurrence of the redex, and to one result only: the operations that recompose it are
-/// defined, and the result is a numbered ground host again. Where the host and the reactum are valid under a signature,
-/// the result is.
+/// A numbered host reacts by a rule at each occurrence of its redex, and to one result only: the operations that
+/// recompose the host are defined, and the result is a numbered ground host again. Where the host and the reactum are
+/// valid under a signature, the result is.
 pub fn reactions_have_one_result()
-    ensures some_result { (host : HostParts) (redex reactum : Big) (entries nodes : List ℕ) → Occurs host.big redex nodes
-        → (after : HostParts) × Reacts host redex reactum entries nodes after }
-    ensures one_result { (host : HostParts) (redex reactum : Big) (entries nodes : List ℕ) → IsNumbered host
-        → AreSides redex reactum entries → (after other : HostParts) → Reacts host redex reactum entries nodes after
-        → Reacts host redex reactum entries nodes other → after ≡ other }
-    ensures defined { (host : HostParts) (redex reactum : Big) (entries nodes : List ℕ) → IsNumbered host
-        → AreSides redex reactum entries → (context : Big) (edges : List ℕ) (parameter : Big)
-        → Decomposes host.big redex nodes context edges parameter → IsRecomposable host reactum entries context parameter }
-    ensures numbered { (host : HostParts) (redex reactum : Big) (entries nodes : List ℕ) → IsNumbered host
-        → AreSides redex reactum entries → (after : HostParts) → Reacts host redex reactum entries nodes after
-        → IsNumbered after }
-    ensures fits { (signature : List Control) (host : HostParts) (redex reactum : Big) (entries nodes : List ℕ)
-        → IsNumbered host → AreSides redex reactum entries → IsValidUnder signature host.big → IsValidUnder signature reactum
-        → (after : HostParts) → Reacts host redex reactum entries nodes after → IsValidUnder signature after.big }
+    ensures some_result { (host : HostState) (rule : RuleParts) (nodes : List ℕ) → IsNumbered host → IsRule rule
+        → Occurs host.big rule.redex nodes → (after : HostState) × Reacts host rule nodes after }
+    ensures one_result { (host : HostState) (rule : RuleParts) (nodes : List ℕ) → IsNumbered host → IsRule rule
+        → (after other : HostState) → Reacts host rule nodes after → Reacts host rule nodes other → after ≡ other }
+    ensures defined { (host : HostState) (rule : RuleParts) (nodes : List ℕ) → IsNumbered host → IsRule rule
+        → (context : Big) (edges : List ℕ) (parameter : Big) → Decomposes host.big rule.redex nodes context edges parameter
+        → IsRecomposable host rule context parameter }
+    ensures numbered { (host : HostState) (rule : RuleParts) (nodes : List ℕ) → IsNumbered host → IsRule rule
+        → (after : HostState) → Reacts host rule nodes after → IsNumbered after }
+    ensures fits { (signature : List Control) (host : HostState) (rule : RuleParts) (nodes : List ℕ) → IsNumbered host
+        → IsRule rule → IsValidUnder signature host.big → IsValidUnder signature rule.reactum
+        → (after : HostState) → Reacts host rule nodes after → IsValidUnder signature after.big }
 {}
 
 /// A reaction keeps the regions and the outer names of the host, its counters do not fall, and no edge of its result is
 /// idle.
 pub fn reactions_keep_the_face()
-    ensures regions { (host : HostParts) (redex reactum : Big) (entries nodes : List ℕ) (after : HostParts)
-        → Reacts host redex reactum entries nodes after → after.big.regions ≡ host.big.regions }
-    ensures outer { (host : HostParts) (redex reactum : Big) (entries nodes : List ℕ) (after : HostParts)
-        → Reacts host redex reactum entries nodes after → after.big.outer ≡ host.big.outer }
-    ensures next_node { (host : HostParts) (redex reactum : Big) (entries nodes : List ℕ) (after : HostParts)
-        → Reacts host redex reactum entries nodes after → host.next_node ≤ after.next_node }
-    ensures next_edge { (host : HostParts) (redex reactum : Big) (entries nodes : List ℕ) (after : HostParts)
-        → Reacts host redex reactum entries nodes after → host.next_edge ≤ after.next_edge }
-    ensures edges_used { (host : HostParts) (redex reactum : Big) (entries nodes : List ℕ) (after : HostParts)
-        → Reacts host redex reactum entries nodes after
+    ensures regions { (host : HostState) (rule : RuleParts) (nodes : List ℕ) (after : HostState) → Reacts host rule nodes after
+        → after.big.regions ≡ host.big.regions }
+    ensures outer { (host : HostState) (rule : RuleParts) (nodes : List ℕ) (after : HostState) → Reacts host rule nodes after
+        → after.big.outer ≡ host.big.outer }
+    ensures next_node { (host : HostState) (rule : RuleParts) (nodes : List ℕ) (after : HostState) → Reacts host rule nodes after
+        → host.next_node ≤ after.next_node }
+    ensures next_edge { (host : HostState) (rule : RuleParts) (nodes : List ℕ) (after : HostState) → Reacts host rule nodes after
+        → host.next_edge ≤ after.next_edge }
+    ensures edges_used { (host : HostState) (rule : RuleParts) (nodes : List ℕ) (after : HostState) → Reacts host rule nodes after
         → All (λ edge. IsTrue (has_point after.big (Edge edge))) after.big.edges }
+{}
+
+/// What a host becomes by a rule is a host again, where it is within the limits. That it is valid under the signature
+/// of host and reactum is `fits` of [`reactions_have_one_result`].
+pub fn reactions_lead_to_hosts()
+    ensures { (before : HostState) (rule : RuleParts) (nodes : List ℕ) (after : HostState) → IsHost before → IsRule rule
+        → Reacts before rule nodes after → IsWithinLimits after → IsHost after }
 {}

@@ -1,10 +1,9 @@
 //! Rules: what a reaction may do.
-ghost use Rattle.std.specs.Prelude.{◌≡◌, ◌↔◌, ◌<◌, IfOk, IsErrOf, IsTrue};
+ghost use Rattle.std.specs.Prelude.{◌≡◌, ◌↔◌, ◌<◌, ◌-◌, ◌^◌, IfOk, IsErrOf, IsTrue, length};
 ghost use Rattle.std.specs.List.{All};
 ghost use Rattle.bg_base.specs.Bigraph.{IsValid};
-ghost use Rattle.bg_rules.specs.Reaction as reaction;
-ghost use Rattle.bg_rules.specs.Reaction.{SidesAgree, MapFits};
-ghost use Rattle.bg_rules.specs.Rules.{IsNumberedFromZero, IsRule};
+ghost use Rattle.bg_rules.specs.Rules as defined;
+ghost use Rattle.bg_rules.specs.Rules.{SidesAgree, MapFits, IsNumberedFromZero, IsRule};
 
 use crate::{Condition, Pattern, RuleFault};
 use bg_base::{Big, Label, Map, Name};
@@ -122,9 +121,10 @@ impl Rule {
         &self.map
     }
 
-    /// The conditions, in order.
+    /// The conditions, in order, fewer than 4,294,967,295.
     pub fn conditions(&self) -> &[Condition]
-        ensures { result.now ≡ self.now.conditions }
+        ensures same { result.now ≡ self.now.conditions }
+        ensures few { length result.now < 2 ^ 32 - 1 }
     {
         self.conditions.as_slice()
     }
@@ -140,7 +140,7 @@ impl Rule {
 /// Whether the reactum has the regions and the outer names of the redex, and no inner name. Takes no memory, and time
 /// in proportion to the names.
 pub fn sides_agree(redex: &Big, reactum: &Big) -> bool
-    ensures test { result ≡ reaction.sides_agree redex.now reactum.now }
+    ensures test { result ≡ defined.sides_agree redex.now reactum.now }
     ensures agree { IsTrue result ↔ SidesAgree redex.now reactum.now }
 {
     let agree = are_alike(redex, reactum);
@@ -179,7 +179,7 @@ fn is_name(other: &Name, name: &Name) -> bool
 /// Whether the map has an entry for each site of the reactum, and each entry is a site of the redex. Takes no memory,
 /// and time in proportion to the map.
 pub fn map_fits(redex: &Big, reactum: &Big, map: &Map) -> bool
-    ensures test { result ≡ reaction.map_fits redex.now reactum.now map.now }
+    ensures test { result ≡ defined.map_fits redex.now reactum.now map.now }
     ensures fits { IsTrue result ↔ MapFits redex.now reactum.now map.now }
 {
     let fits = leads_to_sites(redex, reactum, map);

@@ -5,7 +5,7 @@ use Rattle.bg_base.specs.declared.big.Big.{Big}
 use Rattle.bg_lists.specs.Lists.{Mem, here, there}
 use Rattle.bg_lists.proofs.Members.{Mem-append_cases}
 use Rattle.bg_rules.specs.declared.condition.Condition.{Condition}
-use Rattle.bg_rules.specs.Reaction.{SidesAgree, MapFits, sides_agree, map_fits}
+use Rattle.bg_rules.specs.Rules.{SidesAgree, MapFits, sides_agree, map_fits}
 use Rattle.bg_rules.specs.Solid.{IsSolid, unsolid_clause}
 use Rattle.bg_rules.proofs.SideTests.{agree_from_test, fits_from_test}
 use Rattle.bg_rules.proofs.SolidLaws.{solid_from_clause}

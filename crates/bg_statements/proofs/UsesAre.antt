@@ -20,8 +20,8 @@ use Rattle.bg_rules.specs.declared.condition.Condition.{Condition}
 use Rattle.bg_rules.specs.declared.predicate.Predicate.{Predicate}
 use Rattle.bg_rules.specs.Hosts.{IsHost, IsHostBig, fresh_host}
 use Rattle.bg_rules.specs.Limits.{IsWithinLimits}
-use Rattle.bg_rules.specs.Reaction.{HostParts, AreSides}
-use Rattle.bg_rules.specs.Rules.{RuleParts, IsNumberedFromZero, IsRule}
+use Rattle.bg_rules.specs.Reaction.{HostState}
+use Rattle.bg_rules.specs.Rules.{RuleParts, AreSides, IsNumberedFromZero, IsRule}
 use Rattle.bg_rules.specs.Solid.{IsPattern, IsSolid}
 use Rattle.bg_rules.proofs.Counters.{IsHost-fresh, fresh_within}
 use Rattle.bg_rules.proofs.SolidLaws.{nil_from_test}
@@ -140,25 +140,25 @@ module _ (d : Defined) (at number : ℕ) where
       subst (λ (w : Big × List Control). IsWholeValue w.0) (ok_same b.goes_on) (whole_value_is (setting_with d values) a.found (begun signature) b.found b.is)
 
   -- a host
-  pub host_used_is : (values : List Value) (signature : List Control) (v : HostParts × List Control) → host_used d at number values signature ≡ Ok v
+  pub host_used_is : (values : List Value) (signature : List Control) (v : HostState × List Control) → host_used d at number values signature ≡ Ok v
       → IsHostValue v.0.big
   host_used_is values signature v is =
       let a = bound (bigraph_used d at number values signature) _ v is in
-      let b = bound (ground_at at a.found.0) (λ (host : HostParts). Ok (host, a.found.1)) v a.goes_on in
+      let b = bound (ground_at at a.found.0) (λ (host : HostState). Ok (host, a.found.1)) v a.goes_on in
       let ground = held (is_ground a.found.0) (Ok (fresh_host a.found.0)) _ b.found b.is in
       let same : fresh_host a.found.0 ≡ b.found = ok_same ground.1 in
-      subst (λ (w : HostParts × List Control). IsHostValue w.0.big) (ok_same b.goes_on)
-      (subst (λ (host : HostParts). IsHostValue host.big) same (host_value_is a.found.0 (bigraph_used_is values signature a.found a.is) ground.0))
+      subst (λ (w : HostState × List Control). IsHostValue w.0.big) (ok_same b.goes_on)
+      (subst (λ (host : HostState). IsHostValue host.big) same (host_value_is a.found.0 (bigraph_used_is values signature a.found a.is) ground.0))
 
-  pub host_used_host : (values : List Value) (signature : List Control) (v : HostParts × List Control) → host_used d at number values signature ≡ Ok v
+  pub host_used_host : (values : List Value) (signature : List Control) (v : HostState × List Control) → host_used d at number values signature ≡ Ok v
       → IsHost v.0
   host_used_host values signature v is =
       let a = bound (bigraph_used d at number values signature) _ v is in
-      let b = bound (ground_at at a.found.0) (λ (host : HostParts). Ok (host, a.found.1)) v a.goes_on in
+      let b = bound (ground_at at a.found.0) (λ (host : HostState). Ok (host, a.found.1)) v a.goes_on in
       let ground = held (is_ground a.found.0) (Ok (fresh_host a.found.0)) _ b.found b.is in
       let same : fresh_host a.found.0 ≡ b.found = ok_same ground.1 in
       let kept = host_value_is a.found.0 (bigraph_used_is values signature a.found a.is) ground.0 in
-      subst (λ (w : HostParts × List Control). IsHost w.0) (ok_same b.goes_on) (subst IsHost same (IsHost-fresh a.found.0 kept.fits kept.small))
+      subst (λ (w : HostState × List Control). IsHost w.0) (ok_same b.goes_on) (subst IsHost same (IsHost-fresh a.found.0 kept.fits kept.small))
 
   -- a predicate
   pub predicate_used_is : (label : Label) (signature : List Control) (v : Predicate × List Control) → predicate_used d at number label signature ≡ Ok v

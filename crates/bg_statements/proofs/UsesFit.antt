@@ -22,7 +22,7 @@ use Rattle.bg_machine.proofs.Wholes.{edges_differ, as_many_edges, nodes_differ, 
 use Rattle.bg_rules.specs.declared.condition.Condition.{Condition}
 use Rattle.bg_rules.specs.declared.predicate.Predicate.{Predicate}
 use Rattle.bg_rules.specs.Hosts.{fresh_host}
-use Rattle.bg_rules.specs.Reaction.{HostParts}
+use Rattle.bg_rules.specs.Reaction.{HostState}
 use Rattle.bg_rules.specs.Rules.{RuleParts}
 use Rattle.bg_rules.specs.Systems.{IsRuleUnder}
 use Rattle.bg_statements.specs.declared.rule_values.ConditionValue.{ConditionValue}
@@ -204,14 +204,14 @@ module _ (d : Defined) (sound : IsSound d) (at number : ℕ) where
       (whole_value_fits d sound values a.found read (begun signature) b.found fits b.is)
 
   -- a host
-  pub host_used_fits : (values : List Value) (signature : List Control) (v : HostParts × List Control) → FitsControls d signature
+  pub host_used_fits : (values : List Value) (signature : List Control) (v : HostState × List Control) → FitsControls d signature
       → host_used d at number values signature ≡ Ok v → Reaches d signature v.1 v.0.big
   host_used_fits values signature v fits is =
       let a = bound (bigraph_used d at number values signature) _ v is in
-      let b = bound (ground_at at a.found.0) (λ (host : HostParts). Ok (host, a.found.1)) v a.goes_on in
+      let b = bound (ground_at at a.found.0) (λ (host : HostState). Ok (host, a.found.1)) v a.goes_on in
       let same : fresh_host a.found.0 ≡ b.found = ok_same (tested (is_ground a.found.0) (Ok (fresh_host a.found.0)) _ b.found b.is) in
-      subst (λ (w : HostParts × List Control). Reaches d signature w.1 w.0.big) (ok_same b.goes_on)
-      (subst (λ (host : HostParts). Reaches d signature a.found.1 host.big) same (bigraph_used_fits values signature a.found fits a.is))
+      subst (λ (w : HostState × List Control). Reaches d signature w.1 w.0.big) (ok_same b.goes_on)
+      (subst (λ (host : HostState). Reaches d signature a.found.1 host.big) same (bigraph_used_fits values signature a.found fits a.is))
 
   -- a predicate
   pub predicate_used_fits : (label : Label) (signature : List Control) (v : Predicate × List Control) → FitsControls d signature

@@ -7,7 +7,7 @@ use Rattle.bg_machine.specs.declared.met.Met.{Met}
 use Rattle.bg_machine.specs.Calls.{evaluated, valued}
 use Rattle.bg_machine.specs.Whole.{whole}
 use Rattle.bg_rules.specs.declared.condition.Condition.{Condition}
-use Rattle.bg_rules.specs.Reaction.{sides_agree, map_fits}
+use Rattle.bg_rules.specs.Rules.{sides_agree, map_fits}
 use Rattle.bg_rules.specs.Solid.{unsolid_clause}
 use Rattle.bg_statements.specs.declared.rule_values.ConditionValue.{ConditionValue}
 use Rattle.bg_statements.specs.declared.rule_values.RuleValue.{RuleValue}

@@ -7,7 +7,7 @@ use Rattle.bg_base.specs.declared.signature.Control.{Control}
 use Rattle.bg_machine.specs.Calls.{begun}
 use Rattle.bg_rules.specs.declared.predicate.Predicate.{Predicate}
 use Rattle.bg_rules.specs.Hosts.{fresh_host}
-use Rattle.bg_rules.specs.Reaction.{HostParts}
+use Rattle.bg_rules.specs.Reaction.{HostState}
 use Rattle.bg_rules.specs.Rules.{RuleParts}
 use Rattle.bg_statements.specs.declared.rule_values.RuleValue.{RuleValue}
 use Rattle.bg_statements.specs.Defined.{Defined}
@@ -53,11 +53,11 @@ bigraph_used d at number values signature =
 abbrev pub is_ground : Big → Bool
 is_ground big = (length big.sites == 0) && (length big.inner == 0)
 
-abbrev pub ground_at : ℕ → Big → Result HostParts Refusal
+abbrev pub ground_at : ℕ → Big → Result HostState Refusal
 ground_at at big = if is_ground big then Ok (fresh_host big) else refused NotGround at
 
 -- the host that a run begins with
-abbrev pub host_used : Defined → ℕ → ℕ → List Value → List Control → Result (HostParts × List Control) Refusal
+abbrev pub host_used : Defined → ℕ → ℕ → List Value → List Control → Result (HostState × List Control) Refusal
 host_used d at number values signature =
     bigraph_used d at number values signature >>= λ v. ground_at at v.0 >>= λ host. Ok (host, v.1)
 

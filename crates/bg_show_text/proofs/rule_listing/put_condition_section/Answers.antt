@@ -15,4 +15,4 @@ counted_and_written signature conditions given before o1 o2 is counted written =
 pub returns : goal.returns
 returns c =
     counted_and_written c.args.signature.now c.args.rule.now.conditions c.conditions-conditions.result.now c.args.out.now.items _ _
-    c.conditions-conditions.ensures c.in_ok-write_count.ensures.ok c.in_ok-put_conditions.ensures
+    c.conditions-conditions.ensures.same c.in_ok-write_count.ensures.ok c.in_ok-put_conditions.ensures

@@ -1,5 +1,5 @@
 use Rattle.std.proofs.Common.{arith, ap, ◌∙◌}
-use Rattle.bg_rules.specs.Reaction.{HostParts}
+use Rattle.bg_rules.specs.Reaction.{HostState}
 use Rattle.command_match.proofs.Rules.{AreOf, none_yet, next_rule, first_excess}
 use Rattle.command_match.proofs.matches.add_rules.Goals as goal
 
@@ -10,7 +10,7 @@ pub returns-in_err-add_rule-clause-many : goal.returns-in_err-add_rule-clause-ma
 returns-in_err-add_rule-clause-many c =
     let of_it : AreOf c.args.system.now c.signature-signature.result.now c.in_ok-host.host c.rules-rule-items.result.now = record {
       signature_is = c.signature-signature.ensures.same;
-      host_is = c.in_ok-host.ensures ∙ c.big-host.ensures.same ∙ ap (λ (host : HostParts). host.big) c.init.ensures.same;
+      host_is = c.in_ok-host.ensures ∙ c.big-host.ensures.same ∙ ap (λ (host : HostState). host.big) c.init.ensures.same;
       rules_is = c.rules-rule-items.ensures.same;
     } in
     first_excess c.from_residual-in_err-add_rule.result c.in_err-add_rule.field-0.0 c.args.system.now c.args.most c.loop-number.number c.rule-item.result
@@ -20,7 +20,7 @@ pub loop-number-preserved : goal.loop-number-preserved
 loop-number-preserved c =
     let of_it : AreOf c.args.system.now c.signature-signature.result.now c.in_ok-host.host c.rules-rule-items.result.now = record {
       signature_is = c.signature-signature.ensures.same;
-      host_is = c.in_ok-host.ensures ∙ c.big-host.ensures.same ∙ ap (λ (host : HostParts). host.big) c.init.ensures.same;
+      host_is = c.in_ok-host.ensures ∙ c.big-host.ensures.same ∙ ap (λ (host : HostState). host.big) c.init.ensures.same;
       rules_is = c.rules-rule-items.ensures.same;
     } in
     next_rule c.args.system.now c.args.explain c.args.most c.loop-number.number c.rule-item.result c.args.text.now.items _ _
