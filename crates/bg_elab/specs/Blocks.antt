@@ -1,5 +1,5 @@
 -- The block of a model, with its names looked up in the order of the text.
-use Rattle.std.specs.Prelude.{ℕ, ◌+◌, ◌<◌, List, [], ◌∷◌, ◌++◌, map, Result, Ok}
+use Rattle.std.specs.Prelude.{ℕ, ◌+◌, ◌<◌, List, [], ◌∷◌, ◌++◌, length, map, Result, Ok}
 use Rattle.bg_elab.specs.References.{Reference, reference_read}
 use Rattle.bg_lists.specs.Lists.{Mem}
 use Rattle.bg_statements.specs.InTurn.{in_turn}
@@ -49,6 +49,11 @@ refs_of_class (class_ways.Way2 bracket refs close) = trees_of_refs refs
 abbrev pub trees_of_classes : SynClasses → List SynClass
 trees_of_classes (classes_ways.Way1 first more) = first ∷ map (λ (item : SynMoreClItem). item.part2) more.items
 trees_of_classes classes_ways.Way2 = []
+
+-- how many classes there are
+abbrev pub class_count : SynClasses → ℕ
+class_count (classes_ways.Way1 first more) = length more.items + 1
+class_count classes_ways.Way2 = 0
 
 abbrev pub refs_of_preds : SynPreds → List SynRef
 refs_of_preds (preds_ways.Way1 word equals bracket refs close end) = trees_of_refs refs

@@ -1,5 +1,5 @@
 -- What calls that read the block say: references with their arguments as code.
-use Rattle.std.specs.Prelude.{◌≡◌, ℕ, List, [], map, Result, Ok}
+use Rattle.std.specs.Prelude.{◌≡◌, ℕ, List, [], map, Result, Ok, Err}
 use Rattle.bg_elab.specs.declared.blocks.Block.{Block as BlockCode}
 use Rattle.bg_elab.specs.declared.blocks.Listed.{Listed as ListedCode}
 use Rattle.bg_elab.specs.declared.references.Reference.{Reference as ReferenceCode}
@@ -9,7 +9,7 @@ use Rattle.bg_values.specs.declared.refusal.Refusal.{Refusal}
 use Rattle.bg_values.specs.declared.refusal.Stop.{Stop}
 use Rattle.bg_values.specs.Lowering.{behind}
 use Rattle.bg_values.specs.Operands.{coded}
-use Rattle.bg_values.specs.Outcome.{◌>>=◌, Goes}
+use Rattle.bg_values.specs.Outcome.{◌>>=◌, Goes, Stops}
 
 abbrev pub reference_code : Reference → ReferenceCode
 reference_code r = record { at = r.at; name = r.name; number = r.number; arguments = map coded r.arguments; lists = r.lists }
@@ -51,3 +51,8 @@ abbrev pub AddsClasses : {X : Type 0} → Result X Stop → List ListedCode → 
     → (List Listed × ℕ → Result (List Listed × ℕ) Refusal) → Type 0
 AddsClasses result old class new counted more =
     (done : List Listed) → old ≡ listed_codes done → Goes result (new, counted) (more (done, class) >>= λ read. Ok (classes_code read))
+
+-- a call leaves these and gives the signature reached, as wanted, or stops
+abbrev pub Makes : {X S : Type 0} → Result S Stop → List X → Result (List X × S) Refusal → Type 0
+Makes (Ok reached) made wanted = wanted ≡ Ok (made, reached)
+Makes (Err stop) made wanted = Stops stop wanted

@@ -1,5 +1,5 @@
 //! The block of a model, with its names looked up.
-ghost use Rattle.std.specs.Prelude.{◌≡◌};
+ghost use Rattle.std.specs.Prelude.{◌≡◌, ◌+◌, ◌<◌, nat_lt, length, IfOk};
 ghost use Rattle.bg_elab.specs.Blocks as definition;
 ghost use Rattle.bg_elab.specs.Calls.{Adds, AddsClasses, block_code, classes_code, listed_codes, reference_codes};
 ghost use Rattle.bg_statements.specs.Calls.{ReadsAs};
@@ -59,7 +59,7 @@ pub(crate) fn block_of(
 
 // ---- classes
 
-/// The references of all classes, and how many classes there are.
+/// The references of all classes, and how many classes there are; of more than 32 bits can count there is no memory.
 fn classes_of(
     alloc: Global,
     text: &Scope,
@@ -68,11 +68,24 @@ fn classes_of(
 ) -> Result<(Rows<Listed>, u32), Stop>
     ensures { ReadsAs classes_code result (definition.classes_read text.now spaces.now tree.now) }
 {
+    if !are_counted(tree) {
+        return Err(Stop::OutOfMemory);
+    }
     let mut listed = Vec::new(alloc);
     let mut class = 0;
     add_all_classes(alloc, text, spaces, tree, &mut listed, &mut class)?;
     let rows = Rows::try_from_vec(listed)?;
     Ok((rows, class))
+}
+
+/// Whether 32 bits can count the classes.
+fn are_counted(tree: &SynClasses) -> bool
+    ensures { result ≡ nat_lt (definition.class_count tree.now) 4294967296 }
+{
+    match tree {
+        SynClasses::Way1(_, more) => more.as_slice().len() + 1 < 4_294_967_296,
+        SynClasses::Way2 => true,
+    }
 }
 
 fn add_all_classes(
@@ -83,6 +96,7 @@ fn add_all_classes(
     listed: &mut Vec<Listed>,
     class: &mut u32,
 ) -> Result<(), Stop>
+    requires { class.old + definition.class_count tree.now < 4294967296 }
     ensures { AddsClasses result listed.old.items class.old listed.new.items class.new (in_turn (definition.with_class text.now spaces.now) (definition.trees_of_classes tree.now)) }
 {
     match tree {
@@ -102,6 +116,7 @@ fn add_classes(
     listed: &mut Vec<Listed>,
     class: &mut u32,
 ) -> Result<(), Stop>
+    requires { class.old + length items.now < 4294967296 }
     ensures { AddsClasses result listed.old.items class.old listed.new.items class.new (in_turn (λ (item : MoreClasses). definition.with_class text.now spaces.now item.part2) items.now) }
 {
     for item in items {
@@ -110,7 +125,7 @@ fn add_classes(
     Ok(())
 }
 
-/// Adds the references of one class, and counts it, where 32 bits can.
+/// Adds the references of one class, and counts it.
 fn add_class(
     alloc: Global,
     text: &Scope,
@@ -119,13 +134,12 @@ fn add_class(
     listed: &mut Vec<Listed>,
     class: &mut u32,
 ) -> Result<(), Stop>
-    ensures { AddsClasses result listed.old.items class.old listed.new.items class.new (definition.with_class text.now spaces.now tree.now) }
+    requires { class.old < 4294967295 }
+    ensures adds { AddsClasses result listed.old.items class.old listed.new.items class.new (definition.with_class text.now spaces.now tree.now) }
+    ensures counted { IfOk result (λ _. class.new ≡ class.old + 1) }
 {
     add_listed(alloc, text, spaces, *class, refs_of(tree), listed)?;
-    let Some(next) = class.checked_add(1) else {
-        return Err(Stop::OutOfMemory);
-    };
-    *class = next;
+    *class += 1;
     Ok(())
 }
 

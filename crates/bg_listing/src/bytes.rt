@@ -4,18 +4,18 @@ ghost use Rattle.std.specs.List.{prefix_len, list_all};
 ghost use Rattle.std.specs.Char.{is_ascii_digit};
 ghost use Rattle.bg_base.specs.Spelling as spelling;
 ghost use Rattle.bg_listing.specs.Combinators.{after};
-ghost use Rattle.bg_listing.specs.Answers.{Gives, IsRun};
+ghost use Rattle.bg_listing.specs.Answers.{IsRun, Shows};
 
-use crate::fault::PartFault;
+use crate::fault::NotThere;
 use bg_base::{is_text_byte, is_word_byte};
 
 /// The bytes behind `word`, where it stands in front.
-pub(crate) fn skip<'a>(bytes: &'a [u8], word: &[u8]) -> Result<&'a [u8], PartFault>
-    ensures { Gives (λ rest. rest.now) result (after word.now bytes.now) }
+pub(crate) fn skip<'a>(bytes: &'a [u8], word: &[u8]) -> Result<&'a [u8], NotThere>
+    ensures { Shows (λ rest. rest.now) result (after word.now bytes.now) }
 {
     match bytes.strip_prefix(word) {
         Some(rest) => Ok(rest),
-        None => Err(PartFault::NotThere),
+        None => Err(NotThere),
     }
 }
 

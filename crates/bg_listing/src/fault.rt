@@ -35,6 +35,10 @@ impl From<NoMemory> for ListingFault {
     }
 }
 
+/// What a function that takes no memory answers where a part of a line does not stand there.
+#[derive(Clone, Copy, Debug, PartialEq, Eq)]
+pub(crate) struct NotThere;
+
 /// Why a part of a line was not read.
 #[derive(Clone, Copy, Debug, PartialEq, Eq)]
 pub(crate) enum PartFault {
@@ -51,6 +55,17 @@ impl From<NoMemory> for PartFault {
 
     fn from(_error: NoMemory) -> PartFault {
         PartFault::OutOfMemory
+    }
+}
+
+impl From<NotThere> for PartFault {
+    ghost use Rattle.std.specs.Prelude.{◌≡◌};
+    ghost use Rattle.bg_listing.specs.declared.fault.PartFault.TheVariants as part;
+
+    ghost from_gives = { λ _ fault. fault ≡ part.NotThere };
+
+    fn from(_fault: NotThere) -> PartFault {
+        PartFault::NotThere
     }
 }
 

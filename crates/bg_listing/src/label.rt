@@ -1,13 +1,13 @@
 //! Labels.
 ghost use Rattle.std.specs.Prelude.{◌≡◌, pos, negsuc};
 ghost use Rattle.bg_listing.specs.Limits.{greatest_int};
-ghost use Rattle.bg_listing.specs.Answers.{Gives};
+ghost use Rattle.bg_listing.specs.Answers.{Gives, Shows};
 ghost use Rattle.bg_listing.specs.Combinators.{mapped};
 ghost use Rattle.bg_listing.specs.Reading as reading;
 
 use crate::bytes::{skip, text_bytes};
 use crate::chain::{Piece, read_chain};
-use crate::fault::PartFault;
+use crate::fault::{NotThere, PartFault};
 use crate::names::upper_word;
 use crate::number::number_up_to;
 use bg_base::{Label, Text, Value};
@@ -90,28 +90,28 @@ fn quoted(alloc: Global, bytes: &[u8]) -> Result<(Text, &[u8]), PartFault>
 /// The greatest whole number of 64 bits with sign.
 const GREATEST_INT: u64 = 9_223_372_036_854_775_807;
 
-fn positive(bytes: &[u8]) -> Result<(i64, &[u8]), PartFault>
-    ensures { Gives (λ x. (x.0, x.1.now)) result (mapped pos (reading.number_at greatest_int bytes.now)) }
+fn positive(bytes: &[u8]) -> Result<(i64, &[u8]), NotThere>
+    ensures { Shows (λ x. (x.0, x.1.now)) result (mapped pos (reading.number_at greatest_int bytes.now)) }
 {
     match number_up_to(bytes, GREATEST_INT) {
         Some((number, rest)) => Ok((number as i64, rest)),
-        None => Err(PartFault::NotThere),
+        None => Err(NotThere),
     }
 }
 
 /// The negative number behind its `-`.
 #[tactic(auto, unfolding(crate::specs::Reading::negative_at))]
-fn negative(bytes: &[u8]) -> Result<(i64, &[u8]), PartFault>
-    ensures { Gives (λ x. (x.0, x.1.now)) result (mapped negsuc (reading.negative_at bytes.now)) }
+fn negative(bytes: &[u8]) -> Result<(i64, &[u8]), NotThere>
+    ensures { Shows (λ x. (x.0, x.1.now)) result (mapped negsuc (reading.negative_at bytes.now)) }
 {
     match number_up_to(bytes, GREATEST_INT + 1) {
         Some((number, rest)) => {
             if number == 0 {
-                Err(PartFault::NotThere)
+                Err(NotThere)
             } else {
                 Ok((-1 - ((number - 1) as i64), rest))
             }
         }
-        None => Err(PartFault::NotThere),
+        None => Err(NotThere),
     }
 }

@@ -1,13 +1,13 @@
 //! Lines that are counted.
-ghost use Rattle.std.specs.Prelude.{◌≡◌, List, ℕ, Result, length};
+ghost use Rattle.std.specs.Prelude.{◌≡◌, List, ℕ, Result, IsErrOf, length};
 ghost use Rattle.bg_listing.specs.Limits.{greatest};
 ghost use Rattle.bg_listing.specs.Combinators.{behind, line, each};
 ghost use Rattle.bg_listing.specs.Reading as reading;
 ghost use Rattle.bg_listing.specs.Lines.{Bad, count_at, section_at};
-ghost use Rattle.bg_listing.specs.Answers.{Gives, GivesLines};
+ghost use Rattle.bg_listing.specs.Answers.{GivesLines, Shows};
 
 use crate::bytes::skip;
-use crate::fault::{BAD_LINE, LineFault, PartFault, TOO_MANY};
+use crate::fault::{BAD_LINE, LineFault, NotThere, TOO_MANY};
 use crate::number::number;
 use bg_lists::Rows;
 use std::alloc::Global;
@@ -63,14 +63,15 @@ fn rows<'a, R: Row>(
     Ok((rows, rest))
 }
 
-/// A line of the word and a number that is at most `most`.
+/// A line of the word and a number that is at most `most`. Takes no memory.
 #[tactic(auto, unfolding(crate::specs::Lines::count_at))]
 pub(crate) fn count<'a>(
     bytes: &'a [u8],
     word: &[u8],
     most: u32,
 ) -> Result<(u32, &'a [u8]), LineFault>
-    ensures { GivesLines (λ x. (x.0, x.1.now)) result (count_at most word.now bytes.now) }
+    ensures counted { GivesLines (λ x. (x.0, x.1.now)) result (count_at most word.now bytes.now) }
+    ensures memory { ¬ IsErrOf result LineFault.OutOfMemory }
 {
     let left = bytes.len();
     match count_line(bytes, word) {
@@ -84,24 +85,23 @@ pub(crate) fn count<'a>(
                 })
             }
         }
-        Err(PartFault::NotThere) => Err(LineFault::Bad {
+        Err(NotThere) => Err(LineFault::Bad {
             code: BAD_LINE,
             left,
         }),
-        Err(PartFault::OutOfMemory) => Err(LineFault::OutOfMemory),
     }
 }
 
-fn count_line<'a>(bytes: &'a [u8], word: &[u8]) -> Result<(u32, &'a [u8]), PartFault>
-    ensures { Gives (λ x. (x.0, x.1.now)) result (behind word.now (line (reading.number_at greatest)) bytes.now) }
+fn count_line<'a>(bytes: &'a [u8], word: &[u8]) -> Result<(u32, &'a [u8]), NotThere>
+    ensures { Shows (λ x. (x.0, x.1.now)) result (behind word.now (line (reading.number_at greatest)) bytes.now) }
 {
     let rest = skip(bytes, word)?;
     number_line(rest)
 }
 
 /// A number and the line feed.
-pub(crate) fn number_line(bytes: &[u8]) -> Result<(u32, &[u8]), PartFault>
-    ensures { Gives (λ x. (x.0, x.1.now)) result (line (reading.number_at greatest) bytes.now) }
+pub(crate) fn number_line(bytes: &[u8]) -> Result<(u32, &[u8]), NotThere>
+    ensures { Shows (λ x. (x.0, x.1.now)) result (line (reading.number_at greatest) bytes.now) }
 {
     let (number, rest) = number(bytes)?;
     let rest = skip(rest, b"\n")?;

@@ -2,18 +2,18 @@
 ghost use Rattle.std.specs.Prelude.{◌≡◌};
 ghost use Rattle.bg_base.specs.Spelling.{is_lower_case, is_upper_case};
 ghost use Rattle.bg_listing.specs.Limits.{begins};
-ghost use Rattle.bg_listing.specs.Answers.{Gives};
+ghost use Rattle.bg_listing.specs.Answers.{Gives, Shows};
 ghost use Rattle.bg_listing.specs.Reading as reading;
 
 use crate::bytes::{skip, word_bytes};
-use crate::fault::PartFault;
+use crate::fault::{NotThere, PartFault};
 use crate::number::number;
 use bg_base::{Ident, InnerRow, Link, Name, Place};
 use std::alloc::Global;
 
 #[tactic(auto, unfolding(crate::specs::Reading::place_at))]
-pub(crate) fn place(bytes: &[u8]) -> Result<(Place, &[u8]), PartFault>
-    ensures { Gives (λ x. (x.0, x.1.now)) result (reading.place_at bytes.now) }
+pub(crate) fn place(bytes: &[u8]) -> Result<(Place, &[u8]), NotThere>
+    ensures { Shows (λ x. (x.0, x.1.now)) result (reading.place_at bytes.now) }
 {
     match bytes {
         [b'n', rest @ ..] => {
@@ -24,7 +24,7 @@ pub(crate) fn place(bytes: &[u8]) -> Result<(Place, &[u8]), PartFault>
             let (region, rest) = number(rest)?;
             Ok((Place::Region(region), rest))
         }
-        _ => Err(PartFault::NotThere),
+        _ => Err(NotThere),
     }
 }
 

@@ -1,14 +1,14 @@
 //! The lines of a signature and of a bigraph.
-ghost use Rattle.std.specs.Prelude.{◌≡◌};
+ghost use Rattle.std.specs.Prelude.{◌≡◌, ◌<◌, length, MatchOption};
 ghost use Rattle.bg_base.specs.declared.names.Link.{Link};
 ghost use Rattle.bg_listing.specs.Combinators.{line};
 ghost use Rattle.bg_listing.specs.Reading as reading;
 ghost use Rattle.bg_listing.specs.Lines as lines;
-ghost use Rattle.bg_listing.specs.Answers.{Gives, GivesLines};
+ghost use Rattle.bg_listing.specs.Answers.{Gives, GivesLines, Shows};
 
 use crate::bytes::skip;
 use crate::chain::{Piece, read_chain};
-use crate::fault::{BAD_LINE, LineFault, PartFault, TOO_MANY};
+use crate::fault::{BAD_LINE, LineFault, NotThere, PartFault, TOO_MANY};
 use crate::label::label;
 use crate::lines::{Row, number_line};
 use crate::names::{inner, link, name, place};
@@ -34,11 +34,10 @@ impl Row for u32 {
     ) -> Result<(u32, &'a [u8]), LineFault> {
         match number_line(bytes) {
             Ok(row) => Ok(row),
-            Err(PartFault::NotThere) => Err(LineFault::Bad {
+            Err(NotThere) => Err(LineFault::Bad {
                 code: BAD_LINE,
                 left: bytes.len(),
             }),
-            Err(PartFault::OutOfMemory) => Err(LineFault::OutOfMemory),
         }
     }
 }
@@ -58,17 +57,16 @@ impl Row for Place {
     ) -> Result<(Place, &'a [u8]), LineFault> {
         match place_line(bytes) {
             Ok(row) => Ok(row),
-            Err(PartFault::NotThere) => Err(LineFault::Bad {
+            Err(NotThere) => Err(LineFault::Bad {
                 code: BAD_LINE,
                 left: bytes.len(),
             }),
-            Err(PartFault::OutOfMemory) => Err(LineFault::OutOfMemory),
         }
     }
 }
 
-fn place_line(bytes: &[u8]) -> Result<(Place, &[u8]), PartFault>
-    ensures { Gives (λ x. (x.0, x.1.now)) result (line reading.place_at bytes.now) }
+fn place_line(bytes: &[u8]) -> Result<(Place, &[u8]), NotThere>
+    ensures { Shows (λ x. (x.0, x.1.now)) result (line reading.place_at bytes.now) }
 {
     let (place, rest) = place(bytes)?;
     let rest = skip(rest, b"\n")?;
@@ -194,16 +192,15 @@ fn control(alloc: Global, bytes: &[u8]) -> Result<(Control, &[u8]), PartFault>
 }
 
 #[tactic(auto, unfolding(crate::specs::Reading::kind_at))]
-fn kind(bytes: &[u8]) -> Result<(Kind, &[u8]), PartFault>
-    ensures { Gives (λ x. (x.0, x.1.now)) result (reading.kind_at bytes.now) }
+fn kind(bytes: &[u8]) -> Result<(Kind, &[u8]), NotThere>
+    ensures { Shows (λ x. (x.0, x.1.now)) result (reading.kind_at bytes.now) }
 {
     match skip(bytes, b"normal") {
         Ok(rest) => Ok((Kind::Normal, rest)),
-        Err(PartFault::NotThere) => {
+        Err(NotThere) => {
             let rest = skip(bytes, b"atomic")?;
             Ok((Kind::Atomic, rest))
         }
-        Err(PartFault::OutOfMemory) => Err(PartFault::OutOfMemory),
     }
 }
 
@@ -287,9 +284,19 @@ fn links(alloc: Global, bytes: &[u8]) -> Result<(PortLinks, &[u8]), PartFault>
     ensures { Gives (λ x. (x.0, x.1.now)) result (lines.links_at bytes.now) }
 {
     let (links, rest) = read_chain::<Link>(alloc, b'\n', b' ', bytes)?;
+    match port_links(links) {
+        Some(links) => Ok((links, rest)),
+        None => Err(PartFault::OutOfMemory),
+    }
+}
+
+/// The links of a node, where they can be numbered. Takes no memory.
+fn port_links(links: Vec<Link>) -> Option<PortLinks>
+    ensures { MatchOption result (4294967294 < length links.items) (λ made. made ≡ links.items) }
+{
     if links.len() <= MOST_LINKS {
-        Ok((PortLinks::from_small_vec(SmallVec::from_vec(links)), rest))
+        Some(PortLinks::from_small_vec(SmallVec::from_vec(links)))
     } else {
-        Err(PartFault::OutOfMemory)
+        None
     }
 }

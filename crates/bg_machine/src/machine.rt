@@ -16,7 +16,7 @@ use std::marker::Model;
 
 /// The state of the machine: the bigraphs that wait for their operator, the numbers of the edges of the closures that
 /// are open, how many `K` are open, and how far the evaluation has come: the signature of the controls met, and how
-/// many nodes, closures and terms.
+/// many nodes, closures and terms. Each node counts as a term, so there are at most as many.
 #[derive(Drop)]
 pub(crate) struct Machine {
     stack: Stack<Held>,
@@ -29,6 +29,7 @@ pub(crate) struct Machine {
 }
 
 impl Model for Machine {
+    ghost use Rattle.std.specs.Prelude.{◌≤◌};
     ghost use Rattle.bg_machine.specs.States.{State};
 
     ghost Value = { State };
@@ -39,10 +40,12 @@ impl Model for Machine {
       depth = machine.depth;
       reached = record { signature = machine.signature; nodes = machine.nodes; edges = machine.edges; terms = machine.terms };
     } };
+
+    ghost invariant = { λ machine. machine.nodes ≤ machine.terms };
 }
 
 impl Machine {
-    ghost use Rattle.std.specs.Prelude.{◌≡◌, ◌≤◌, ◌∷◌, [], IfOk, MatchResult, Ok, Err, Some, slice_get, option_copied};
+    ghost use Rattle.std.specs.Prelude.{◌≡◌, ◌<◌, ◌≤◌, ◌∷◌, [], IfOk, MatchResult, Ok, Err, Some, slice_get, option_copied};
     ghost use Rattle.bg_terms.specs.declared.shape.Shape.{Shape as ShapeValue};
     ghost use Rattle.bg_base.specs.Bigraph.{IsValid};
     ghost use Rattle.bg_machine.specs.Machine as definition;
@@ -93,7 +96,8 @@ impl Machine {
 
     /// One more term.
     pub(crate) fn count(&mut self, at: u32) -> Result<(), Refusal>
-        ensures { let wanted = gone_on self.old (values.tallied at self.old.reached) in MatchResult result (λ _. wanted ≡ Ok self.new) (λ refusal. wanted ≡ Err refusal) }
+        ensures counted { let wanted = gone_on self.old (values.tallied at self.old.reached) in MatchResult result (λ _. wanted ≡ Ok self.new) (λ refusal. wanted ≡ Err refusal) }
+        ensures room { IfOk result (λ _. self.new.reached.nodes < self.new.reached.terms) }
     {
         if self.terms >= 1_048_576 {
             return Err(Refusal::new(Cause::TooLarge(LimitWord::Terms), at));
@@ -227,6 +231,7 @@ impl Machine {
         self.put_evaluated(alloc, shape, env, at, arguments, ports)
     }
 
+    /// The same, once it is counted.
     fn put_evaluated(
         &mut self,
         alloc: Global,
@@ -236,6 +241,7 @@ impl Machine {
         arguments: &Arguments,
         ports: &Rows<Ident>,
     ) -> Result<(), Stop>
+        requires room { self.old.reached.nodes < self.old.reached.terms }
         requires small { (found : ShapeValue) → option_copied shape ≡ Some found → found.arity ≤ 16 }
         ensures { Goes result self.new (pushed self.old (definition.evaluated_node at (outcomes env.now arguments.now) (option_copied shape.entry) ports.now self.old.reached)) }
     {
@@ -246,7 +252,7 @@ impl Machine {
         }
     }
 
-    /// A node of this shape with these arguments.
+    /// A node of this shape with these arguments, once it is counted.
     fn put_shape(
         &mut self,
         alloc: Global,
@@ -255,15 +261,14 @@ impl Machine {
         args: Vec<Value>,
         ports: &Rows<Ident>,
     ) -> Result<(), Stop>
+        requires room { self.old.reached.nodes < self.old.reached.terms }
         requires small { shape.now.arity ≤ 16 }
         ensures { Goes result self.new (pushed self.old (definition.node_made at (control_of shape.now args.items) ports.now self.old.reached)) }
     {
+        prove!(self.nodes < self.terms);
         let node = self.nodes;
-        let Some(next) = node.checked_add(1) else {
-            return Err(Stop::OutOfMemory);
-        };
         let number = enter(alloc, at, shape, args, &mut self.signature)?;
-        self.nodes = next;
+        self.nodes = node + 1;
         let big = single(alloc, shape.kind, number, node, ports)?;
         self.put_new(alloc, at, big)
     }

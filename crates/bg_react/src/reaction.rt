@@ -1,5 +1,5 @@
 //! Reactions: the redex of a rule replaced by its reactum.
-ghost use Rattle.std.specs.Prelude.{◌≡◌, ◌≤◌, ◌<◌, ◌+◌, ◌^◌, length, OnOk, OnErr, IfOk, IsErrOf, MatchOption};
+ghost use Rattle.std.specs.Prelude.{◌≡◌, ◌≤◌, ◌<◌, ◌+◌, ◌^◌, length, Ok, Err, OnOk, OnErr, IfOk, IsErrOf, MatchOption, MatchResult};
 ghost use Rattle.bg_base.specs.Bigraph.{IsValid};
 ghost use Rattle.bg_base.specs.Elementary.{counted};
 ghost use Rattle.bg_base.specs.Products as product;
@@ -83,13 +83,10 @@ fn put_together(
         ..
     } = parts;
     let by_region = Parts::of(alloc, &parameter)?;
-    let Some(counters) = counters_after(alloc, host, rule, &context, &by_region)? else {
-        return Err(ReactFault::Full);
-    };
+    let found = counters_after(alloc, host, rule, &context, &by_region)?;
+    let counters = within_limits(found)?;
     let big = big_after(alloc, host, rule, &context, &by_region)?;
-    let Some(after) = host_of(big, counters) else {
-        return Err(ReactFault::Full);
-    };
+    let after = host_of(big, counters)?;
     Ok(after)
 }
 
@@ -100,18 +97,28 @@ struct Counters {
     next_edge: u32,
 }
 
-/// The host with these counters; none where it has too many edges.
-fn host_of(big: Big, counters: Counters) -> Option<Host>
+/// The counters, or `Full` where there are none. Takes no memory.
+fn within_limits(found: Option<Counters>) -> Result<Counters, ReactFault>
+    ensures { MatchOption found (result ≡ Err ReactFault.Full) (λ counters. result ≡ Ok counters) }
+{
+    match found {
+        Some(counters) => Ok(counters),
+        None => Err(ReactFault::Full),
+    }
+}
+
+/// The host with these counters, or `Full` where it has too many edges. Takes no memory.
+fn host_of(big: Big, counters: Counters) -> Result<Host, ReactFault>
     requires fits { length big.edges ≤ most_rows → IsHost (record { big = big; next_node = counters.next_node; next_edge = counters.next_edge }) }
-    ensures { MatchOption result
-        (most_rows < length big.edges)
+    ensures { MatchResult result
         (λ host. (host ≡ record { big = big; next_node = counters.next_node; next_edge = counters.next_edge })
-        × (length big.edges ≤ most_rows)) }
+        × (length big.edges ≤ most_rows))
+        (λ fault. (fault ≡ ReactFault.Full) × (most_rows < length big.edges)) }
 {
     if big.edges.len() > MOST_ROWS {
-        return None;
+        return Err(ReactFault::Full);
     }
-    Some(Host::with_counters(big, counters.next_node, counters.next_edge))
+    Ok(Host::with_counters(big, counters.next_node, counters.next_edge))
 }
 
 /// The counters of what the host becomes; none where its nodes or a counter pass their limit.

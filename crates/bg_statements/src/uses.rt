@@ -16,7 +16,6 @@ use bg_syntax::tree::models::{SynParamsItem, SynStmtsItem};
 use bg_values::{Cause, NameTable, ParameterValues, Refusal, Scope, Stop};
 use std::alloc::Global;
 use std::marker::Model;
-use std::mem::replace;
 
 /// The names that the block may use: the bigraphs and the rules, each with how many formals it has, and the parameters,
 /// each with its values.
@@ -40,10 +39,9 @@ impl<'a> Model for NameSpaces<'a> {
 }
 
 /// The definitions of a whole text, for their uses: each name of a bigraph, or of a rule, has an expression. A use may
-/// meet controls that were not met before, so each takes the signature reached before it and leaves the one reached
-/// behind it; after a use that stops, the signature is of no further use. A number that no name has is refused with 41 at
-/// the place of the use; one that a name has never is for that reason ([`crate::laws`]). A contract sees what is kept of
-/// the definitions.
+/// meet controls that were not met before, so each takes the signature reached before it, and gives the one reached
+/// behind it beside its value. A number that no name has is refused with 41 at the place of the use; one that a name has
+/// never is for that reason ([`crate::laws`]). A contract sees what is kept of the definitions.
 #[derive(Drop)]
 pub struct Uses {
     definitions: Definitions,
@@ -65,7 +63,7 @@ impl Uses {
     ghost use Rattle.bg_statements.specs.Defined.{Defined};
     ghost use Rattle.bg_statements.specs.Settings.{IsWholeValue};
     ghost use Rattle.bg_statements.specs.Uses as definition;
-    ghost use Rattle.bg_values.specs.Outcome.{Gives, GivesAnd};
+    ghost use Rattle.bg_values.specs.Outcome.{Gives};
 
     /// What these statements define, and these parameters of a block behind them, for their uses; or the first refusal
     /// of one of them. Costs what they cost one by one.
@@ -103,45 +101,47 @@ impl Uses {
         &self.definitions.signature
     }
 
-    /// What a run begins with: the host of the bigraph with that number, where its formals have these values. Refuses
-    /// what its evaluation refuses, then with `NotGround` (46) at `at` a bigraph that is not ground. Costs what `evaluate`
-    /// costs.
+    /// What a run begins with: the host of the bigraph with that number, where its formals have these values, and the
+    /// signature then reached from this one. Refuses what its evaluation refuses, then with `NotGround` (46) at `at` a
+    /// bigraph that is not ground. Costs what `evaluate` costs.
     pub fn host(
         &self,
         alloc: Global,
         at: u32,
         number: u32,
         values: &[Value],
-        signature: &mut Signature,
-    ) -> Result<Host, Stop>
-        ensures { (d : Defined) → self.now ≡ kept d → GivesAnd result signature.new (definition.host_used d at number values.now signature.old) }
+        signature: Signature,
+    ) -> Result<(Host, Signature), Stop>
+        ensures { (d : Defined) → self.now ≡ kept d → Gives result (definition.host_used d at number values.now signature) }
     {
-        let whole = self.bigraph(alloc, at, number, values, signature)?;
+        let (whole, reached) = self.bigraph(alloc, at, number, values, signature)?;
         let host = host_of(at, whole)?;
-        Ok(host)
+        Ok((host, reached))
     }
 
-    /// The predicate that the bigraph with that number is, where its formals have the values of the label. Refuses what
-    /// its evaluation refuses, then 49 at `at` where it is not solid. Costs what `evaluate` and the test cost.
+    /// The predicate that the bigraph with that number is, where its formals have the values of the label, and the
+    /// signature then reached from this one. Refuses what its evaluation refuses, then 49 at `at` where it is not solid.
+    /// Costs what `evaluate` and the test cost.
     pub fn predicate(
         &self,
         alloc: Global,
         at: u32,
         number: u32,
         label: Label,
-        signature: &mut Signature,
-    ) -> Result<Predicate, Stop>
-        ensures { (d : Defined) → self.now ≡ kept d → GivesAnd result signature.new (definition.predicate_used d at number label signature.old) }
+        signature: Signature,
+    ) -> Result<(Predicate, Signature), Stop>
+        ensures { (d : Defined) → self.now ≡ kept d → Gives result (definition.predicate_used d at number label signature) }
     {
-        let whole = self.bigraph(alloc, at, number, label.args.as_slice(), signature)?;
+        let (whole, reached) = self.bigraph(alloc, at, number, label.args.as_slice(), signature)?;
         let pattern = solid_at(alloc, at, whole)?;
-        Ok(Predicate { label, pattern })
+        Ok((Predicate { label, pattern }, reached))
     }
 
-    /// The rule with that number, where its formals have the values of the label. It refuses with the first cause: what
-    /// the evaluation of its redex, its reactum and its conditions refuses, in this order; then at its name 47 where the
-    /// sides differ, 48 where the map does not fit, 49 where the redex is not solid; then 49 at the `in` of a condition
-    /// that is not. Costs what `evaluate` costs for each expression, and what the tests of `bg_rules` cost.
+    /// The rule with that number, where its formals have the values of the label, and the signature then reached from
+    /// this one. It refuses with the first cause: what the evaluation of its redex, its reactum and its conditions
+    /// refuses, in this order; then at its name 47 where the sides differ, 48 where the map does not fit, 49 where the
+    /// redex is not solid; then 49 at the `in` of a condition that is not. Costs what `evaluate` costs for each
+    /// expression, and what the tests of `bg_rules` cost.
     pub fn rule(
         &self,
         alloc: Global,
@@ -149,42 +149,41 @@ impl Uses {
         number: u32,
         label: Label,
         class: u32,
-        signature: &mut Signature,
-    ) -> Result<Rule, Stop>
-        ensures { (d : Defined) → self.now ≡ kept d → GivesAnd result signature.new (definition.rule_used d at number label class signature.old) }
+        signature: Signature,
+    ) -> Result<(Rule, Signature), Stop>
+        ensures { (d : Defined) → self.now ≡ kept d → Gives result (definition.rule_used d at number label class signature) }
     {
         let code = match self.rule_codes().get(number as usize) {
             Some(code) => code,
             None => return Err(Stop::refuse(Cause::UnknownName, at)),
         };
         let setting = self.setting(label.args.as_slice());
-        let mut met = Met::begun(replace(signature, Signature::new(alloc)));
+        let mut met = Met::begun(signature);
         let value = setting.rule_value(alloc, code, &mut met)?;
-        *signature = met.signature;
-        Ok(rule_of(label, class, value))
+        Ok((rule_of(label, class, value), met.signature))
     }
 
-    /// The bigraph with that number, as a whole expression whose formals have these values.
+    /// The bigraph with that number, as a whole expression whose formals have these values, and the signature then
+    /// reached from this one.
     fn bigraph(
         &self,
         alloc: Global,
         at: u32,
         number: u32,
         values: &[Value],
-        signature: &mut Signature,
-    ) -> Result<Whole, Stop>
-        ensures value { (d : Defined) → self.now ≡ kept d → GivesAnd result signature.new (definition.bigraph_used d at number values.now signature.old) }
-        ensures whole { IfOk result IsWholeValue }
+        signature: Signature,
+    ) -> Result<(Whole, Signature), Stop>
+        ensures value { (d : Defined) → self.now ≡ kept d → Gives result (definition.bigraph_used d at number values.now signature) }
+        ensures whole { IfOk result (λ found. IsWholeValue found.0) }
     {
         let code = match self.codes().get(number as usize) {
             Some(code) => code,
             None => return Err(Stop::refuse(Cause::UnknownName, at)),
         };
         let setting = self.setting(values);
-        let mut met = Met::begun(replace(signature, Signature::new(alloc)));
+        let mut met = Met::begun(signature);
         let whole = setting.whole_value(alloc, code.as_slice(), &mut met)?;
-        *signature = met.signature;
-        Ok(whole)
+        Ok((whole, met.signature))
     }
 
     /// The codes of the bigraphs.

@@ -1,4 +1,4 @@
-use Rattle.std.proofs.Common.{◌≡◌, List, drop}
+use Rattle.std.proofs.Common.{◌≡◌, ◌+◌, List, drop}
 use Rattle.bg_elab.specs.Blocks.{Listed, with_class}
 use Rattle.bg_elab.specs.Calls.{classes_code, listed_codes}
 use Rattle.bg_elab.proofs.Turns.{Toward}
@@ -8,6 +8,6 @@ use Rattle.bg_elab.proofs.blocks.add_classes.Given as goal
 
 abbrev pub invariant-loop-item : goal.invariant-loop-item
 invariant-loop-item l =
-    (done : List Listed) → l.initial.listed.items ≡ listed_codes done
+    (l.class ≡ l.initial.class + l.item-index) × ((done : List Listed) → l.initial.listed.items ≡ listed_codes done
     → Toward classes_code (l.listed.items, l.class) (in_turn (λ (item : SynMoreClItem). with_class l.text l.spaces item.part2) l.items (done, l.initial.class))
-    (in_turn (λ (item : SynMoreClItem). with_class l.text l.spaces item.part2) (drop l.item-index l.items))
+    (in_turn (λ (item : SynMoreClItem). with_class l.text l.spaces item.part2) (drop l.item-index l.items)))

@@ -10,4 +10,4 @@ use Rattle.bg_elab.proofs.systems.add_all_predicates.Given as goal
 abbrev pub invariant-loop-reference : goal.invariant-loop-reference
 invariant-loop-reference l =
     (d : Defined) (rs : List Reference) → l.uses ≡ kept d → l.references ≡ reference_codes rs
-    → in_turn (with_predicates d) rs (l.initial.preds.items, l.initial.signature) ≡ in_turn (with_predicates d) (drop l.reference-index rs) (l.preds.items, l.signature)
+    → in_turn (with_predicates d) rs (l.initial.preds.items, l.fn.signature) ≡ in_turn (with_predicates d) (drop l.reference-index rs) (l.preds.items, l.reached)

@@ -10,4 +10,4 @@ use Rattle.bg_elab.proofs.systems.add_all_rules.Given as goal
 abbrev pub invariant-loop-listed : goal.invariant-loop-listed
 invariant-loop-listed l =
     (d : Defined) (rs : List Listed) → l.uses ≡ kept d → l.references ≡ listed_codes rs
-    → in_turn (with_rules d) rs (l.initial.rules.items, l.initial.signature) ≡ in_turn (with_rules d) (drop l.listed-index rs) (l.rules.items, l.signature)
+    → in_turn (with_rules d) rs (l.initial.rules.items, l.fn.signature) ≡ in_turn (with_rules d) (drop l.listed-index rs) (l.rules.items, l.reached)

@@ -8,10 +8,10 @@ use Rattle.bg_statements.specs.Defined.{Defined}
 use Rattle.bg_statements.specs.InTurn.{in_turn}
 use Rattle.bg_elab.proofs.systems.add_predicates.Given as goal
 
-abbrev pub invariant-loop-values : goal.invariant-loop-values
-invariant-loop-values l =
+abbrev pub invariant-loop-reached : goal.invariant-loop-reached
+invariant-loop-reached l =
     (l.number ≤ 4096) × (l.number ≤ length l.preds.items) × ((d : Defined) (r : Reference) → l.uses ≡ kept d → l.reference ≡ reference_code r
-    → in_turn (with_predicate d r) (choices r.lists) (l.initial.preds.items, l.initial.signature) ≡ in_turn (with_predicate d r) (drop l.number (choices r.lists)) (l.preds.items, l.signature))
+    → in_turn (with_predicate d r) (choices r.lists) (l.initial.preds.items, l.fn.signature) ≡ in_turn (with_predicate d r) (drop l.number (choices r.lists)) (l.preds.items, l.reached))
 
-abbrev pub decreases-loop-values : goal.decreases-loop-values
-decreases-loop-values l = 4096 - l.number
+abbrev pub decreases-loop-reached : goal.decreases-loop-reached
+decreases-loop-reached l = 4096 - l.number
