@@ -74,7 +74,7 @@ def main():
     begun = time.time()
     lines = lines_of_crates()
     names = below(lines)
-    tell(f"proving and building the program, once: {len(names)} crates, on four processors in some forty minutes")
+    tell(f"proving and building the program, once: {len(names)} crates, on four processors within an hour")
     with tempfile.TemporaryDirectory(prefix=f"{PROGRAM}-") as folder:
         room = pathlib.Path(folder)
         lay_out(names, lines, room)
