@@ -126,7 +126,7 @@ node_parts true true false false e = absurd (omega (arith, e))
 node_parts true false atomic rooted e = absurd (omega (arith, e))
 node_parts false ports atomic rooted e = absurd (omega (arith, e))
 
-both : {A B : Bool} → A ≡ true → B ≡ true → (A && B) ≡ true
+pub both : {A B : Bool} → A ≡ true → B ≡ true → (A && B) ≡ true
 both {A} {B} a b = rw (a, b) refl
 
 module _ (signature : List Control) (big : Big) where

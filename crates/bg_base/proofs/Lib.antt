@@ -4,6 +4,8 @@ pub mod IndexLaws
 pub mod SearchLaws
 pub mod ClimbLaws
 pub mod FaultLaws
+pub mod RowRules
+pub mod EqualityLaws
 pub mod NameLaws
 pub mod LookUps
 pub mod Climbs

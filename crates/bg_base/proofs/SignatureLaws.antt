@@ -7,6 +7,7 @@ use Rattle.std.proofs.lemmas.Bool.{false≢true}
 use Rattle.std.proofs.lemmas.Cmp.{eq_by_cmp_equiv, on_equiv}
 use Rattle.std.proofs.lemmas.List.Elements.{All-nil, All-push}
 use Rattle.std.proofs.lemmas.Map.Keys.{IsDistinct-push}
+use Rattle.bg_base.specs.Limits.{most_controls, most_ports}
 use Rattle.bg_base.specs.declared.labels.Label.{Label}
 use Rattle.bg_base.specs.declared.signature.Control.{Control}
 use Rattle.bg_base.specs.Order.{label_cmp}
@@ -45,11 +46,11 @@ none_alike (c ∷ cs) control e =
     rw (alike_equiv.symm control c, head) tail
 
 pub one_more_control : (controls : List Control) (control : Control) → IsSignature controls → number_of controls control.label ≡ None
-    → control.arity ≤ 16 → length controls < 4096 → IsSignature (controls ++ control ∷ [])
+    → control.arity ≤ most_ports → length controls < most_controls → IsSignature (controls ++ control ∷ [])
 one_more_control controls control kept none arity room =
     record {
       few = let few = kept.few in simp length-append (omega arith);
-      arities = All-push (λ c. c.arity ≤ 16) controls control kept.arities arity;
+      arities = All-push (λ c. c.arity ≤ most_ports) controls control kept.arities arity;
       labels_differ = IsDistinct-push alike_equiv controls control kept.labels_differ (none_alike controls control none);
     }
 

@@ -1,7 +1,9 @@
+pub mod Limits
 pub mod Spelling
 pub mod Order
 pub mod OrderLaws
 pub mod LabelLaws
+pub mod Equality
 pub mod Signatures
 pub mod Bigraph
 pub mod Composition
@@ -9,4 +11,5 @@ pub mod Elementary
 pub mod Products
 pub mod Translation
 pub mod Faults
+pub mod RowRules
 pub mod Lookup

@@ -5,6 +5,7 @@ use Rattle.std.specs.List.{IsDistinct}
 use Rattle.std.specs.BTreeMap.{BTreeMap, get}
 use Rattle.bg_base.specs.declared.labels.Label.{Label}
 use Rattle.bg_base.specs.declared.signature.Control.{Control}
+use Rattle.bg_base.specs.Limits.{most_controls, most_ports}
 use Rattle.bg_base.specs.Order.{label_cmp}
 
 -- the two labels are the same
@@ -19,8 +20,8 @@ number_of (control ∷ controls) label =
 
 -- what a signature keeps: at most 4,096 controls, no arity above 16, no label twice
 pub record IsSignature (controls : List Control) : Type 0 where
-  pub few : length controls ≤ 4096
-  pub arities : All (λ control. control.arity ≤ 16) controls
+  pub few : length controls ≤ most_controls
+  pub arities : All (λ control. control.arity ≤ most_ports) controls
   pub labels_differ : IsDistinct (λ (x y : Control). same_label x.label y.label) controls
 
 -- the map leads from each label to the number of its control

@@ -4,7 +4,7 @@ use bg_lists::{Duplicate, Mem, Numbered, Rows};
 use std::alloc::Global;
 
 /// A node: its number, its control by number in the signature, where it lies, and the links of its ports in order.
-#[derive(Debug, Drop)]
+#[derive(Debug, Drop, PartialEq, Eq)]
 pub struct NodeRow {
     pub id: u32,
     pub control: u32,
@@ -13,7 +13,7 @@ pub struct NodeRow {
 }
 
 /// An inner name and the link that it is tied to.
-#[derive(Debug, Drop)]
+#[derive(Debug, Drop, PartialEq, Eq)]
 pub struct InnerRow {
     pub name: Name,
     pub link: Link,
@@ -21,7 +21,7 @@ pub struct InnerRow {
 
 /// A concrete bigraph (Milner, chapter 2), as lists of rows. Site `i` lies in `sites[i]`; the regions are numbered
 /// from 0 to `regions` - 1. In a valid bigraph all lists but `sites` strictly ascend, by number or by name.
-#[derive(Debug, Drop)]
+#[derive(Debug, Drop, PartialEq, Eq)]
 pub struct Big {
     pub nodes: Rows<NodeRow>,
     pub edges: Rows<u32>,

@@ -5,12 +5,15 @@
 //! - [`find_node`], [`has_edge`], [`find_inner`], [`has_outer`]: look-up in a valid bigraph, by number or by name.
 //! - [`Signature`], [`Control`], [`Kind`]: the controls that nodes may have.
 //! - [`Map`], [`Step`], [`Entry`], [`Journal`]: steps of a run.
+//! - [`limits`]: how large things may be.
 #![tactic(auto)]
 
 mod big;
 mod check;
 mod history;
 mod labels;
+mod laws;
+pub mod limits;
 mod links;
 mod look_up;
 mod names;
@@ -21,8 +24,11 @@ pub use big::{Big, InnerRow, NodeRow};
 pub use check::{CheckFault, Part};
 pub use history::{Entry, Journal, Map, Step};
 pub use labels::{Label, Value};
+pub use laws::{
+    equal_bigraphs_are_the_same, equal_signatures_are_the_same, named_rows_are_first_faults,
+};
 pub use links::PortLinks;
 pub use look_up::{find_inner, find_node, has_edge, has_outer};
 pub use names::{Link, Name, Place};
-pub use signature::{Control, Kind, MOST_CONTROLS, MOST_PORTS, Signature, SignatureFault};
+pub use signature::{Control, Kind, Signature, SignatureFault};
 pub use text::{Ident, Text, is_ident, is_text, is_text_byte, is_word_byte};

@@ -65,6 +65,27 @@ impl DerefSlice for PortLinks {
     }
 }
 
+impl PartialEq for PortLinks {
+    ghost use Rattle.std.specs.Cmp.Lexicographic.{pointwise, lists_per};
+    ghost use Rattle.bg_base.specs.contracts.names.LinkPartialEq.TheImpl as of_link;
+    ghost use Rattle.bg_base.specs.contracts.names.LinkPartialEq.TheImpl.Laws.{laws-law};
+
+    ghost eq = { pointwise of_link.ghosts.eq };
+
+    ghost laws = { lists_per laws-law };
+
+    fn eq(&self, other: &Self) -> bool {
+        self.as_slice() == other.as_slice()
+    }
+}
+
+impl Eq for PortLinks {
+    ghost use Rattle.std.specs.Cmp.Lexicographic.{lists_equiv};
+    ghost use Rattle.bg_base.specs.contracts.names.LinkEq.TheImpl.Laws.{laws-law};
+
+    ghost laws = { lists_equiv laws-law };
+}
+
 impl Duplicate for PortLinks {
     fn copy(&self, alloc: Global) -> Mem<PortLinks> {
         let items = link_copies(alloc, self.as_slice())?;

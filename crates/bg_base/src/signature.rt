@@ -1,8 +1,10 @@
 //! Signatures: the controls that the nodes of a bigraph may have.
 ghost use Rattle.std.specs.Prelude.{◌≡◌, ◌≢◌, ◌+◌, ◌<◌, ◌≤◌, ◌↔◌, [], ◌∷◌, ◌++◌, length, IfOk, OnErr, IsErrOf, IfSome, Some, None, IsSome, IsNone, slice_get, option_map};
+ghost use Rattle.bg_base.specs.Limits.{most_controls};
 ghost use Rattle.bg_base.specs.Signatures.{IsNumbering};
 
 use crate::Label;
+use crate::limits::{MOST_CONTROLS, MOST_PORTS};
 use bg_lists::{Duplicate, Mem, OutOfMemory, copies};
 use std::alloc::{AllocError, AllocFailed, Global};
 use std::collections::BTreeMap;
@@ -19,7 +21,7 @@ pub enum Kind {
 }
 
 /// A control: its label, its arity (the number of ports of its nodes, from 0 to 16) and its kind.
-#[derive(Debug, Drop)]
+#[derive(Debug, Drop, PartialEq, Eq)]
 pub struct Control {
     pub label: Label,
     pub arity: u32,
@@ -97,14 +99,9 @@ impl From<OutOfMemory> for SignatureFault {
     }
 }
 
-/// The most controls of a signature.
-pub const MOST_CONTROLS: usize = 4096;
-
-/// The largest arity of a control.
-pub const MOST_PORTS: u32 = 16;
-
 impl Signature {
     ghost use Rattle.std.specs.Prelude.{◌≡◌, ◌≢◌, ◌+◌, ◌<◌, ◌≤◌, ◌↔◌, [], ◌∷◌, ◌++◌, length, IfOk, OnErr, IsErrOf, IfSome, Some, None, IsSome, IsNone, slice_get, option_map};
+    ghost use Rattle.bg_base.specs.Limits.{most_controls, most_ports};
     ghost use Rattle.bg_base.specs.Signatures.{number_of, IsSignature};
 
     /// The empty signature. Takes no memory.
@@ -132,9 +129,9 @@ impl Signature {
         ensures unchanged { OnErr result (self.new ≡ self.old) }
 
         ensures duplicate { IsErrOf result SignatureFault.DuplicateControl ↔ IsSome (number_of self.old label) }
-        ensures arity_too_large { IsErrOf result SignatureFault.ArityTooLarge ↔ (IsNone (number_of self.old label) × (16 < arity)) }
+        ensures arity_too_large { IsErrOf result SignatureFault.ArityTooLarge ↔ (IsNone (number_of self.old label) × (most_ports < arity)) }
         ensures too_many { IsErrOf result SignatureFault.TooManyControls
-            ↔ (IsNone (number_of self.old label) × (arity ≤ 16) × (length self.old ≡ 4096)) }
+            ↔ (IsNone (number_of self.old label) × (arity ≤ most_ports) × (length self.old ≡ most_controls)) }
     {
         if self.find(&label).is_some() {
             return Err(SignatureFault::DuplicateControl);
@@ -143,7 +140,7 @@ impl Signature {
             return Err(SignatureFault::ArityTooLarge);
         }
         let number = self.controls.len();
-        if number >= MOST_CONTROLS {
+        if number >= MOST_CONTROLS as usize {
             return Err(SignatureFault::TooManyControls);
         }
         let key = label.copy(alloc)?;
@@ -188,7 +185,7 @@ impl Signature {
     pub fn arity(&self, control: u32) -> u32
         requires { control < length self.now }
         ensures value { option_map (λ found. found.arity) (slice_get self.now control) ≡ Some result }
-        ensures small { result ≤ 16 }
+        ensures small { result ≤ most_ports }
     {
         self.controls[control as usize].arity
     }
@@ -204,7 +201,7 @@ impl Signature {
 
 /// The map from each label to the number of the first control that has it.
 fn numbers_of(alloc: Global, controls: &[Control]) -> Mem<BTreeMap<Label, u32>>
-    requires { length controls.now ≤ 4096 }
+    requires { length controls.now ≤ most_controls }
     ensures { IfOk result (λ numbers. IsNumbering numbers controls.now) }
 {
     let mut numbers = BTreeMap::new(alloc);
@@ -222,6 +219,27 @@ impl Duplicate for Signature {
         let numbers = numbers_of(alloc, self.controls.as_slice())?;
         Ok(Signature { controls, numbers })
     }
+}
+
+impl PartialEq for Signature {
+    ghost use Rattle.std.specs.Cmp.Lexicographic.{pointwise, lists_per};
+    ghost use Rattle.bg_base.specs.contracts.signature.ControlPartialEq.TheImpl as of_control;
+    ghost use Rattle.bg_base.specs.contracts.signature.ControlPartialEq.TheImpl.Laws.{laws-law};
+
+    ghost eq = { pointwise of_control.ghosts.eq };
+
+    ghost laws = { lists_per laws-law };
+
+    fn eq(&self, other: &Self) -> bool {
+        self.controls.as_slice() == other.controls.as_slice()
+    }
+}
+
+impl Eq for Signature {
+    ghost use Rattle.std.specs.Cmp.Lexicographic.{lists_equiv};
+    ghost use Rattle.bg_base.specs.contracts.signature.ControlEq.TheImpl.Laws.{laws-law};
+
+    ghost laws = { lists_equiv laws-law };
 }
 
 impl Duplicate for Control {

@@ -1,6 +1,7 @@
 -- Results that are no refusal by number 31, and that arithmetic has no other ones.
 use Rattle.std.proofs.Common.{◌≡◌, ℕ, Bool, true, false, cond, ltb, List, [], ◌∷◌, Option, Some, None, Result, Ok, Err, ℤ, pos, negsuc, ◌+ℤ◌, ◌-ℤ◌, ◌*ℤ◌, neg_ℤ, int_div, int_lt, ◌||◌, slice_get, refl, subst, arith}
 use Rattle.std.specs.Ordering.{int_eq}
+use Rattle.bg_base.specs.Limits.{most_values}
 use Rattle.bg_base.specs.declared.labels.Value.{Value}
 use Rattle.bg_base.specs.declared.labels.Value.TheVariants.{Int, Words}
 use Rattle.bg_values.specs.declared.formula.Operator.{Operator}
@@ -88,7 +89,7 @@ few_expected called vs = whether _ (bad (λ e. omega arith)) good
 
 range_expected : (called bracket : ℕ) (a s b : ℤ) → IsExpected (range called bracket a s b)
 range_expected called bracket a s b =
-    whether (is_empty a s b) (bad (λ e. omega arith)) (whether (ltb 4096 (count a s b)) (bad (λ e. omega arith)) good)
+    whether (is_empty a s b) (bad (λ e. omega arith)) (whether (ltb most_values (count a s b)) (bad (λ e. omega arith)) good)
 
 pub evaluated_range_expected : (called bracket : ℕ) (f g h : Operand) → IsExpected (evaluated_range called bracket f g h)
 evaluated_range_expected called bracket f g h =

@@ -1,6 +1,7 @@
 -- What an expression expands to is never refused by number 31 when it is evaluated.
 use Rattle.std.proofs.Common.{ℕ, zero, suc, ◌+◌, Bool, not, ◌||◌, eqb, ltb, List, [], ◌∷◌, ◌++◌, length, Option, Some, None, Result, Ok, Err, slice_get, refl, arith}
 use Rattle.bg_lists.specs.Orders.{set_of}
+use Rattle.bg_base.specs.Limits.{most_controls, most_terms, most_depth, most_expression_nodes, most_expression_edges, most_expression_places}
 use Rattle.bg_base.specs.declared.big.Big.{Big}
 use Rattle.bg_base.specs.declared.labels.Value.{Value}
 use Rattle.bg_base.specs.declared.names.Name.TheVariants.{Plain}
@@ -24,25 +25,25 @@ use Rattle.bg_elab.proofs.Expected.{IsOther, IsExpected, good, bad, goes_on, whe
 -- ---- what is reached
 
 tallied_expected : (at : ℕ) (c : Reached) → IsExpected (tallied at c)
-tallied_expected at c = whether (ltb c.terms 1048576) good (bad (λ e. omega arith))
+tallied_expected at c = whether (ltb c.terms most_terms) good (bad (λ e. omega arith))
 
 entered_at_expected : (at : ℕ) (control : Control) (controls : List Control) (found : Option ℕ) → IsExpected (entered_at at control controls found)
 entered_at_expected at control controls (Some number) = good
-entered_at_expected at control controls None = whether (ltb (length controls) 4096) good (bad (λ e. omega arith))
+entered_at_expected at control controls None = whether (ltb (length controls) most_controls) good (bad (λ e. omega arith))
 
 pub entered_expected : (at : ℕ) (control : Control) (controls : List Control) → IsExpected (entered at control controls)
 entered_expected at control controls = entered_at_expected at control controls (number_of controls control.label)
 
 limited_expected : (at : ℕ) (big : Big) → IsExpected (limited at big)
 limited_expected at big =
-    whether (ltb 65536 (length big.nodes)) (bad (λ e. omega arith)) (whether (ltb 65536 (length big.edges)) (bad (λ e. omega arith))
-    (whether (ltb 65536 big.regions || ltb 65536 (length big.sites)) (bad (λ e. omega arith)) good))
+    whether (ltb most_expression_nodes (length big.nodes)) (bad (λ e. omega arith)) (whether (ltb most_expression_edges (length big.edges)) (bad (λ e. omega arith))
+    (whether (ltb most_expression_places big.regions || ltb most_expression_places (length big.sites)) (bad (λ e. omega arith)) good))
 
 within_expected : (at : ℕ) (big : Big) (c : Reached) → IsExpected (within at big c)
 within_expected at big c = goes_on (limited_expected at big) (λ b. good)
 
 wide_expected : (at width : ℕ) (big : Big) → IsExpected (wide at width big)
-wide_expected at width big = whether (ltb 65536 width) (bad (λ e. omega arith)) good
+wide_expected at width big = whether (ltb most_expression_places width) (bad (λ e. omega arith)) good
 
 combined_expected : (kind : BinaryOperation) (at : ℕ) (f g : Big) → IsExpected (combined kind at f g)
 combined_expected Composition at f g = whether (faces_agree f g) good (bad (λ e. omega arith))
@@ -86,7 +87,7 @@ term_expected (terms.merger_of at width) h depth c =
 term_expected (terms.barren at) h depth c = goes_on (tallied_expected at c) (λ t. within_expected at elementary.barren t)
 term_expected (terms.empty at) h depth c = goes_on (tallied_expected at c) (λ t. within_expected at elementary.empty t)
 term_expected (terms.counted at t) h depth c = goes_on (tallied_expected at c) (λ r. term_expected t h depth r)
-term_expected (terms.deeper at t) h depth c = whether (ltb depth 1024) (term_expected t h (depth + 1) c) (bad (λ e. omega arith))
+term_expected (terms.deeper at t) h depth c = whether (ltb depth most_depth) (term_expected t h (depth + 1) c) (bad (λ e. omega arith))
 term_expected (terms.closure at word t) h depth c =
     goes_on (term_expected t h depth (record c { edges = c.edges + 1 })) (λ v. within_expected at (closed c.edges (Plain word) v.0) v.1)
 term_expected (terms.nesting at is_atom t u) h depth c =

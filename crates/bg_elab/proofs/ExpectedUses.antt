@@ -1,5 +1,6 @@
 -- What statements, rules and uses come to, once they are read, is never refused by number 31; nor is the block.
 use Rattle.std.proofs.Common.{ℕ, zero, suc, not, ltb, List, [], ◌∷◌, length, Option, Some, None, Result, is_some, slice_get, arith}
+use Rattle.bg_base.specs.Limits.{most_rules}
 use Rattle.bg_base.specs.declared.big.Big.{Big}
 use Rattle.bg_base.specs.declared.labels.Label.{Label}
 use Rattle.bg_base.specs.declared.labels.Value.{Value}
@@ -133,7 +134,7 @@ rule_used_expected d at number label class signature =
 -- ---- the block, once its names were looked up
 
 room_expected : (limit : LimitWord) (at count : ℕ) → IsExpected (room_at limit at count)
-room_expected limit at count = whether (ltb count 4096) good (bad (λ e. omega arith))
+room_expected limit at count = whether (ltb count most_rules) good (bad (λ e. omega arith))
 
 label_expected : (r : Reference) (choice : List Value) → IsExpected (label_with r choice)
 label_expected r choice = goes_on (values_expected choice r.arguments) (λ args. good)

@@ -1,5 +1,6 @@
 -- What statements of a text's own tree say is never refused by number 31.
 use Rattle.std.proofs.Common.{ℕ, ltb, List, [], ◌∷◌, length, nat_abs, arith}
+use Rattle.bg_base.specs.Limits.{most_ports}
 use Rattle.bg_base.specs.declared.signature.Kind.TheVariants.{Normal, Atomic}
 use Rattle.bg_statements.specs.Statements.{arity_at}
 use Rattle.bg_syntax.specs.declared.symbol.Symbol.TheVariants as symbols
@@ -15,7 +16,7 @@ use Rattle.bg_elab.proofs.FineFormulas.{number_expected, text_expected}
 use Rattle.bg_elab.proofs.Said.{entry_by}
 
 arity_expected : (text : ScopeParts) (n : ℕ) → IsNumber text n → IsExpected (arity_at text n)
-arity_expected text n h = goes_on (number_expected text n h) (λ z. whether (ltb 16 (nat_abs z)) (bad (λ e. omega arith)) good)
+arity_expected text n h = goes_on (number_expected text n h) (λ z. whether (ltb most_ports (nat_abs z)) (bad (λ e. omega arith)) good)
 
 entry_expected : (text : ScopeParts) (n : ℕ) (done : List ℕ) → IsNumber text n → IsExpected (entry_by text n done)
 entry_expected text n done h = goes_on (goes_on (number_expected text n h) (λ z. good)) (λ entry. good)

@@ -3,6 +3,7 @@ use Rattle.std.proofs.Common.{◌≡◌, ◌+◌, ◌<◌, ◌≤◌, ◌++◌, 
 use Rattle.std.specs.Prelude.{if◌then◌else◌, nat_lt}
 use Rattle.std.proofs.lemmas.Bool.Decides.{nat_tests}
 use Rattle.std.proofs.lemmas.List.{length-append}
+use Rattle.bg_base.specs.Limits.{most_rules}
 use Rattle.bg_base.specs.declared.labels.Value.{Value}
 use Rattle.bg_base.specs.declared.signature.Control.{Control}
 use Rattle.bg_base.specs.Bigraph.{IsValidUnder}
@@ -81,10 +82,10 @@ block_below text init classes preds spaces block is =
 -- ---- what is made in turn
 
 -- where there is room for one more, there are fewer than 4,096
-room_there : (limit : LimitWord) (at count : ℕ) (room : Unit {0}) → room_at limit at count ≡ Ok room → count < 4096
-room_there limit at count room = by _ (nat_lt count 4096) refl
+room_there : (limit : LimitWord) (at count : ℕ) (room : Unit {0}) → room_at limit at count ≡ Ok room → count < most_rules
+room_there limit at count room = by _ (nat_lt count most_rules) refl
   where
-    by : (e : Refusal) (b : Bool) → nat_lt count 4096 ≡ b → (if b then Ok tt else Err e) ≡ Ok room → count < 4096
+    by : (e : Refusal) (b : Bool) → nat_lt count most_rules ≡ b → (if b then Ok tt else Err e) ≡ Ok room → count < most_rules
     by e true less is = grind (arith, nat_tests, less)
     by e false less is = absurd cc
 
@@ -92,7 +93,7 @@ room_there limit at count room = by _ (nat_lt count 4096) refl
 record AreMade {X : Type 0} (P : List Control → X → Type 0) (d : Defined) (before : List Control) (made : List X × List Control) : Type 0 where
   each : (x : X) → Mem x made.0 → P made.1 x
   on : GoesOn d before made.1
-  few : length made.0 ≤ 4096
+  few : length made.0 ≤ most_rules
 
 none_made : {X : Type 0} (P : List Control → X → Type 0) (d : Defined) (signature : List Control) → FitsControls d signature
     → AreMade P d signature ([], signature)
@@ -100,7 +101,7 @@ none_made P d signature fits = record { each = λ x m. elim m [ ]; on = stays d 
 
 -- one more that fits the signature then reached
 one_made : {X : Type 0} (P : List Control → X → Type 0) (d : Defined) (before signature : List Control) (made : List X × List Control) (x : X)
-    → ((s t : List Control) (y : X) → GoesOn d s t → P s y → P t y) → AreMade P d before made → length made.0 < 4096
+    → ((s t : List Control) (y : X) → GoesOn d s t → P s y → P t y) → AreMade P d before made → length made.0 < most_rules
     → GoesOn d made.1 signature → P signature x → AreMade P d before (made.0 ++ x ∷ [], signature)
 one_made P d before signature made x later are less on fits =
     let long = length-append made.0 (x ∷ []) in

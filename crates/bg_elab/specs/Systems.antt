@@ -1,5 +1,6 @@
 -- The system that a model is, or its first refusal.
 use Rattle.std.specs.Prelude.{ℕ, nat_lt, if◌then◌else◌, List, [], ◌∷◌, ◌++◌, length, Result, Ok}
+use Rattle.bg_base.specs.Limits.{most_rules}
 use Rattle.bg_base.specs.declared.labels.Label.{Label}
 use Rattle.bg_base.specs.declared.labels.Value.{Value}
 use Rattle.bg_base.specs.declared.signature.Control.{Control}
@@ -31,7 +32,7 @@ use Rattle.bg_values.specs.Scopes.{ScopeParts}
 
 -- there is room for one more behind so many, of at most 4,096
 abbrev pub room_at : LimitWord → ℕ → ℕ → Result (Unit {0}) Refusal
-room_at limit at count = if nat_lt count 4096 then Ok tt else refused (TooLarge limit) at
+room_at limit at count = if nat_lt count most_rules then Ok tt else refused (TooLarge limit) at
 
 -- what the reference is called, where the parameters that occur have these values
 abbrev pub label_with : Reference → List Value → Result Label Refusal

@@ -8,10 +8,12 @@ ghost use Rattle.bg_statements.specs.Calls.{kept};
 ghost use Rattle.bg_statements.specs.Defined.{Defined};
 ghost use Rattle.bg_statements.specs.InTurn.{in_turn};
 ghost use Rattle.bg_values.specs.Outcome.{Gives};
+ghost use Rattle.bg_base.specs.Limits.{most_rules};
 
 use crate::blocks::{Block, Listed};
 use crate::choice;
 use crate::references::Reference;
+use bg_base::limits::MOST_RULES;
 use bg_base::{Signature, Value};
 use bg_lists::{Duplicate, Rows};
 use bg_rules::{Host, Predicate, Rule, System};
@@ -48,9 +50,9 @@ fn init_of(
 /// Refuses where there are 4,096 already.
 fn check_room(limit: LimitWord, at: u32, count: usize) -> Result<(), Refusal>
     ensures room { result ≡ definition.room_at limit at count }
-    ensures few { IfOk result (λ _. count < 4096) }
+    ensures few { IfOk result (λ _. count < most_rules) }
 {
-    if count < 4096 {
+    if count < MOST_RULES {
         Ok(())
     } else {
         Err(Refusal::new(Cause::TooLarge(limit), at))
@@ -124,7 +126,7 @@ fn add_rule(
 ) -> Result<Signature, Stop>
     ensures made { (d : Defined) (l : ListedValue) → uses.now ≡ kept d → listed.now ≡ listed_code l → Makes result rules.new.items (definition.with_rule d l choice.now (rules.old.items, signature)) }
     ensures one_more { IfOk result (λ _. length rules.new.items ≡ length rules.old.items + 1) }
-    ensures few { IfOk result (λ _. length rules.new.items ≤ 4096) }
+    ensures few { IfOk result (λ _. length rules.new.items ≤ most_rules) }
 {
     let reference = &listed.reference;
     check_room(LimitWord::Rules, reference.at, rules.len())?;
@@ -208,7 +210,7 @@ fn add_predicate(
 ) -> Result<Signature, Stop>
     ensures made { (d : Defined) (r : ReferenceValue) → uses.now ≡ kept d → reference.now ≡ reference_code r → Makes result preds.new.items (definition.with_predicate d r choice.now (preds.old.items, signature)) }
     ensures one_more { IfOk result (λ _. length preds.new.items ≡ length preds.old.items + 1) }
-    ensures few { IfOk result (λ _. length preds.new.items ≤ 4096) }
+    ensures few { IfOk result (λ _. length preds.new.items ≤ most_rules) }
 {
     check_room(LimitWord::Preds, reference.at, preds.len())?;
     let label = reference.label(alloc, choice)?;

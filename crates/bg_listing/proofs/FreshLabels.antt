@@ -2,6 +2,7 @@
 use Rattle.std.proofs.Common.{◌≡◌, ℕ, zero, suc, ◌+◌, ◌<◌, ◌≤◌, Bool, true, false, None, List, [], ◌∷◌, ◌++◌, length, lit≤, refl, sym, ap, subst, append_assoc, append-nil, arith}
 use Rattle.std.specs.List.{AllByRecursion, list_all}
 use Rattle.std.proofs.lemmas.List.{length-append}
+use Rattle.bg_base.specs.Limits.{most_controls}
 use Rattle.bg_base.specs.declared.labels.Label.{Label}
 use Rattle.bg_base.specs.declared.signature.Kind.TheVariants.{Normal}
 use Rattle.bg_base.specs.declared.signature.Control.{Control}
@@ -73,7 +74,7 @@ all_one : (controls : List Control) (c : Control) → AllByRecursion IsControl c
 all_one [] c all f = (f, tt)
 all_one (x ∷ controls) c all f = (all.0, all_one controls c all.1 f)
 
-goes_on_by : (m k : ℕ) (controls : List Control) → AreShorter k controls → IsSignature controls → AllByRecursion IsControl controls → length controls + m ≤ 4096 → GoesOnBy controls m
+goes_on_by : (m k : ℕ) (controls : List Control) → AreShorter k controls → IsSignature controls → AllByRecursion IsControl controls → length controls + m ≤ most_controls → GoesOnBy controls m
 unfolding fresh
 goes_on_by zero k controls s kept all few =
     record { more = []; many = refl; signature = subst IsSignature (sym (append-nil controls)) kept; all = subst (AllByRecursion IsControl) (sym (append-nil controls)) all }
@@ -83,15 +84,15 @@ goes_on_by (suc m) k controls s kept all few =
     let name : length c.label.name ≡ suc k = ap suc long in
     let le : k ≤ length c.label.name = omega (arith, name) in
     let none : number_of controls c.label ≡ None = not_among controls c.label (shorter_more k (length c.label.name) controls le s) in
-    let room : length controls < 4096 = omega arith in
+    let room : length controls < most_controls = omega arith in
     let one : IsSignature (controls ++ c ∷ []) = one_more_control controls c kept none (lit≤ tt) room in
     let lt : length c.label.name < suc (suc k) = omega (arith, name) in
     let le2 : k ≤ suc (suc k) = omega arith in
     let shorter : AreShorter (suc (suc k)) (controls ++ c ∷ []) = shorter_append (suc (suc k)) controls (c ∷ []) (shorter_more k (suc (suc k)) controls le2 s) (lt, tt) in
-    let fewer : length (controls ++ c ∷ []) + m ≤ 4096 = omega (arith, length-append controls (c ∷ [])) in
+    let fewer : length (controls ++ c ∷ []) + m ≤ most_controls = omega (arith, length-append controls (c ∷ [])) in
     let g = goes_on_by m (suc (suc k)) (controls ++ c ∷ []) shorter one (all_one controls c all (fresh_is k)) fewer in
     let moved : (controls ++ c ∷ []) ++ g.more ≡ controls ++ c ∷ g.more = append_assoc controls (c ∷ []) g.more in
     record { more = c ∷ g.more; many = ap suc g.many; signature = subst IsSignature moved g.signature; all = subst (AllByRecursion IsControl) moved g.all }
 
-pub continued : (m : ℕ) (controls : List Control) → IsSignature controls → AllByRecursion IsControl controls → length controls + m ≤ 4096 → GoesOnBy controls m
+pub continued : (m : ℕ) (controls : List Control) → IsSignature controls → AllByRecursion IsControl controls → length controls + m ≤ most_controls → GoesOnBy controls m
 continued m controls kept all few = let k = longest controls in goes_on_by m k.0 controls k.1 kept all few

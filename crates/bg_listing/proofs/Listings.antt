@@ -4,10 +4,11 @@ use Rattle.std.specs.Prelude.{codes}
 use Rattle.std.specs.List.{flat_map, AllByRecursion}
 use Rattle.std.specs.Fmt.{decimal}
 use Rattle.std.proofs.lemmas.Bool.{leb-true, le-leb}
+use Rattle.bg_base.specs.Limits.{most_controls, most_ports, most_rows}
 use Rattle.bg_base.specs.declared.signature.Control.{Control}
 use Rattle.bg_base.specs.declared.big.Big.{Big}
 use Rattle.bg_listing.specs.Spelling.{space, line_feed, chain_text, place_text, link_text, label_text, edge_line, place_line, name_line, inner_line, control_line, count_line, section_text, signature_text}
-use Rattle.bg_listing.specs.Limits.{greatest, most_rows, most_controls, most_ports, IsNumber, IsPlace, IsName, IsLink, IsInner, IsLabel, IsControl, AreCounted}
+use Rattle.bg_listing.specs.Limits.{greatest, IsNumber, IsPlace, IsName, IsLink, IsInner, IsLabel, IsControl, AreCounted}
 use Rattle.bg_listing.specs.Combinators.{each}
 use Rattle.bg_listing.specs.Lines.{Bad, bad_line, too_many, or_bad_line, row, count_at, section_at, edge_row, place_row, name_row, inner_row, control_row, NodeParts, row_of, links_at, node_at, node_row, signature_at, Sections, big_of, big_at}
 use Rattle.bg_listing.proofs.Combinators.{Holds, found, refused, Reads, Anything, holds_bind, mapped_reads, viewed_reads, fits_reads, map_same, behind_reads, line_reads, only_if_reads, both_read, chain_reads, chain_begins, AreThisMany, each_reads, each_again}

@@ -7,6 +7,7 @@ use Rattle.std.specs.Fmt.{decimal}
 use Rattle.std.proofs.lemmas.Bool.{and_parts, and_from}
 use Rattle.std.proofs.lemmas.Fmt.{digits_decimal}
 use Rattle.std.proofs.lemmas.List.Folds.{list_all-append}
+use Rattle.bg_base.specs.Limits.{most_ports}
 use Rattle.bg_base.specs.Spelling.{is_word_byte, is_text_byte}
 use Rattle.bg_base.specs.declared.names.Name.{Name}
 use Rattle.bg_base.specs.declared.names.Name.TheVariants.{Plain, Port, Opened}
@@ -21,7 +22,7 @@ use Rattle.bg_base.specs.declared.signature.Kind.{Kind}
 use Rattle.bg_base.specs.declared.signature.Kind.TheVariants.{Normal, Atomic}
 use Rattle.bg_base.specs.declared.signature.Control.{Control}
 use Rattle.bg_listing.specs.Spelling.{space, line_feed, comma, closing_bracket, chain_text, place_text, name_text, link_text, value_text, args_text, label_text, kind_text, edge_line, place_line, name_line, inner_line, control_line, count_line}
-use Rattle.bg_listing.specs.Limits.{greatest, most_ports, IsNumber, IsPlace, IsName, IsLink, IsInner, IsValue, IsLabel, IsControl}
+use Rattle.bg_listing.specs.Limits.{greatest, IsNumber, IsPlace, IsName, IsLink, IsInner, IsValue, IsLabel, IsControl}
 use Rattle.bg_listing.specs.Combinators.{◌>>=◌, behind, line}
 use Rattle.bg_listing.specs.Reading.{number_at, place_at, name_at, inner_at, control_at}
 use Rattle.bg_listing.specs.Lines.{Bad, bad_line, too_many, or_bad_line, row, node_at, count_at, edge_row, place_row, name_row, inner_row, control_row, NodeParts, row_of, node_row}

@@ -3,6 +3,7 @@ use Rattle.std.proofs.Common.{◌≡◌, ℕ, suc, ◌+◌, ◌<◌, ◌≤◌, 
 use Rattle.std.specs.Prelude.{IfOk, IfSome, option_map, is_some}
 use Rattle.std.specs.List.{AllByRecursion}
 use Rattle.std.proofs.lemmas.List.{length-append, length-map}
+use Rattle.bg_base.specs.Limits.{most_controls, most_ports}
 use Rattle.bg_base.specs.declared.signature.Control.{Control}
 use Rattle.bg_base.specs.declared.big.Big.{Big}
 use Rattle.bg_base.specs.declared.check.Part.{Part}
@@ -15,7 +16,7 @@ use Rattle.bg_listing.specs.declared.fault.ListingFault.{ListingFault}
 use Rattle.bg_listing.specs.declared.fault.ListingFault.TheVariants as fault
 use Rattle.bg_listing.specs.declared.cursor.Cursor.{Cursor}
 use Rattle.bg_listing.specs.Spelling.{signature_text, big_text}
-use Rattle.bg_listing.specs.Limits.{most_controls, AreCounted, IsControl, IsReadableSignature, IsReadableBig}
+use Rattle.bg_listing.specs.Limits.{AreCounted, IsControl, IsReadableSignature, IsReadableBig}
 use Rattle.bg_listing.specs.Lines as lines
 use Rattle.bg_listing.specs.Lines.{signature_at, big_at}
 use Rattle.bg_listing.specs.Verdict.{Stands, Refusal, judged, repeat_among, first_repeat, without_repeat, signature_verdict, rows_of, lines_before, without_fault, big_verdict, Answers, Reads}
@@ -95,7 +96,7 @@ repeat_here whole made c rest some e =
     e ∙ ap (shifted (length made)) step ∙ ap Some zero_more
 
 -- a control among those that the first pass read is within the limits
-pub control_fits : (whole made : List Control) (c : Control) (rest : List Control) → made ++ c ∷ rest ≡ whole → AreCounted most_controls IsControl whole → (c.arity ≤ 16) × (length made < 4096)
+pub control_fits : (whole made : List Control) (c : Control) (rest : List Control) → made ++ c ∷ rest ≡ whole → AreCounted most_controls IsControl whole → (c.arity ≤ most_ports) × (length made < most_controls)
 control_fits whole made c rest e f =
     let here : IsControl c = all_here IsControl made c rest (subst (AllByRecursion IsControl) (sym e) f.all) in
     let many = f.many in

@@ -3,6 +3,7 @@ use Rattle.std.proofs.Common.{◌≡◌, ℕ, suc, ◌+◌, ◌-◌, ◌<◌, �
 use Rattle.std.specs.Prelude.{IfSome, codes}
 use Rattle.std.specs.List.{AllByRecursion}
 use Rattle.std.proofs.lemmas.List.{length-append, take-append-drop, take_at}
+use Rattle.bg_base.specs.Limits.{most_controls, most_rows}
 use Rattle.bg_base.specs.declared.signature.Kind.TheVariants.{Normal}
 use Rattle.bg_base.specs.declared.signature.Control.{Control}
 use Rattle.bg_base.specs.declared.big.NodeRow.{NodeRow}
@@ -12,7 +13,7 @@ use Rattle.bg_base.specs.declared.check.Part.TheVariants.{Sites, Inner, Outer, E
 use Rattle.bg_base.specs.Faults.{fault_of, codes_from, first_fault, shifted, or_else, sites_fault, inner_fault, outer_fault, edges_fault, nodes_fault, site_code, inner_code, outer_code, edge_code, node_code}
 use Rattle.bg_listing.specs.declared.cursor.Cursor.{Cursor}
 use Rattle.bg_listing.specs.Spelling.{label_of, place_line, inner_line, name_line, edge_line, count_line, section_text, signature_text}
-use Rattle.bg_listing.specs.Limits.{most_rows, most_controls, IsNumber, IsPlace, IsName, IsInner, AreCounted}
+use Rattle.bg_listing.specs.Limits.{IsNumber, IsPlace, IsName, IsInner, AreCounted}
 use Rattle.bg_listing.specs.Combinators.{both}
 use Rattle.bg_listing.specs.Lines.{Bad, count_at, section_at, edge_row, place_row, name_row, inner_row, node_row, NodeParts, row_of, Sections, big_of, signature_at, big_at}
 use Rattle.bg_listing.specs.Verdict.{line_feeds, IsAt, Refusal, line_of, judged, first_repeat, without_repeat, without_fault, lines_before, signature_verdict, big_verdict}

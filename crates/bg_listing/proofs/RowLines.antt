@@ -3,6 +3,7 @@ use Rattle.std.proofs.Common.{◌≡◌, ℕ, zero, suc, ◌+◌, ◌<◌, ◌�
 use Rattle.std.specs.Prelude.{IfSome, codes, option_map, slice_get}
 use Rattle.std.specs.List.{flat_map, AllByRecursion}
 use Rattle.std.proofs.lemmas.List.{length-map}
+use Rattle.bg_base.specs.Limits.{most_controls, most_rows}
 use Rattle.bg_base.specs.declared.names.Name.{Name}
 use Rattle.bg_base.specs.declared.names.Place.{Place}
 use Rattle.bg_base.specs.declared.signature.Control.{Control}
@@ -14,7 +15,7 @@ use Rattle.bg_base.specs.declared.check.Part.TheVariants.{Sites, Inner, Outer, E
 use Rattle.bg_base.specs.Faults.{fault_of}
 use Rattle.bg_listing.specs.declared.cursor.Cursor.{Cursor}
 use Rattle.bg_listing.specs.Spelling.{place_line, inner_line, name_line, edge_line, node_line, control_line, count_line, section_text, signature_text, big_text}
-use Rattle.bg_listing.specs.Limits.{most_rows, most_controls, IsNumber, IsPlace, IsName, IsInner, IsNode, IsControl, AreCounted}
+use Rattle.bg_listing.specs.Limits.{IsNumber, IsPlace, IsName, IsInner, IsNode, IsControl, AreCounted}
 use Rattle.bg_listing.specs.Lines.{signature_at, big_at}
 use Rattle.bg_listing.specs.Verdict.{line_feeds, first_repeat, without_repeat, lines_before, without_fault, signature_verdict, big_verdict}
 use Rattle.bg_listing.specs.Stops.{AreLines, HasText, Listed, listed_text, IsListed, AreListed}

@@ -3,6 +3,7 @@ use Rattle.std.proofs.Common.{◌≡◌, ℕ, suc, ◌+◌, ◌<◌, ◌≤◌, 
 use Rattle.std.specs.Prelude.{IfSome, IsTrue, codes, option_map, is_some}
 use Rattle.std.specs.Ordering.{nat_cmp}
 use Rattle.std.proofs.lemmas.List.Elements.{recursion_from_All}
+use Rattle.bg_base.specs.Limits.{most_controls, most_rows}
 use Rattle.bg_base.specs.declared.names.Name.{Name}
 use Rattle.bg_base.specs.declared.names.Place.{Place}
 use Rattle.bg_base.specs.declared.signature.Control.{Control}
@@ -18,7 +19,7 @@ use Rattle.bg_base.specs.Faults.{fault_of, codes_from, first_fault, shifted, or_
 use Rattle.bg_base.proofs.FaultLaws.{no_fault, none_parts}
 use Rattle.bg_listing.specs.declared.cursor.Cursor.{Cursor}
 use Rattle.bg_listing.specs.Spelling.{control_line, place_line, inner_line, name_line, edge_line, count_line, section_text, signature_text, big_text}
-use Rattle.bg_listing.specs.Limits.{most_rows, most_controls, IsNumber, IsPlace, IsName, IsInner, AreCounted, IsControl, IsReadableSignature, IsReadableBig}
+use Rattle.bg_listing.specs.Limits.{IsNumber, IsPlace, IsName, IsInner, AreCounted, IsControl, IsReadableSignature, IsReadableBig}
 use Rattle.bg_listing.specs.Lines.{Bad, NodeParts, row_of, Sections, signature_at, big_at}
 use Rattle.bg_listing.specs.Verdict.{IsAt, Refusal, line_of, judged, repeat_among, first_repeat, without_repeat, lines_before, without_fault, signature_verdict, big_verdict}
 use Rattle.bg_listing.specs.Stops.{Begins, StopsAtLine, HasText, NoneFromLine, is_settled, AreListed, listed_text, IsListed}
@@ -104,10 +105,10 @@ unfolding signature_text
 signature_begins controls front control later fits rows clean =
     let word : List ℕ = codes "signature " in
     let all = all_front IsControl front control later (subst (AllByRecursion IsControl) rows fits.all) in
-    let most : length controls ≤ 4096 = fits.many in
+    let most : length controls ≤ most_controls = fits.many in
     let long : length controls ≡ length front + suc (length later) = ap length rows ∙ length-append front (control ∷ later) in
-    let few : length front ≤ 4096 = omega (arith, long) in
-    let room : length front + suc (length later) ≤ 4096 = omega (arith, long) in
+    let few : length front ≤ most_controls = omega (arith, long) in
+    let room : length front + suc (length later) ≤ most_controls = omega (arith, long) in
     let kept : IsSignature front = signature_among [] front no_controls few all.0 clean in
     let g = continued (suc (length later)) front kept all.0 room in
     let many : length (front ++ g.more) ≡ length controls = omega (arith, long, length-append front g.more, g.many) in

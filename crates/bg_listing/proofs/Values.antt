@@ -6,12 +6,13 @@ use Rattle.std.proofs.lemmas.List.{length-map}
 use Rattle.std.proofs.lemmas.List.Folds.{flat_map-map}
 use Rattle.std.proofs.lemmas.List.Elements.{recursion_from_All}
 use Rattle.bg_lists.proofs.Members.{map-map}
+use Rattle.bg_base.specs.Limits.{most_controls, most_ports}
 use Rattle.bg_base.specs.declared.signature.Control.{Control}
 use Rattle.bg_base.specs.declared.big.NodeRow.{NodeRow}
 use Rattle.bg_base.specs.declared.big.Big.{Big}
 use Rattle.bg_base.specs.Signatures.{same_label, IsSignature}
 use Rattle.bg_listing.specs.Spelling.{label_of, place_line, inner_line, name_line, edge_line, count_line, section_text, signature_text, big_text}
-use Rattle.bg_listing.specs.Limits.{most_controls, IsLabel, IsControl, IsNode, AreCounted, IsReadableSignature, IsSpelledBig}
+use Rattle.bg_listing.specs.Limits.{IsLabel, IsControl, IsNode, AreCounted, IsReadableSignature, IsSpelledBig}
 use Rattle.bg_listing.specs.Lines.{Bad, control_of, NodeParts, row_of, Sections, big_of, signature_at, big_at}
 use Rattle.bg_listing.specs.Stops.{Listed}
 use Rattle.bg_listing.specs.RowLines.{seen_under}
@@ -132,12 +133,12 @@ labels_of (c ∷ controls) all = (all.0.label, labels_of controls all.1)
 pub readable_signature : (controls : List Control) → AreCounted most_controls IsControl controls → IsSignature controls → IsReadableSignature controls
 readable_signature controls f s = record { signature = s; labels = labels_of controls f.all }
 
-controls_of : (controls : List Control) → AllByRecursion (λ (c : Control). IsLabel c.label) controls → AllByRecursion (λ (c : Control). c.arity ≤ 16) controls → AllByRecursion IsControl controls
+controls_of : (controls : List Control) → AllByRecursion (λ (c : Control). IsLabel c.label) controls → AllByRecursion (λ (c : Control). c.arity ≤ most_ports) controls → AllByRecursion IsControl controls
 controls_of [] labels arities = tt
 controls_of (c ∷ controls) labels arities = (record { label = labels.0; arity = arities.0 }, controls_of controls labels.1 arities.1)
 
 pub counted_signature : (controls : List Control) → IsReadableSignature controls → AreCounted most_controls IsControl controls
-counted_signature controls f = record { many = f.signature.few; all = controls_of controls f.labels (recursion_from_All (λ (c : Control). c.arity ≤ 16) controls f.signature.arities) }
+counted_signature controls f = record { many = f.signature.few; all = controls_of controls f.labels (recursion_from_All (λ (c : Control). c.arity ≤ most_ports) controls f.signature.arities) }
 
 pub signature_again : (controls : List Control) (rest : List ℕ) → IsReadableSignature controls → signature_at (signature_text controls ++ rest) ≡ Ok (controls, rest)
 signature_again controls rest f = controls_read.again controls rest (counted_signature controls f) tt

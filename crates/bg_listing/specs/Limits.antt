@@ -1,6 +1,7 @@
 -- What has a spelling that a reader of listings takes.
 use Rattle.std.specs.Prelude.{ℕ, ◌≤◌, ℤ, pos, negsuc, Bool, false, List, [], ◌∷◌, length, IsTrue}
 use Rattle.std.specs.List.{list_all, AllByRecursion}
+use Rattle.bg_base.specs.Limits.{most_ports, most_rows}
 use Rattle.bg_base.specs.Spelling.{is_word_byte, is_text_byte, is_lower_case, is_upper_case}
 use Rattle.bg_base.specs.declared.names.Name.{Name}
 use Rattle.bg_base.specs.declared.names.Name.TheVariants.{Plain, Port, Opened}
@@ -68,17 +69,6 @@ abbrev pub IsLabel : Label → Type 0
 IsLabel label = IsWord is_upper_case label.name × AllByRecursion IsValue label.args
 
 -- ---- whole values
-
--- the most rows of each part of a bigraph, and the most regions
-abbrev pub most_rows : ℕ
-most_rows = 65536
-
-abbrev pub most_controls : ℕ
-most_controls = 4096
-
--- the largest arity of a control
-abbrev pub most_ports : ℕ
-most_ports = 16
 
 -- at most so many, and each of them with a spelling
 pub record AreCounted {A : Type 0} (most : ℕ) (Fits : A → Type 0) (xs : List A) : Type 0 where

@@ -1,5 +1,6 @@
 -- The reading functions of lines and of listings. They refuse with a code and the bytes left at the bad line.
 use Rattle.std.specs.Prelude.{ℕ, nat_le, List, Result, Ok, Err, length, codes, unwrap_or}
+use Rattle.bg_base.specs.Limits.{most_controls, most_ports, most_rows}
 use Rattle.bg_base.specs.declared.names.Name.{Name}
 use Rattle.bg_base.specs.declared.names.Place.{Place}
 use Rattle.bg_base.specs.declared.names.Link.{Link}
@@ -10,7 +11,7 @@ use Rattle.bg_base.specs.declared.big.NodeRow.{NodeRow}
 use Rattle.bg_base.specs.declared.big.Big.{Big}
 use Rattle.bg_base.specs.Signatures.{number_of}
 use Rattle.bg_listing.specs.Spelling.{space, line_feed}
-use Rattle.bg_listing.specs.Limits.{greatest, most_rows, most_controls, most_ports}
+use Rattle.bg_listing.specs.Limits.{greatest}
 use Rattle.bg_listing.specs.Combinators.{◌>>=◌, mapped, behind, line, only_if, both, each, chain}
 use Rattle.bg_listing.specs.Reading.{number_at, place_at, name_at, link_at, inner_at, label_at, control_at}
 

@@ -1,10 +1,11 @@
 -- The line at which a text stops being the listing of a value.
 use Rattle.std.specs.Prelude.{◌≡◌, ℕ, ◌+◌, Bool, true, ◌||◌, List, [], ◌∷◌, ◌++◌, drop, ◌==◌, if◌then◌else◌}
+use Rattle.bg_base.specs.Limits.{most_controls}
 use Rattle.bg_base.specs.declared.signature.Control.{Control}
 use Rattle.bg_base.specs.declared.big.Big.{Big}
 use Rattle.bg_listing.specs.declared.cursor.Cursor.{Cursor}
 use Rattle.bg_listing.specs.Spelling.{line_feed, big_text}
-use Rattle.bg_listing.specs.Limits.{most_controls, AreCounted, IsControl, IsSpelledBig}
+use Rattle.bg_listing.specs.Limits.{AreCounted, IsControl, IsSpelledBig}
 use Rattle.bg_listing.specs.Verdict.{line_feeds}
 
 -- the bytes up to and with the first line feed; all of them where there is none

@@ -7,12 +7,10 @@ ghost use Rattle.bg_listing.specs.Verdict.{IsAt, LeavesRoom, SignatureLeft, rows
 use crate::cursor::Cursor;
 use crate::fault::LineFault;
 use crate::lines::{count, section};
-use bg_base::{Big, Control, InnerRow, MOST_CONTROLS, Name, NodeRow, Place, Signature};
+use bg_base::limits::{MOST_CONTROLS, MOST_ROWS};
+use bg_base::{Big, Control, InnerRow, Name, NodeRow, Place, Signature};
 use bg_lists::Rows;
 use std::alloc::Global;
-
-/// The most rows of a part of a bigraph, and the most regions.
-const MOST_ROWS: u32 = 65_536;
 
 /// The rows of the signature at the cursor, whatever labels they repeat, and the bytes behind it.
 pub(crate) fn control_rows_at<'a>(
@@ -47,7 +45,7 @@ pub(crate) fn big_rows_at<'a>(
 fn control_rows(alloc: Global, bytes: &[u8]) -> Result<(Rows<Control>, &[u8]), LineFault>
     ensures { GivesLines (λ x. (x.0, x.1.now)) result (signature_at bytes.now) }
 {
-    section::<Control>(alloc, &(), bytes, b"signature ", MOST_CONTROLS as u32)
+    section::<Control>(alloc, &(), bytes, b"signature ", MOST_CONTROLS)
 }
 
 #[tactic(auto, unfolding(crate::specs::Lines::big_at))]

@@ -1,17 +1,19 @@
 //! The readers of listings.
 ghost use Rattle.std.specs.Prelude.{◌≡◌, ◌+◌, ◌-◌, ◌<◌, ◌≤◌, ◌^◌, ◌++◌, List, ℕ, length, drop, IfOk};
+ghost use Rattle.bg_base.specs.Limits.{most_controls};
 ghost use Rattle.bg_base.specs.declared.signature.Control.{Control as ControlValue};
 ghost use Rattle.bg_base.specs.declared.big.Big.{Big as BigValue};
 ghost use Rattle.bg_base.specs.Signatures.{IsSignature};
 ghost use Rattle.bg_base.specs.Bigraph.{IsValidUnder};
 ghost use Rattle.bg_listing.specs.Spelling.{signature_text, big_text};
-ghost use Rattle.bg_listing.specs.Limits.{most_controls, AreCounted, IsControl, IsReadableSignature, IsReadableBig};
+ghost use Rattle.bg_listing.specs.Limits.{AreCounted, IsControl, IsReadableSignature, IsReadableBig};
 ghost use Rattle.bg_listing.specs.Verdict as verdict;
 ghost use Rattle.bg_listing.specs.Verdict.{IsAt, Stands, Reads, Answers, Makes, signature_verdict, big_verdict, rows_of};
 
 use crate::cursor::{Cursor, cursor_before, line_before};
 use crate::fault::{DUPLICATE_LABEL, LineFault, ListingFault};
 use crate::first_pass::{big_rows_at, control_rows_at};
+use bg_base::limits::MOST_CONTROLS;
 use bg_base::{Big, CheckFault, Control, Part, Signature, SignatureFault};
 use bg_lists::Rows;
 use std::alloc::Global;
@@ -52,7 +54,7 @@ pub fn read_big(
     ensures exact { Answers bytes.now result (big_verdict signature.now bytes.now at) }
 {
     // What a signature keeps, labels that differ among it, is known from here on.
-    prove!(signature.len() <= 4096);
+    prove!(signature.len() <= MOST_CONTROLS);
     judged_big(alloc, bytes, at, signature)
 }
 
@@ -119,7 +121,7 @@ fn without_repeat(
         }
     }
     // What a signature keeps is known here.
-    prove!(signature.len() <= 4096);
+    prove!(signature.len() <= MOST_CONTROLS);
     Ok(signature)
 }
 

@@ -1,5 +1,6 @@
 -- The code of an expression comes to the value of its term.
 use Rattle.std.proofs.Common.{◌≡◌, ℕ, zero, suc, ◌+◌, ◌-◌, nat_lt, Bool, true, false, cond, arith, List, [], ◌∷◌, ◌++◌, map, Option, Some, None, Result, Ok, Err, refl, ap, ◌∙◌, slice_get}
+use Rattle.bg_base.specs.Limits.{most_depth}
 use Rattle.bg_base.specs.declared.big.Big.{Big}
 use Rattle.bg_base.specs.declared.labels.Value.{Value}
 use Rattle.bg_base.specs.declared.names.Name.TheVariants.{Plain}
@@ -138,7 +139,7 @@ module _ (shapes : List Shape) where
   runs {ms} {ts} agree env (brackets at e) s =
       counted_go s (expand shapes ts env e) (tallied at s.reached) (run shapes ms env (code_of e)) (λ c. runs agree env e (record s { reached = c }))
   runs {ms} {ts} agree env (deeper at e) s =
-      deeper_go at s (nat_lt s.depth 1024) (run shapes ms env (code_of e ++ operations.Leave ∷ [])) (expand shapes ts env e)
+      deeper_go at s (nat_lt s.depth most_depth) (run shapes ms env (code_of e ++ operations.Leave ∷ [])) (expand shapes ts env e)
       (run_append shapes ms env (code_of e) (operations.Leave ∷ []) (record s { depth = s.depth + 1 })
       ∙ ap (λ z. z >>= run shapes ms env (operations.Leave ∷ [])) (runs agree env e (record s { depth = s.depth + 1 }))
       ∙ left_go shapes ms env s (value (s.depth + 1) (expand shapes ts env e) s.reached))

@@ -1,5 +1,6 @@
 -- What calls of the machine as a program say.
 use Rattle.std.specs.Prelude.{◌≤◌, List, Result, Ok, All}
+use Rattle.bg_base.specs.Limits.{most_ports}
 use Rattle.bg_base.specs.declared.signature.Control.{Control}
 use Rattle.bg_values.specs.declared.refusal.Refusal.{Refusal}
 use Rattle.bg_values.specs.declared.refusal.Cause.TheVariants.{Unexpected}
@@ -17,7 +18,7 @@ use Rattle.bg_base.specs.declared.big.Big.{Big}
 
 -- no arity of the controls is above 16
 abbrev pub AreSmall : List (Entry ControlEntry) → Type 0
-AreSmall controls = All (λ (shape : Shape). shape.arity ≤ 16) (shapes_of controls)
+AreSmall controls = All (λ (shape : Shape). shape.arity ≤ most_ports) (shapes_of controls)
 
 -- a statement begins: these controls were met, and no term
 abbrev pub begun : List Control → Met

@@ -1,5 +1,6 @@
 -- What the machine does.
 use Rattle.std.specs.Prelude.{ℕ, ◌+◌, ◌-◌, nat_lt, if◌then◌else◌, List, [], ◌∷◌, ◌++◌, Option, Some, None, Result, Ok, slice_get}
+use Rattle.bg_base.specs.Limits.{most_depth}
 use Rattle.bg_base.specs.declared.big.Big.{Big}
 use Rattle.bg_base.specs.declared.labels.Value.{Value}
 use Rattle.bg_base.specs.declared.signature.Control.{Control}
@@ -76,7 +77,7 @@ counted_node at vs found words c = tallied at c >>= evaluated_node at vs found w
 
 -- one `K` more is open, of at most 1,024
 abbrev pub deeper_by_one : ℕ → State → Result State Refusal
-deeper_by_one at s = if nat_lt s.depth 1024 then Ok (record s { depth = s.depth + 1 }) else refused (TooLarge Depth) at
+deeper_by_one at s = if nat_lt s.depth most_depth then Ok (record s { depth = s.depth + 1 }) else refused (TooLarge Depth) at
 
 abbrev pub back_by_one : State → State
 back_by_one s = record s { depth = s.depth - 1 }

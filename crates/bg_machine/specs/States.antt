@@ -1,5 +1,6 @@
 -- States of the machine that evaluates expressions.
 use Rattle.std.specs.Prelude.{ℕ, ◌≤◌, List, ◌∷◌, Result, Ok}
+use Rattle.bg_base.specs.Limits.{most_expression_places}
 use Rattle.bg_base.specs.declared.big.Big.{Big}
 use Rattle.bg_base.specs.Bigraph.{IsValid}
 use Rattle.bg_values.specs.declared.refusal.Refusal.{Refusal}
@@ -17,7 +18,7 @@ pub record State : Type 0 where
 -- a bigraph that may stand on the stack: valid, with at most 65,536 regions
 pub record IsHeld (big : Big) : Type 0 where
   pub valid : IsValid big
-  pub few_regions : big.regions ≤ 65536
+  pub few_regions : big.regions ≤ most_expression_places
 
 -- the bigraph on top of the stack, and what was reached
 abbrev pub pushed : State → Come → Result State Refusal

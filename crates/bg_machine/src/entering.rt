@@ -1,10 +1,12 @@
 //! Controls that enter the signature.
 ghost use Rattle.std.specs.Prelude.{◌≡◌, ◌≤◌, IfOk, OnErr, None};
+ghost use Rattle.bg_base.specs.Limits.{most_ports};
 ghost use Rattle.bg_base.specs.Signatures.{number_of};
 ghost use Rattle.bg_terms.specs.Expansion.{control_of};
 ghost use Rattle.bg_terms.specs.Values.{entered, entered_at};
 ghost use Rattle.bg_values.specs.Outcome.{GivesAnd};
 
+use bg_base::limits::MOST_CONTROLS;
 use bg_base::{Label, Signature, SignatureFault, Value};
 use bg_lists::{Duplicate, Mem, Rows};
 use bg_terms::Shape;
@@ -22,7 +24,7 @@ pub fn enter(
     args: Vec<Value>,
     signature: &mut Signature,
 ) -> Result<u32, Stop>
-    requires small { shape.now.arity ≤ 16 }
+    requires small { shape.now.arity ≤ most_ports }
     ensures entered { GivesAnd result signature.new (entered at (control_of shape.now args.items) signature.old) }
     ensures unchanged { OnErr result (signature.new ≡ signature.old) }
 {
@@ -50,13 +52,13 @@ fn add(
     shape: &Shape,
     signature: &mut Signature,
 ) -> Result<u32, Stop>
-    requires small { shape.now.arity ≤ 16 }
+    requires small { shape.now.arity ≤ most_ports }
     requires new { number_of signature.old label ≡ None }
     ensures entered { GivesAnd result signature.new
         (entered_at at (record { label = label; arity = shape.now.arity; kind = shape.now.kind }) signature.old None) }
     ensures unchanged { OnErr result (signature.new ≡ signature.old) }
 {
-    if signature.len() >= 4096 {
+    if signature.len() >= MOST_CONTROLS {
         return Err(Stop::refuse(Cause::TooLarge(LimitWord::Controls), at));
     }
     match signature.add(alloc, label, shape.arity, shape.kind) {

@@ -10,6 +10,7 @@ ghost use Rattle.bg_terms.specs.Values as definition;
 ghost use Rattle.bg_values.specs.Outcome.{Gives};
 
 use bg_algebra::{AlgebraFault, atom, identity, idle, ion, merger};
+use bg_base::limits::{MOST_EXPRESSION_EDGES, MOST_EXPRESSION_NODES, MOST_EXPRESSION_PLACES};
 use bg_base::{Big, Ident, Kind, Name};
 use bg_builder::Builder;
 use bg_link::name_set;
@@ -22,13 +23,13 @@ use std::alloc::Global;
 pub(crate) fn limited(at: u32, big: Builder) -> Result<Builder, Refusal>
     ensures { result ≡ definition.limited at big }
 {
-    if big.nodes() > 65_536 {
+    if big.nodes() > MOST_EXPRESSION_NODES {
         return Err(Refusal::new(Cause::TooLarge(LimitWord::Nodes), at));
     }
-    if big.edges() > 65_536 {
+    if big.edges() > MOST_EXPRESSION_EDGES {
         return Err(Refusal::new(Cause::TooLarge(LimitWord::Edges), at));
     }
-    if big.regions() > 65_536 || big.sites() > 65_536 {
+    if big.regions() > MOST_EXPRESSION_PLACES || big.sites() > MOST_EXPRESSION_PLACES {
         return Err(Refusal::new(Cause::TooLarge(LimitWord::Places), at));
     }
     Ok(big)
@@ -68,7 +69,7 @@ pub(crate) fn wide_identity(
     ensures value { Gives result (definition.wide at width (elementary.identity width (set_of name_cmp (definition.plain_names words.now)))) }
     ensures valid { IfOk result IsValid }
 {
-    if width > 65_536 {
+    if width > u64::from(MOST_EXPRESSION_PLACES) {
         return Err(Stop::refuse(Cause::TooLarge(LimitWord::Places), at));
     }
     let names = name_set(plain_names(alloc, words)?)?;
@@ -82,7 +83,7 @@ pub(crate) fn wide_merger(alloc: Global, at: u32, width: u64) -> Result<Big, Sto
     ensures value { Gives result (definition.wide at width (elementary.merger width)) }
     ensures valid { IfOk result IsValid }
 {
-    if width > 65_536 {
+    if width > u64::from(MOST_EXPRESSION_PLACES) {
         return Err(Stop::refuse(Cause::TooLarge(LimitWord::Places), at));
     }
     let big = merger(alloc, width as u32)?;

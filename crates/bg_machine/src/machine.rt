@@ -5,6 +5,7 @@ use crate::held::Held;
 use crate::met::Met;
 use crate::operators::{combined, nested};
 use bg_algebra::{barren, empty};
+use bg_base::limits::{MOST_DEPTH, MOST_TERMS};
 use bg_base::{Big, Ident, Signature, Value};
 use bg_builder::Builder;
 use bg_code::Arguments;
@@ -47,6 +48,7 @@ impl Model for Machine {
 impl Machine {
     ghost use Rattle.std.specs.Prelude.{◌≡◌, ◌<◌, ◌≤◌, ◌∷◌, [], IfOk, MatchResult, Ok, Err, Some, slice_get, option_copied};
     ghost use Rattle.bg_terms.specs.declared.shape.Shape.{Shape as ShapeValue};
+    ghost use Rattle.bg_base.specs.Limits.{most_ports};
     ghost use Rattle.bg_base.specs.Bigraph.{IsValid};
     ghost use Rattle.bg_machine.specs.Machine as definition;
     ghost use Rattle.bg_machine.specs.Calls as calls;
@@ -99,7 +101,7 @@ impl Machine {
         ensures counted { let wanted = gone_on self.old (values.tallied at self.old.reached) in MatchResult result (λ _. wanted ≡ Ok self.new) (λ refusal. wanted ≡ Err refusal) }
         ensures room { IfOk result (λ _. self.new.reached.nodes < self.new.reached.terms) }
     {
-        if self.terms >= 1_048_576 {
+        if self.terms >= MOST_TERMS {
             return Err(Refusal::new(Cause::TooLarge(LimitWord::Terms), at));
         }
         self.terms += 1;
@@ -110,7 +112,7 @@ impl Machine {
     pub(crate) fn go_deeper(&mut self, at: u32) -> Result<(), Refusal>
         ensures { let wanted = definition.deeper_by_one at self.old in MatchResult result (λ _. wanted ≡ Ok self.new) (λ refusal. wanted ≡ Err refusal) }
     {
-        if self.depth >= 1024 {
+        if self.depth >= MOST_DEPTH {
             return Err(Refusal::new(Cause::TooLarge(LimitWord::Depth), at));
         }
         self.depth += 1;
@@ -224,7 +226,7 @@ impl Machine {
         arguments: &Arguments,
         ports: &Rows<Ident>,
     ) -> Result<(), Stop>
-        requires small { (found : ShapeValue) → option_copied shape ≡ Some found → found.arity ≤ 16 }
+        requires small { (found : ShapeValue) → option_copied shape ≡ Some found → found.arity ≤ most_ports }
         ensures { Goes result self.new (pushed self.old (definition.counted_node at (outcomes env.now arguments.now) (option_copied shape.entry) ports.now self.old.reached)) }
     {
         self.count(at)?;
@@ -242,7 +244,7 @@ impl Machine {
         ports: &Rows<Ident>,
     ) -> Result<(), Stop>
         requires room { self.old.reached.nodes < self.old.reached.terms }
-        requires small { (found : ShapeValue) → option_copied shape ≡ Some found → found.arity ≤ 16 }
+        requires small { (found : ShapeValue) → option_copied shape ≡ Some found → found.arity ≤ most_ports }
         ensures { Goes result self.new (pushed self.old (definition.evaluated_node at (outcomes env.now arguments.now) (option_copied shape.entry) ports.now self.old.reached)) }
     {
         let args = arguments.values(alloc, env)?;
@@ -262,7 +264,7 @@ impl Machine {
         ports: &Rows<Ident>,
     ) -> Result<(), Stop>
         requires room { self.old.reached.nodes < self.old.reached.terms }
-        requires small { shape.now.arity ≤ 16 }
+        requires small { shape.now.arity ≤ most_ports }
         ensures { Goes result self.new (pushed self.old (definition.node_made at (control_of shape.now args.items) ports.now self.old.reached)) }
     {
         prove!(self.nodes < self.terms);

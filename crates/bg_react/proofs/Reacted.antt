@@ -5,6 +5,7 @@ use Rattle.std.proofs.lemmas.List.{length-append, length-map}
 use Rattle.bg_lists.specs.Orders.{before}
 use Rattle.bg_lists.proofs.Sorting.{length-sort}
 use Rattle.bg_lists.proofs.Words.{All-from_members}
+use Rattle.bg_base.specs.Limits.{most_host_nodes, most_host_edges}
 use Rattle.bg_base.specs.declared.names.Name.{Name}
 use Rattle.bg_base.specs.declared.big.NodeRow.{NodeRow}
 use Rattle.bg_base.specs.declared.big.Big.{Big}
@@ -18,7 +19,7 @@ use Rattle.bg_decompose.specs.Joining.{joined}
 use Rattle.bg_rules.specs.Decomposition.{Decomposes, frame}
 use Rattle.bg_rules.specs.Hosts.{IsHost}
 use Rattle.bg_rules.specs.Instantiation.{instantiate, next_after}
-use Rattle.bg_rules.specs.Limits.{most_rows, IsWithinLimits, PassesALimit}
+use Rattle.bg_rules.specs.Limits.{IsWithinLimits, PassesALimit}
 use Rattle.bg_rules.specs.Reaction.{HostState, next_frame, next_instance, IsRecomposable, recomposed, host_after, Reacts}
 use Rattle.bg_rules.specs.Rules.{RuleParts, IsRule}
 use Rattle.bg_rules.proofs.Patterns.{number_mem}
@@ -118,23 +119,23 @@ module _ (host : HostState) (rule : RuleParts) (context parameter : Big) (is_hos
 
   -- ---- the result is a host
 
-  after_is_host : HasRoom host rule context parameter → length (recomposed host rule context parameter).edges ≤ most_rows
+  after_is_host : HasRoom host rule context parameter → length (recomposed host rule context parameter).edges ≤ most_host_edges
       → IsHost (host_after host rule context parameter)
   after_is_host room few =
       let reaction = reacts_to host rule between.nodes is_host.numbered is_rule context between.edges parameter between.decomposes in
       result_is_host host rule between.nodes (host_after host rule context parameter) reaction is_host is_rule
       (record {
-        few_nodes = subst (λ n. n ≤ most_rows) (sym (length-recomposed host rule context parameter)) room.few_nodes;
+        few_nodes = subst (λ n. n ≤ most_host_nodes) (sym (length-recomposed host rule context parameter)) room.few_nodes;
         few_edges = few;
         counters_small = room.counters_small;
       })
 
   pub becomes_host : HasRoom host rule context parameter → (big : Big) (node edge : ℕ) → big ≡ recomposed host rule context parameter
       → node ≡ next_after parameter rule.map (after_reactum host rule) → edge ≡ host.next_edge + length rule.reactum.edges
-      → length big.edges ≤ most_rows → IsHost (record { big = big; next_node = node; next_edge = edge })
+      → length big.edges ≤ most_host_edges → IsHost (record { big = big; next_node = node; next_edge = edge })
   becomes_host room big node edge same_big same_node same_edge few =
       subst IsHost (λ t. record { big = sym same_big t; next_node = sym same_node t; next_edge = sym same_edge t })
-      (after_is_host room (subst (λ (b : Big). length b.edges ≤ most_rows) same_big few))
+      (after_is_host room (subst (λ (b : Big). length b.edges ≤ most_host_edges) same_big few))
 
 -- ---- where there is no room, the result passes a limit
 
@@ -143,7 +144,7 @@ pub no_room : (host : HostState) (rule : RuleParts) (context parameter : Big) �
 no_room host rule context parameter none within =
     none
     (record {
-      few_nodes = subst (λ n. n ≤ most_rows) (length-recomposed host rule context parameter) within.few_nodes;
+      few_nodes = subst (λ n. n ≤ most_host_nodes) (length-recomposed host rule context parameter) within.few_nodes;
       counters_small = within.counters_small;
     })
 

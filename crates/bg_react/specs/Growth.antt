@@ -1,11 +1,12 @@
 -- When there is room for what a host becomes whose redex lies between a context and a parameter.
 use Rattle.std.specs.Prelude.{ℕ, ◌+◌, ◌≤◌, List, length}
+use Rattle.bg_base.specs.Limits.{most_host_nodes}
 use Rattle.bg_base.specs.declared.big.Big.{Big}
 use Rattle.bg_base.specs.Elementary.{counted}
 use Rattle.bg_decompose.specs.Joining.{IsJoinable}
 use Rattle.bg_rules.specs.Decomposition.{Decomposes}
 use Rattle.bg_rules.specs.Instantiation.{next_after}
-use Rattle.bg_rules.specs.Limits.{most_rows, AreSmallCounters}
+use Rattle.bg_rules.specs.Limits.{AreSmallCounters}
 use Rattle.bg_rules.specs.Reaction.{HostState}
 use Rattle.bg_rules.specs.Rules.{RuleParts}
 use Rattle.bg_react.specs.Counting.{copied_nodes}
@@ -26,7 +27,7 @@ after_reactum host rule = host.next_node + length rule.reactum.nodes
 
 -- the nodes and the counters of what the host becomes are within the limits
 pub record HasRoom (host : HostState) (rule : RuleParts) (context parameter : Big) : Type 0 where
-  pub few_nodes : nodes_after rule context parameter ≤ most_rows
+  pub few_nodes : nodes_after rule context parameter ≤ most_host_nodes
   pub counters_small : AreSmallCounters (next_after parameter rule.map (after_reactum host rule)) (host.next_edge + length rule.reactum.edges)
 
 -- the reactum with the next numbers goes between the context and the instance

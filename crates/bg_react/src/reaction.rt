@@ -1,5 +1,6 @@
 //! Reactions: the redex of a rule replaced by its reactum.
 ghost use Rattle.std.specs.Prelude.{◌≡◌, ◌≤◌, ◌<◌, ◌+◌, ◌^◌, length, Ok, Err, OnOk, OnErr, IfOk, IsErrOf, MatchOption, MatchResult};
+ghost use Rattle.bg_base.specs.Limits.{most_host_nodes, most_host_edges, largest_counter};
 ghost use Rattle.bg_base.specs.Bigraph.{IsValid};
 ghost use Rattle.bg_base.specs.Elementary.{counted};
 ghost use Rattle.bg_base.specs.Products as product;
@@ -7,7 +8,7 @@ ghost use Rattle.bg_decompose.specs.Joining.{joined};
 ghost use Rattle.bg_rules.specs.Decomposition.{Occurs};
 ghost use Rattle.bg_rules.specs.Hosts.{IsHost};
 ghost use Rattle.bg_rules.specs.Instantiation.{next_after};
-ghost use Rattle.bg_rules.specs.Limits.{most_rows, largest_counter, AreSmallCounters, IsWithinLimits, PassesALimit};
+ghost use Rattle.bg_rules.specs.Limits.{AreSmallCounters, IsWithinLimits, PassesALimit};
 ghost use Rattle.bg_rules.specs.Reaction as defined;
 ghost use Rattle.bg_rules.specs.Reaction.{Reacts};
 ghost use Rattle.bg_rules.specs.Rules.{IsRule};
@@ -18,17 +19,12 @@ use crate::count::count_copies;
 use crate::instance::{Instance, instance_of};
 use crate::parts::Parts;
 use bg_algebra::lean;
+use bg_base::limits::{LARGEST_COUNTER, MOST_HOST_EDGES, MOST_HOST_NODES};
 use bg_base::Big;
 use bg_decompose::{Decomposition, recompose, split};
 use bg_lists::{Mem, Rows};
 use bg_rules::{Host, ReactFault, Rule};
 use std::alloc::Global;
-
-/// As many nodes, and as many edges, a host may have.
-const MOST_ROWS: u32 = 65_536;
-
-/// The largest counter that a host may have.
-const LARGEST_COUNTER: u32 = 2_147_483_648;
 
 /// The reaction of the host by the rule, whose redex occurs at the nodes of the map (Milner, chapter 8). The host is
 /// its context with the redex and a parameter in it; it becomes the context with the reactum, its nodes and edges
@@ -109,13 +105,13 @@ fn within_limits(found: Option<Counters>) -> Result<Counters, ReactFault>
 
 /// The host with these counters, or `Full` where it has too many edges. Takes no memory.
 fn host_of(big: Big, counters: Counters) -> Result<Host, ReactFault>
-    requires fits { length big.edges ≤ most_rows → IsHost (record { big = big; next_node = counters.next_node; next_edge = counters.next_edge }) }
+    requires fits { length big.edges ≤ most_host_edges → IsHost (record { big = big; next_node = counters.next_node; next_edge = counters.next_edge }) }
     ensures { MatchResult result
         (λ host. (host ≡ record { big = big; next_node = counters.next_node; next_edge = counters.next_edge })
-        × (length big.edges ≤ most_rows))
-        (λ fault. (fault ≡ ReactFault.Full) × (most_rows < length big.edges)) }
+        × (length big.edges ≤ most_host_edges))
+        (λ fault. (fault ≡ ReactFault.Full) × (most_host_edges < length big.edges)) }
 {
-    if big.edges.len() > MOST_ROWS {
+    if big.edges.len() > MOST_HOST_EDGES {
         return Err(ReactFault::Full);
     }
     Ok(Host::with_counters(big, counters.next_node, counters.next_edge))
@@ -147,10 +143,10 @@ fn counters_after(
 /// How many nodes the copies may have beside those of the context and of the reactum; none where these are too many.
 fn room_for_copies(context: &Big, reactum: &Big) -> Option<u32>
     ensures { MatchOption result
-        (most_rows < length context.now.nodes + length reactum.now.nodes)
-        (λ most. length context.now.nodes + (length reactum.now.nodes + most) ≡ most_rows) }
+        (most_host_nodes < length context.now.nodes + length reactum.now.nodes)
+        (λ most. length context.now.nodes + (length reactum.now.nodes + most) ≡ most_host_nodes) }
 {
-    let room = rest_of(MOST_ROWS, context.nodes.len())?;
+    let room = rest_of(MOST_HOST_NODES, context.nodes.len())?;
     rest_of(room, reactum.nodes.len())
 }
 

@@ -10,12 +10,13 @@ use Rattle.bg_lists.proofs.Places.{Mem-from_At, At-from_Mem, At-one, At-below, A
 use Rattle.bg_lists.proofs.Comparisons.{lt-from_nat_cmp}
 use Rattle.bg_lists.proofs.Ascents.{Ascending-from_sorted, Ascending-map, Below-by_places}
 use Rattle.bg_lists.proofs.Words.{All-member, All-from_members}
+use Rattle.bg_base.specs.Limits.{most_host_nodes, most_host_edges, largest_counter}
 use Rattle.bg_base.specs.declared.big.NodeRow.{NodeRow}
 use Rattle.bg_base.specs.declared.big.Big.{Big}
 use Rattle.bg_base.specs.Bigraph.{node_cmp}
 use Rattle.bg_base.specs.Translation.{node_numbers}
 use Rattle.bg_rules.specs.Hosts.{IsHost, IsHostBig, past_largest, fresh_host}
-use Rattle.bg_rules.specs.Limits.{most_rows, largest_counter, IsWithinLimits}
+use Rattle.bg_rules.specs.Limits.{IsWithinLimits}
 
 pub below_past : (numbers : List ℕ) {number : ℕ} → Mem number numbers → number < past_largest numbers
 below_past [] m = elim m [ ]
@@ -64,7 +65,7 @@ past_last_row rows last sorted is =
 
 module _ (big : Big) where
   -- few rows, with small numbers
-  pub fresh_within : length big.nodes ≤ most_rows → length big.edges ≤ most_rows → All (λ (row : NodeRow). row.id < largest_counter) big.nodes
+  pub fresh_within : length big.nodes ≤ most_host_nodes → length big.edges ≤ most_host_edges → All (λ (row : NodeRow). row.id < largest_counter) big.nodes
       → All (λ edge. edge < largest_counter) big.edges → IsWithinLimits (fresh_host big)
   fresh_within few_nodes few_edges small_nodes small_edges =
       record {

@@ -2,14 +2,7 @@
 use Rattle.std.specs.Prelude.{ℕ, ◌≤◌, List, length}
 use Rattle.bg_rules.specs.Reaction.{HostState, Reacts}
 use Rattle.bg_rules.specs.Rules.{RuleParts}
-
--- the most nodes, and the most edges
-abbrev pub most_rows : ℕ
-most_rows = 65536
-
--- the largest number that a next node or a next edge may have
-abbrev pub largest_counter : ℕ
-largest_counter = 2147483648
+use Rattle.bg_base.specs.Limits.{most_host_nodes, most_host_edges, largest_counter}
 
 -- neither counter is too large
 pub record AreSmallCounters (next_node next_edge : ℕ) : Type 0 where
@@ -18,8 +11,8 @@ pub record AreSmallCounters (next_node next_edge : ℕ) : Type 0 where
 
 -- not too many nodes or edges, and no counter too large
 pub record IsWithinLimits (host : HostState) : Type 0 where
-  pub few_nodes : length host.big.nodes ≤ most_rows
-  pub few_edges : length host.big.edges ≤ most_rows
+  pub few_nodes : length host.big.nodes ≤ most_host_nodes
+  pub few_edges : length host.big.edges ≤ most_host_edges
   pub counters_small : AreSmallCounters host.next_node host.next_edge
 
 -- the host reacts by the rule, at these nodes, to something that passes a limit

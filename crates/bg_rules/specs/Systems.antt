@@ -1,5 +1,6 @@
 -- Systems: a signature, a host to begin with, rules in classes, and predicates.
 use Rattle.std.specs.Prelude.{ℕ, ◌<◌, ◌≤◌, List, length, All}
+use Rattle.bg_base.specs.Limits.{most_rules}
 use Rattle.bg_base.specs.declared.signature.Control.{Control}
 use Rattle.bg_base.specs.Bigraph.{IsValidUnder}
 use Rattle.bg_rules.specs.declared.condition.Condition.{Condition}
@@ -33,5 +34,5 @@ pub record IsSystem (system : SystemParts) : Type 0 where
   pub rules_fit : All (λ (rule : RuleParts). IsRuleUnder system.signature system.classes rule) system.rules
   pub preds_are : All (λ (predicate : Predicate). IsPattern predicate.pattern) system.preds
   pub preds_fit : All (λ (predicate : Predicate). IsValidUnder system.signature predicate.pattern) system.preds
-  pub few_rules : length system.rules ≤ 4096
-  pub few_preds : length system.preds ≤ 4096
+  pub few_rules : length system.rules ≤ most_rules
+  pub few_preds : length system.preds ≤ most_rules

@@ -2,10 +2,11 @@
 ghost use Rattle.std.specs.Prelude.{◌≡◌, ◌≤◌};
 ghost use Rattle.std.specs.List.Sorted.{IsStrictlySortedBy};
 ghost use Rattle.std.specs.Ordering.{nat_cmp};
+ghost use Rattle.bg_base.specs.Limits.{largest_counter};
 ghost use Rattle.bg_base.specs.Bigraph.{node_cmp};
 ghost use Rattle.bg_base.specs.Translation.{node_numbers};
 ghost use Rattle.bg_rules.specs.Hosts.{IsHost, IsHostBig, fresh_host, past_largest};
-ghost use Rattle.bg_rules.specs.Limits.{IsWithinLimits, largest_counter};
+ghost use Rattle.bg_rules.specs.Limits.{IsWithinLimits};
 
 use bg_base::{Big, NodeRow};
 use bg_lists::{Duplicate, Mem};

@@ -3,6 +3,7 @@ use Rattle.std.proofs.Common.{◌≡◌, ◌≤◌, ◌++◌, ◌∷◌, [], ℕ
 use Rattle.std.specs.Prelude.{nat_abs, nat_lt, if◌then◌else◌}
 use Rattle.std.proofs.lemmas.Bool.Decides.{nat_tests}
 use Rattle.std.proofs.lemmas.List.{length-append, map-append}
+use Rattle.bg_base.specs.Limits.{most_ports}
 use Rattle.bg_base.specs.declared.big.Big.{Big}
 use Rattle.bg_base.specs.declared.labels.Value.{Value}
 use Rattle.bg_base.specs.declared.signature.Control.{Control}
@@ -76,14 +77,14 @@ is_new text entries token word is =
 word_spelled : (visible : Visible) (token : ℕ) (word : List ℕ) → word_at visible token ≡ Ok word → spelling visible.scope token ≡ word
 word_spelled visible token word is = ok_same (tested _ (Ok (spelling visible.scope token)) _ word is)
 
-at_most : (n : ℕ) (e : Refusal) (y : ℕ) → (if nat_lt 16 n then Err e else Ok n) ≡ Ok y → y ≤ 16
-at_most n e y = by (nat_lt 16 n) refl
+at_most : (n : ℕ) (e : Refusal) (y : ℕ) → (if nat_lt most_ports n then Err e else Ok n) ≡ Ok y → y ≤ most_ports
+at_most n e y = by (nat_lt most_ports n) refl
   where
-    by : (test : Bool) → nat_lt 16 n ≡ test → (if test then Err e else Ok n) ≡ Ok y → y ≤ 16
+    by : (test : Bool) → nat_lt most_ports n ≡ test → (if test then Err e else Ok n) ≡ Ok y → y ≤ most_ports
     by true is_so made = absurd cc
     by false is_so made = let same : n ≡ y = ok_same made in grind (arith, nat_tests)
 
-small_arity : (text : ScopeParts) (token arity : ℕ) → arity_at text token ≡ Ok arity → arity ≤ 16
+small_arity : (text : ScopeParts) (token arity : ℕ) → arity_at text token ≡ Ok arity → arity ≤ most_ports
 small_arity text token arity is = let b = bound (number_at text token) _ arity is in at_most (nat_abs b.found) _ arity b.goes_on
 
 -- ---- rules, where more controls are visible
@@ -146,7 +147,7 @@ entered_once shapes are at zero shape before after among kept of_shapes is =
 entered_once shapes are at (suc n) shape before after among kept of_shapes is = grown shapes before after before.signature is kept of_shapes
 
 module _ (before : Defined) (sound : IsSound before) (word : List ℕ) (none : is_none (number_of word before.controls) ≡ true) where
-  shape_sound : (at formals : ℕ) (shape : Shape) → shape.word ≡ word → shape.arity ≤ 16 → (after : Defined)
+  shape_sound : (at formals : ℕ) (shape : Shape) → shape.word ≡ word → shape.arity ≤ most_ports → (after : Defined)
       → with_shape at word formals shape before ≡ Ok after → IsSound after
   shape_sound at formals shape named small after is =
       let entry : ControlEntry = record { formals = formals; shape = shape } in

@@ -2,6 +2,7 @@
 use Rattle.std.proofs.Common.{◌≡◌, ◌+◌, ◌<◌, ◌≤◌, ◌++◌, ◌∷◌, [], ℕ, true, List, length, Result, Ok, All, refl, sym, ap, subst, ◌∙◌, arith}
 use Rattle.std.specs.Prelude.{slice_get, eqb}
 use Rattle.std.proofs.lemmas.Bool.{and_parts}
+use Rattle.bg_base.specs.Limits.{largest_counter, most_expression_nodes}
 use Rattle.bg_base.specs.declared.big.Big.{Big}
 use Rattle.bg_base.specs.declared.big.NodeRow.{NodeRow}
 use Rattle.bg_base.specs.declared.labels.Label.{Label}
@@ -48,7 +49,7 @@ pattern_is big is solid = record { valid = is.valid; solid = solid; edges_used =
 
 -- ---- hosts
 
-numbers_small : (numbers : List ℕ) (count : ℕ) → numbers ≡ counted 0 count → count ≤ 65536 → (n : ℕ) → Mem n numbers → n < 2147483648
+numbers_small : (numbers : List ℕ) (count : ℕ) → numbers ≡ counted 0 count → count ≤ most_expression_nodes → (n : ℕ) → Mem n numbers → n < largest_counter
 numbers_small numbers count same few n m =
     let k = Mem-counted 0 count n (subst (Mem n) same m) in
     let below : n < 0 + count = k.1 in
@@ -69,10 +70,10 @@ host_value_is big is ground =
         edges_used = is.whole.edges_used;
       };
       small = fresh_within big is.few_nodes is.few_edges
-          (All-from_members (λ (row : NodeRow). row.id < 2147483648) big.nodes
+          (All-from_members (λ (row : NodeRow). row.id < largest_counter) big.nodes
           (λ row m. numbers_small (node_numbers big.nodes) (length big.nodes) is.numbered.nodes_counted is.few_nodes row.id
           (Mem-map (λ (r : NodeRow). r.id) m)))
-          (All-from_members (λ (edge : ℕ). edge < 2147483648) big.edges
+          (All-from_members (λ (edge : ℕ). edge < largest_counter) big.edges
           (λ edge m. numbers_small big.edges (length big.edges) is.numbered.edges_counted is.few_edges edge m));
     }
 

@@ -1,6 +1,7 @@
 -- What expressions are evaluated in, as contracts see it, and the bigraphs of whole expressions.
 use Rattle.std.specs.Prelude.{◌≤◌, List, length, IsTrue, All}
 use Rattle.bg_algebra.specs.Frame.{is_plain}
+use Rattle.bg_base.specs.Limits.{most_expression_nodes, most_expression_edges}
 use Rattle.bg_base.specs.declared.big.Big.{Big}
 use Rattle.bg_base.specs.declared.names.Link.TheVariants.{Edge}
 use Rattle.bg_base.specs.declared.names.Name.{Name}
@@ -29,5 +30,5 @@ pub record IsWholeValue (big : Big) : Type 0 where
   pub whole : IsWhole big
   pub numbered : IsNumberedFromZero big
   pub names_plain : All (λ (name : Name). IsTrue (is_plain name)) big.outer
-  pub few_nodes : length big.nodes ≤ 65536
-  pub few_edges : length big.edges ≤ 65536
+  pub few_nodes : length big.nodes ≤ most_expression_nodes
+  pub few_edges : length big.edges ≤ most_expression_edges

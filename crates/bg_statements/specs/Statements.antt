@@ -1,5 +1,6 @@
 -- What each statement defines, where others stand before it, or its first refusal.
 use Rattle.std.specs.Prelude.{ℕ, zero, suc, nat_lt, is_some, nat_abs, if◌then◌else◌, List, [], ◌∷◌, ◌++◌, length, Result, Ok}
+use Rattle.bg_base.specs.Limits.{most_ports}
 use Rattle.bg_base.specs.declared.signature.Control.{Control}
 use Rattle.bg_base.specs.declared.signature.Kind.{Kind}
 use Rattle.bg_base.specs.declared.signature.Kind.TheVariants.{Normal, Atomic}
@@ -62,7 +63,7 @@ formals_read text formals_ways.Way2 = Ok []
 
 -- an arity is at most 16
 abbrev pub arity_at : ScopeParts → ℕ → Result ℕ Refusal
-arity_at text token = number_at text token >>= λ z. if nat_lt 16 (nat_abs z) then refused (TooLarge Arity) token else Ok (nat_abs z)
+arity_at text token = number_at text token >>= λ z. if nat_lt most_ports (nat_abs z) then refused (TooLarge Arity) token else Ok (nat_abs z)
 
 -- a control without formals enters the signature at its statement
 abbrev pub entered_at_once : ℕ → ℕ → Shape → Defined → Result Defined Refusal

@@ -2,9 +2,11 @@
 ghost use Rattle.std.specs.Prelude.{◌≡◌, ◌≤◌, IfOk};
 ghost use Rattle.bg_statements.specs.Statements as definition;
 ghost use Rattle.bg_values.specs.Reading.{number_token};
+ghost use Rattle.bg_base.specs.Limits.{most_ports};
 
 use crate::definitions::Definitions;
 use crate::names::{check_new, formals_of};
+use bg_base::limits::MOST_PORTS;
 use bg_base::{Ident, Kind, Value};
 use bg_code::{Visible, word_at};
 use bg_machine::enter;
@@ -82,7 +84,7 @@ impl Definitions {
         formals: u32,
         shape: Shape,
     ) -> Result<(), Stop>
-        requires small { shape.arity ≤ 16 }
+        requires small { shape.arity ≤ most_ports }
         requires new { IsNone (number_of word.now self.old.controls) }
         ensures { Defines result self.old self.new (definition.with_shape at word.now formals shape) }
     {
@@ -99,11 +101,11 @@ impl Definitions {
 /// The arity that a number says. Refuses what is above 16 as `TooLarge` arity (52).
 fn arity_at(text: &Scope, tree: &SynNumber) -> Result<u32, Refusal>
     ensures value { result ≡ definition.arity_at text.now (number_token tree.now) }
-    ensures small { IfOk result (λ arity. arity ≤ 16) }
+    ensures small { IfOk result (λ arity. arity ≤ most_ports) }
 {
     let token = number_token(tree);
     let number = number_at(text, token)?.unsigned_abs();
-    if number > 16 {
+    if number > u64::from(MOST_PORTS) {
         return Err(Refusal::new(Cause::TooLarge(LimitWord::Arity), token));
     }
     Ok(number as u32)

@@ -3,6 +3,7 @@ use Rattle.std.proofs.Common.{◌≡◌, ◌+◌, ◌<◌, ◌≤◌, ◌⊎◌,
 use Rattle.std.specs.Prelude.{nat_lt}
 use Rattle.bg_lists.specs.Lists.{Mem}
 use Rattle.bg_lists.specs.Orders.{set_of}
+use Rattle.bg_base.specs.Limits.{most_expression_places}
 use Rattle.bg_base.specs.declared.names.Name.{Name}
 use Rattle.bg_base.specs.declared.names.Name.TheVariants.{Plain}
 use Rattle.bg_base.specs.declared.big.Big.{Big}
@@ -48,7 +49,7 @@ single_edges Atomic control number names edge m = elim m [ ]
 
 wide_edges : (at width : ℕ) (big found : Big) → wide at width big ≡ Ok found → ((edge : ℕ) → Mem edge big.edges → ⊥) → (edge : ℕ) → Mem edge found.edges → ⊥
 wide_edges at width big found is none edge m =
-    none edge (subst (λ (b : Big). Mem edge b.edges) (sym (ok_same (untested (nat_lt 65536 width) (Ok big) _ found is))) m)
+    none edge (subst (λ (b : Big). Mem edge b.edges) (sym (ok_same (untested (nat_lt most_expression_places width) (Ok big) _ found is))) m)
 
 -- edges of two operands, those of the second behind those of the first
 joined : (f g whole : Big) (from count more : ℕ) (after last : Reached) → AreEdgesWithin from count f after → AreEdgesWithin after.edges more g last

@@ -12,6 +12,7 @@ use Rattle.bg_terms.specs.declared.shape.ControlEntry.{ControlEntry}
 use Rattle.bg_terms.specs.declared.shape.Shape.{Shape}
 use Rattle.bg_terms.specs.Read.{shapes_of, AreControls}
 use Rattle.bg_terms.specs.Shapes.{AreShapes}
+use Rattle.bg_base.specs.Limits.{most_ports}
 
 -- ---- a word that is not there
 
@@ -58,7 +59,7 @@ pub controls_none : AreControls []
 controls_none = record { named = λ control m. elim m [ ]; small = λ control m. elim m [ ]; once = λ x y m n same. elim m [ ] }
 
 module _ (controls : List (Entry ControlEntry)) (word : List ℕ) (entry : ControlEntry) (are : AreControls controls)
-    (none : is_none (number_of word controls) ≡ true) (named : entry.shape.word ≡ word) (small : entry.shape.arity ≤ 16) where
+    (none : is_none (number_of word controls) ≡ true) (named : entry.shape.word ≡ word) (small : entry.shape.arity ≤ most_ports) where
   abbrev last : Entry ControlEntry
   last = (word, entry)
 
@@ -70,7 +71,7 @@ module _ (controls : List (Entry ControlEntry)) (word : List ℕ) (entry : Contr
   pub controls_more : AreControls (controls ++ last ∷ [])
   controls_more = record {
     named = of_each (λ control. control.1.shape.word ≡ control.0) are.named named;
-    small = of_each (λ control. control.1.shape.arity ≤ 16) are.small small;
+    small = of_each (λ control. control.1.shape.arity ≤ most_ports) are.small small;
     once = λ x y m n. of_each (λ a. a.0 ≡ y.0 → a ≡ y)
         (λ a a_in. of_each (λ b. a.0 ≡ b.0 → a ≡ b) (λ b b_in. are.once a b a_in b_in) (λ same. absurd (word_new word controls none a a_in same)) y n)
         (of_each (λ b. word ≡ b.0 → last ≡ b) (λ b b_in same. absurd (word_new word controls none b b_in (sym same))) (λ same. refl) y n) x m;
@@ -80,7 +81,7 @@ module _ (controls : List (Entry ControlEntry)) (word : List ℕ) (entry : Contr
 
 pub controls_shapes : (controls : List (Entry ControlEntry)) → AreControls controls → AreShapes (shapes_of controls)
 controls_shapes controls are = record {
-  small = λ shape m. let w = from shape m in subst (λ (s : Shape). s.arity ≤ 16) w.2 (are.small w.0 w.1);
+  small = λ shape m. let w = from shape m in subst (λ (s : Shape). s.arity ≤ most_ports) w.2 (are.small w.0 w.1);
   once = λ x y m n same. let v = from x m in
       let w = from y n in
       let words_same : v.0.0 ≡ w.0.0 =
@@ -91,5 +92,5 @@ controls_shapes controls are = record {
     from : (shape : Shape) → Mem shape (shapes_of controls) → (control : Entry ControlEntry) × Mem control controls × (control.1.shape ≡ shape)
     from shape m = Mem-unmap (λ (control : Entry ControlEntry). control.1.shape) controls m
 
-pub controls_small : (controls : List (Entry ControlEntry)) → AreControls controls → All (λ (shape : Shape). shape.arity ≤ 16) (shapes_of controls)
-controls_small controls are = All-from_members (λ (shape : Shape). shape.arity ≤ 16) (shapes_of controls) (controls_shapes controls are).small
+pub controls_small : (controls : List (Entry ControlEntry)) → AreControls controls → All (λ (shape : Shape). shape.arity ≤ most_ports) (shapes_of controls)
+controls_small controls are = All-from_members (λ (shape : Shape). shape.arity ≤ most_ports) (shapes_of controls) (controls_shapes controls are).small

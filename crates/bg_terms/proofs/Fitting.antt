@@ -8,6 +8,7 @@ use Rattle.bg_lists.specs.Orders.{set_of}
 use Rattle.bg_lists.proofs.Members.{Mem-append_left, Mem-append_right, Mem-append_cases}
 use Rattle.bg_lists.proofs.Words.{All-member}
 use Rattle.bg_lists.proofs.Places.{slice_get-append_left}
+use Rattle.bg_base.specs.Limits.{most_controls, most_ports}
 use Rattle.bg_base.specs.declared.names.Name.{Name}
 use Rattle.bg_base.specs.declared.names.Name.TheVariants.{Plain}
 use Rattle.bg_base.specs.declared.names.Place.{Place}
@@ -103,12 +104,12 @@ abbrev last_where : Bool → List Control → Control → Refusal → Result (�
 last_where b old control r = if b then Ok (length old, old ++ control ∷ []) else Err r
 
 -- a control that enters last
-entry_last : (all : List Control) (control : Control) (old : List Control) (number : ℕ) (after : List Control) → IsSignature old → control.arity ≤ 16
-    → Within old all → Mem control all → number_of old control.label ≡ None → (b : Bool) → nat_lt (length old) 4096 ≡ b → (r : Refusal)
+entry_last : (all : List Control) (control : Control) (old : List Control) (number : ℕ) (after : List Control) → IsSignature old → control.arity ≤ most_ports
+    → Within old all → Mem control all → number_of old control.label ≡ None → (b : Bool) → nat_lt (length old) most_controls ≡ b → (r : Refusal)
     → last_where b old control r ≡ Ok (number, after) → Entry all control number after
 entry_last all control old number after kept small inside member new false room r e = absurd cc
 entry_last all control old number after kept small inside member new true room r e =
-    let below : length old < 4096 = grind (arith, room) in
+    let below : length old < most_controls = grind (arith, room) in
     let pair : (length old, old ++ control ∷ []) ≡ (number, after) = ok_same e in
     let number_is : length old ≡ number = ap (λ (p : ℕ × List Control). p.0) pair in
     let same : old ++ control ∷ [] ≡ after = ap (λ (p : ℕ × List Control). p.1) pair in
@@ -124,7 +125,7 @@ entry_last all control old number after kept small inside member new true room r
     last_one x (there m) = elim m [ ]
 
 pub enters : (all : List Control) (at : ℕ) (control : Control) (old : List Control) (number : ℕ) (after : List Control) → AreOneByLabel all
-    → IsSignature old → control.arity ≤ 16 → Within old all → Mem control all → entered at control old ≡ Ok (number, after)
+    → IsSignature old → control.arity ≤ most_ports → Within old all → Mem control all → entered at control old ≡ Ok (number, after)
     → Entry all control number after
 enters all at control old number after one kept small inside member is = by (number_of old control.label) refl is
   where
@@ -141,7 +142,7 @@ enters all at control old number after one kept small inside member is = by (num
           kept = subst IsSignature same kept;
           inside = subst (λ s. Within s all) same inside;
         }
-    by None new e = entry_last all control old number after kept small inside member new (nat_lt (length old) 4096) refl _ e
+    by None new e = entry_last all control old number after kept small inside member new (nat_lt (length old) most_controls) refl _ e
 
 single_fits : (signature : List Control) (control : Control) (number node : ℕ) (words : List (List ℕ)) → slice_get signature number ≡ Some control
     → length words ≡ control.arity → IsValidUnder signature (single control.kind number node (plain_names words))

@@ -2,6 +2,7 @@
 use Rattle.std.proofs.Common.{◌≡◌, ◌≤◌, ◌++◌, ◌∷◌, [], inl, inr, ℕ, List, is_none, true, Ok, sym, ap, subst, ◌∙◌}
 use Rattle.std.proofs.lemmas.List.{append_assoc, append-nil, map-append}
 use Rattle.bg_lists.proofs.Members.{Mem-append_cases, Mem-append_left}
+use Rattle.bg_base.specs.Limits.{most_ports}
 use Rattle.bg_base.specs.declared.big.Big.{Big}
 use Rattle.bg_base.specs.declared.labels.Value.{Value}
 use Rattle.bg_base.specs.declared.signature.Control.{Control}
@@ -45,7 +46,7 @@ pub read_none : AreRead [] []
 read_none = record { table = controls_none; each = λ e m. elim m [ ] }
 
 pub read_control : (controls : List (Entry ControlEntry)) (definitions : List Expression) (word : List ℕ) (entry : ControlEntry) → AreRead controls definitions
-    → is_none (number_of word controls) ≡ true → entry.shape.word ≡ word → entry.shape.arity ≤ 16 → AreRead (controls ++ (word, entry) ∷ []) definitions
+    → is_none (number_of word controls) ≡ true → entry.shape.word ≡ word → entry.shape.arity ≤ most_ports → AreRead (controls ++ (word, entry) ∷ []) definitions
 read_control controls definitions word entry are none named small = record {
   table = controls_more controls word entry are.table none named small;
   each = λ e m. subst (λ s. IsRead s e) (sym (map-append (λ (control : Entry ControlEntry). control.1.shape) controls ((word, entry) ∷ [])))

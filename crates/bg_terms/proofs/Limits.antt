@@ -2,6 +2,7 @@
 use Rattle.std.proofs.Common.{◌≡◌, ◌≤◌, ◌+◌, ◌||◌, ℕ, Bool, true, false, length, Ok, Err, refl, ap, subst, arith}
 use Rattle.std.specs.Prelude.{nat_lt, if◌then◌else◌}
 use Rattle.bg_lists.specs.Orders.{set_of}
+use Rattle.bg_base.specs.Limits.{most_expression_nodes, most_expression_edges, most_expression_places}
 use Rattle.bg_base.specs.declared.names.Name.TheVariants.{Plain}
 use Rattle.bg_base.specs.declared.big.Big.{Big}
 use Rattle.bg_base.specs.Order.{name_cmp}
@@ -15,21 +16,21 @@ use Rattle.bg_terms.proofs.Numbered.{bound, tested}
 
 -- no more nodes, edges, regions and sites than are allowed
 pub record IsLimited (big : Big) : Type 0 where
-  pub nodes_few : length big.nodes ≤ 65536
-  pub edges_few : length big.edges ≤ 65536
-  pub regions_few : big.regions ≤ 65536
-  pub sites_few : length big.sites ≤ 65536
+  pub nodes_few : length big.nodes ≤ most_expression_nodes
+  pub edges_few : length big.edges ≤ most_expression_edges
+  pub regions_few : big.regions ≤ most_expression_places
+  pub sites_few : length big.sites ≤ most_expression_places
 
-not_above : (n : ℕ) → nat_lt 65536 n ≡ false → n ≤ 65536
+not_above : (n : ℕ) → nat_lt most_expression_places n ≡ false → n ≤ most_expression_places
 not_above n test = grind (arith, test)
 
 limited_says : (at : ℕ) (big made : Big) → limited at big ≡ Ok made → IsLimited made
 limited_says at big made is =
-    by _ _ _ (nat_lt 65536 (length big.nodes)) (nat_lt 65536 (length big.edges)) (nat_lt 65536 big.regions) (nat_lt 65536 (length big.sites))
+    by _ _ _ (nat_lt most_expression_nodes (length big.nodes)) (nat_lt most_expression_edges (length big.edges)) (nat_lt most_expression_places big.regions) (nat_lt most_expression_places (length big.sites))
     refl refl refl refl is
   where
-    by : (e f g : Refusal) (x y p q : Bool) → nat_lt 65536 (length big.nodes) ≡ x → nat_lt 65536 (length big.edges) ≡ y
-        → nat_lt 65536 big.regions ≡ p → nat_lt 65536 (length big.sites) ≡ q
+    by : (e f g : Refusal) (x y p q : Bool) → nat_lt most_expression_nodes (length big.nodes) ≡ x → nat_lt most_expression_edges (length big.edges) ≡ y
+        → nat_lt most_expression_places big.regions ≡ p → nat_lt most_expression_places (length big.sites) ≡ q
         → (if x then Err e else (if y then Err f else (if p || q then Err g else Ok big))) ≡ Ok made → IsLimited made
     by e f g true y p q xe ye pe qe made_so = absurd cc
     by e f g false true p q xe ye pe qe made_so = absurd cc

@@ -2,6 +2,7 @@
 use Rattle.std.proofs.Common.{◌≡◌, ◌+◌, ◌∷◌, [], ◌||◌, ℕ, Bool, true, false, not, ◌==◌, List, length, Result, Ok, Err, refl, sym, ap, subst, ◌∙◌, arith}
 use Rattle.std.specs.Prelude.{if◌then◌else◌, nat_lt, is_some}
 use Rattle.bg_lists.specs.Orders.{set_of}
+use Rattle.bg_base.specs.Limits.{most_expression_nodes, most_expression_edges, most_expression_places}
 use Rattle.bg_base.specs.declared.names.Name.{Name}
 use Rattle.bg_base.specs.declared.names.Name.TheVariants.{Plain}
 use Rattle.bg_base.specs.declared.big.Big.{Big}
@@ -48,7 +49,7 @@ chain x y z e f g r made is = untested z r g made (untested y (if z then Err g e
 
 limited_same : (at : ℕ) (big made : Big) → limited at big ≡ Ok made → made ≡ big
 limited_same at big made is =
-    sym (ok_same (chain (nat_lt 65536 (length big.nodes)) (nat_lt 65536 (length big.edges)) (nat_lt 65536 big.regions || nat_lt 65536 (length big.sites))
+    sym (ok_same (chain (nat_lt most_expression_nodes (length big.nodes)) (nat_lt most_expression_edges (length big.edges)) (nat_lt most_expression_places big.regions || nat_lt most_expression_places (length big.sites))
     _ _ _ (Ok big) made is))
 
 pub record Same (big made : Big) (c d : Reached) : Type 0 where
@@ -99,7 +100,7 @@ nested_same at is_atom f g whole is =
 
 wide_numbers : (at width : ℕ) (big found : Big) → wide at width big ≡ Ok found → node_numbers big.nodes ≡ [] → node_numbers found.nodes ≡ []
 wide_numbers at width big found is none =
-    ap (λ (b : Big). node_numbers b.nodes) (sym (ok_same (untested (nat_lt 65536 width) (Ok big) _ found is))) ∙ none
+    ap (λ (b : Big). node_numbers b.nodes) (sym (ok_same (untested (nat_lt most_expression_places width) (Ok big) _ found is))) ∙ none
 
 combined_numbers : (kind : BinaryOperation) (at : ℕ) (f g whole : Big) (from count more : ℕ) → combined kind at f g ≡ Ok whole
     → node_numbers f.nodes ≡ counted from count → node_numbers g.nodes ≡ counted (from + count) more

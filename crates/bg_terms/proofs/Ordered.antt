@@ -6,6 +6,7 @@ use Rattle.std.specs.Ordering.{is_lt}
 use Rattle.bg_lists.proofs.Comparisons.{nat_cmp-lt}
 use Rattle.bg_lists.specs.Lists.{put, sort}
 use Rattle.bg_lists.specs.Orders.{before, set_of}
+use Rattle.bg_base.specs.Limits.{most_controls, most_expression_places}
 use Rattle.bg_base.specs.declared.names.Name.{Name}
 use Rattle.bg_base.specs.declared.names.Name.TheVariants.{Plain}
 use Rattle.bg_base.specs.declared.big.NodeRow.{NodeRow}
@@ -189,7 +190,7 @@ enters at control before number after is = by (number_of before control.label) r
               ∙ ap (option_map (λ (c : Control). c.label)) one.there ∙ ap Some one.labelled;
         }
     by None there e =
-        let pair = ok_same (tested (nat_lt (length before) 4096) (Ok (length before, before ++ control ∷ [])) _ (number, after) e) in
+        let pair = ok_same (tested (nat_lt (length before) most_controls) (Ok (length before, before ++ control ∷ [])) _ (number, after) e) in
         let number_is : length before ≡ number = ap (λ (p : ℕ × List Control). p.0) pair in
         let after_is : before ++ control ∷ [] ≡ after = ap (λ (p : ℕ × List Control). p.1) pair in
         record {
@@ -226,7 +227,7 @@ pub tallied_signature : (at : ℕ) (c d : Reached) → tallied at c ≡ Ok d →
 tallied_signature at c d is = sym (ap (λ (r : Reached). r.signature) (ok_same (tested _ _ _ _ is)))
 
 pub wide_same : (at width : ℕ) (big found : Big) → wide at width big ≡ Ok found → found ≡ big
-wide_same at width big found is = sym (ok_same (untested (nat_lt 65536 width) (Ok big) _ found is))
+wide_same at width big found is = sym (ok_same (untested (nat_lt most_expression_places width) (Ok big) _ found is))
 
 -- a form without nodes: the bigraph is kept, and the signature too
 plain : (at : ℕ) (c t d : Reached) (big whole : Big) → tallied at c ≡ Ok t → Same big whole t d → controls_in big.nodes ≡ []

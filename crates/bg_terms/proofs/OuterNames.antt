@@ -8,6 +8,7 @@ use Rattle.bg_lists.proofs.Members.{Mem-append_cases, Mem-unfilter, Mem-unmap}
 use Rattle.bg_lists.proofs.Sets.{Mem-unset_of}
 use Rattle.bg_lists.proofs.Sorting.{Mem-unsort}
 use Rattle.bg_lists.proofs.Words.{All-from_members}
+use Rattle.bg_base.specs.Limits.{most_expression_places}
 use Rattle.bg_base.specs.declared.names.Name.{Name}
 use Rattle.bg_base.specs.declared.names.Name.TheVariants.{Plain}
 use Rattle.bg_base.specs.declared.big.Big.{Big}
@@ -98,7 +99,7 @@ closed_plain edge name f are = by (is_some (outer_of f.outer name))
     by false = are
 
 wide_plain : (at width : ℕ) (big found : Big) → wide at width big ≡ Ok found → HasPlain big → HasPlain found
-wide_plain at width big found is are = subst HasPlain (ok_same (untested (nat_lt 65536 width) (Ok big) _ found is)) are
+wide_plain at width big found is are = subst HasPlain (ok_same (untested (nat_lt most_expression_places width) (Ok big) _ found is)) are
 
 combined_plain : (kind : BinaryOperation) (at : ℕ) (f g whole : Big) → combined kind at f g ≡ Ok whole → HasPlain f → HasPlain g → HasPlain whole
 combined_plain Composition at f g whole is are these = subst HasPlain (ok_same (tested _ _ _ _ is)) (compose_plain f g are)

@@ -8,6 +8,7 @@ use Rattle.bg_lists.proofs.Members.{Mem-map}
 use Rattle.bg_lists.proofs.Words.{All-from_members, fails_from_list_any}
 use Rattle.bg_lists.proofs.Ascents.{sorted_from_Ascending}
 use Rattle.bg_lists.proofs.Sets.{Ascending-set_of}
+use Rattle.bg_base.specs.Limits.{most_expression_places}
 use Rattle.bg_base.specs.declared.names.Name.{Name}
 use Rattle.bg_base.specs.declared.names.Name.TheVariants.{Plain}
 use Rattle.bg_base.specs.declared.big.NodeRow.{NodeRow}
@@ -96,7 +97,7 @@ kept_valid : (big whole : Big) (c d : Reached) → IsValid big → Same big whol
 kept_valid big whole c d valid same = subst IsValid (sym same.big_is) valid
 
 wide_valid : (at width : ℕ) (big found : Big) → wide at width big ≡ Ok found → IsValid big → IsValid found
-wide_valid at width big found is valid = subst IsValid (ok_same (untested (nat_lt 65536 width) (Ok big) _ found is)) valid
+wide_valid at width big found is valid = subst IsValid (ok_same (untested (nat_lt most_expression_places width) (Ok big) _ found is)) valid
 
 -- what an Ok of a nesting says
 pub record Nests (f g whole : Big) : Type 0 where

@@ -7,6 +7,7 @@ use Rattle.bg_terms.specs.declared.shape.ControlEntry.{ControlEntry}
 use Rattle.bg_terms.specs.declared.shape.Shape.{Shape}
 use Rattle.bg_terms.specs.Expressions.{Expression, node, reference, names, identity_of, merger_of, barren, empty, brackets, deeper, closure, nesting, binary}
 use Rattle.bg_terms.specs.Trees.{Visible, e_read}
+use Rattle.bg_base.specs.Limits.{most_ports}
 
 -- the shapes of the controls of a table, in their order
 abbrev pub shapes_of : List (Entry ControlEntry) → List Shape
@@ -23,7 +24,7 @@ pub record IsRead (shapes : List Shape) (expression : Expression) : Type 0 where
 -- the controls of a table: each is found by its word, no arity is above 16, and no word stands for two
 pub record AreControls (controls : List (Entry ControlEntry)) : Type 0 where
   pub named : (control : Entry ControlEntry) → Mem control controls → control.1.shape.word ≡ control.0
-  pub small : (control : Entry ControlEntry) → Mem control controls → control.1.shape.arity ≤ 16
+  pub small : (control : Entry ControlEntry) → Mem control controls → control.1.shape.arity ≤ most_ports
   pub once : (x y : Entry ControlEntry) → Mem x controls → Mem y controls → x.0 ≡ y.0 → x ≡ y
 
 -- what statements have made visible: the controls, and definitions that were each read under the first ones of these controls

@@ -1,6 +1,7 @@
 -- What visible controls and an expression are to have, so that values fit the signature reached.
 use Rattle.std.specs.Prelude.{◌≡◌, ◌≤◌, List, Some, length, slice_get}
 use Rattle.bg_lists.specs.Lists.{Mem}
+use Rattle.bg_base.specs.Limits.{most_ports}
 use Rattle.bg_base.specs.declared.big.Big.{Big}
 use Rattle.bg_base.specs.declared.labels.Value.{Value}
 use Rattle.bg_base.specs.declared.signature.Control.{Control}
@@ -12,7 +13,7 @@ use Rattle.bg_terms.specs.Expressions.{Expression, node, reference, names, ident
 
 -- no arity is above 16, and no word stands for two controls
 pub record AreShapes (shapes : List Shape) : Type 0 where
-  pub small : (shape : Shape) → Mem shape shapes → shape.arity ≤ 16
+  pub small : (shape : Shape) → Mem shape shapes → shape.arity ≤ most_ports
   pub once : (x y : Shape) → Mem x shapes → Mem y shapes → x.word ≡ y.word → x ≡ y
 
 -- each control symbol is of a control that is there, and has as many names as that has ports

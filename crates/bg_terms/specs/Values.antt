@@ -2,6 +2,7 @@
 use Rattle.std.specs.Prelude.{ℕ, ◌+◌, Bool, ◌||◌, not, ◌==◌, nat_lt, is_some, if◌then◌else◌, List, [], ◌∷◌, ◌++◌, map, length, Option, Some, None, Result, Ok, Err}
 use Rattle.std.specs.List.{list_any}
 use Rattle.bg_lists.specs.Orders.{set_of}
+use Rattle.bg_base.specs.Limits.{most_controls, most_terms, most_depth, most_expression_nodes, most_expression_edges, most_expression_places}
 use Rattle.bg_base.specs.declared.names.Name.{Name}
 use Rattle.bg_base.specs.declared.names.Name.TheVariants.{Plain}
 use Rattle.bg_base.specs.declared.big.InnerRow.{InnerRow}
@@ -41,13 +42,13 @@ plain_names words = map Plain words
 
 -- one more term, of at most 1,048,576
 abbrev pub tallied : ℕ → Reached → Result Reached Refusal
-tallied at c = if nat_lt c.terms 1048576 then Ok (record c { terms = c.terms + 1 }) else refused (TooLarge Terms) at
+tallied at c = if nat_lt c.terms most_terms then Ok (record c { terms = c.terms + 1 }) else refused (TooLarge Terms) at
 
 -- the number of a control, which enters the signature where it is new; there are at most 4,096
 abbrev pub entered_at : ℕ → Control → List Control → Option ℕ → Result (ℕ × List Control) Refusal
 entered_at at control controls (Some number) = Ok (number, controls)
 entered_at at control controls None =
-    if nat_lt (length controls) 4096 then Ok (length controls, controls ++ control ∷ []) else refused (TooLarge Controls) at
+    if nat_lt (length controls) most_controls then Ok (length controls, controls ++ control ∷ []) else refused (TooLarge Controls) at
 
 -- the same, looked up by its label
 abbrev pub entered : ℕ → Control → List Control → Result (ℕ × List Control) Refusal
@@ -56,9 +57,9 @@ entered at control controls = entered_at at control controls (number_of controls
 -- the bigraph, where it is within the limits
 abbrev pub limited : ℕ → Big → Result Big Refusal
 limited at big =
-    if nat_lt 65536 (length big.nodes) then refused (TooLarge Nodes) at else (
-    if nat_lt 65536 (length big.edges) then refused (TooLarge Edges) at else (
-    if nat_lt 65536 big.regions || nat_lt 65536 (length big.sites) then refused (TooLarge Places) at else
+    if nat_lt most_expression_nodes (length big.nodes) then refused (TooLarge Nodes) at else (
+    if nat_lt most_expression_edges (length big.edges) then refused (TooLarge Edges) at else (
+    if nat_lt most_expression_places big.regions || nat_lt most_expression_places (length big.sites) then refused (TooLarge Places) at else
     Ok big))
 
 -- the same, with what was reached
@@ -72,7 +73,7 @@ single Atomic control number names = atom control number names
 
 -- the bigraph of that width, where that is within the limits; it is refused before it is made
 abbrev pub wide : ℕ → ℕ → Big → Result Big Refusal
-wide at width big = if nat_lt 65536 width then refused (TooLarge Places) at else Ok big
+wide at width big = if nat_lt most_expression_places width then refused (TooLarge Places) at else Ok big
 
 -- ---- the operations, as the model language has them
 
@@ -116,7 +117,7 @@ value depth (terms.merger_of at width) c = tallied at c >>= λ t. wide at width 
 value depth (terms.barren at) c = tallied at c >>= within at barren
 value depth (terms.empty at) c = tallied at c >>= within at empty
 value depth (terms.counted at t) c = tallied at c >>= value depth t
-value depth (terms.deeper at t) c = if nat_lt depth 1024 then value (depth + 1) t c else refused (TooLarge Depth) at
+value depth (terms.deeper at t) c = if nat_lt depth most_depth then value (depth + 1) t c else refused (TooLarge Depth) at
 value depth (terms.closure at word t) c =
     value depth t (record c { edges = c.edges + 1 }) >>= λ v. within at (closed c.edges (Plain word) v.0) v.1
 value depth (terms.nesting at is_atom t u) c =

@@ -1,6 +1,7 @@
 //! Laws of expressions. A call does nothing.
 ghost use Rattle.std.specs.Prelude.{◌≡◌, ◌≤◌, ◌+◌, ◌++◌, ◌∷◌, [], ℕ, true, List, All, IsTrue, length, is_none, Ok};
 ghost use Rattle.bg_algebra.specs.Frame.{is_plain};
+ghost use Rattle.bg_base.specs.Limits.{most_ports, most_expression_nodes, most_expression_edges, most_expression_places};
 ghost use Rattle.bg_base.specs.declared.big.Big.{Big};
 ghost use Rattle.bg_base.specs.declared.names.Name.{Name};
 ghost use Rattle.bg_lists.specs.Lists.{Mem};
@@ -70,11 +71,11 @@ pub fn outer_names_of_values_are_plain()
 /// What a term comes to has at most 65,536 nodes, as many edges, as many regions and as many sites.
 pub fn values_are_within_the_limits()
     ensures nodes { (depth : ℕ) (term : Term) (before after : Reached) (big : Big) → value depth term before ≡ Ok (big, after)
-        → length big.nodes ≤ 65536 }
+        → length big.nodes ≤ most_expression_nodes }
     ensures edges { (depth : ℕ) (term : Term) (before after : Reached) (big : Big) → value depth term before ≡ Ok (big, after)
-        → length big.edges ≤ 65536 }
+        → length big.edges ≤ most_expression_edges }
     ensures places { (depth : ℕ) (term : Term) (before after : Reached) (big : Big) → value depth term before ≡ Ok (big, after)
-        → (big.regions ≤ 65536) × (length big.sites ≤ 65536) }
+        → (big.regions ≤ most_expression_places) × (length big.sites ≤ most_expression_places) }
 {}
 
 /// Where each control symbol has as many names as its control has ports, at most 16, and controls with the same label
@@ -113,9 +114,9 @@ pub fn expressions_of_trees_have_their_ports()
 pub fn controls_become_visible_one_by_one()
     ensures none { AreControls [] }
     ensures more { (controls : List (Entry ControlEntry)) (word : List ℕ) (entry : ControlEntry) → AreControls controls
-        → is_none (number_of word controls) ≡ true → entry.shape.word ≡ word → entry.shape.arity ≤ 16 → AreControls (controls ++ (word, entry) ∷ []) }
+        → is_none (number_of word controls) ≡ true → entry.shape.word ≡ word → entry.shape.arity ≤ most_ports → AreControls (controls ++ (word, entry) ∷ []) }
     ensures shapes { (controls : List (Entry ControlEntry)) → AreControls controls → AreShapes (shapes_of controls) }
-    ensures small { (controls : List (Entry ControlEntry)) → AreControls controls → All (λ (shape : Shape). shape.arity ≤ 16) (shapes_of controls) }
+    ensures small { (controls : List (Entry ControlEntry)) → AreControls controls → All (λ (shape : Shape). shape.arity ≤ most_ports) (shapes_of controls) }
 {}
 
 /// What statements make visible in turn: nothing at first; then a control, whose word is not in the table and whose
@@ -123,7 +124,7 @@ pub fn controls_become_visible_one_by_one()
 pub fn definitions_are_read_one_by_one()
     ensures none { AreRead [] [] }
     ensures control { (controls : List (Entry ControlEntry)) (definitions : List Expression) (word : List ℕ) (entry : ControlEntry)
-        → AreRead controls definitions → is_none (number_of word controls) ≡ true → entry.shape.word ≡ word → entry.shape.arity ≤ 16
+        → AreRead controls definitions → is_none (number_of word controls) ≡ true → entry.shape.word ≡ word → entry.shape.arity ≤ most_ports
         → AreRead (controls ++ (word, entry) ∷ []) definitions }
     ensures definition { (controls : List (Entry ControlEntry)) (definitions : List Expression) (expression : Expression)
         → AreRead controls definitions → IsRead (shapes_of controls) expression → AreRead controls (definitions ++ expression ∷ []) }

@@ -1,5 +1,6 @@
 -- What is kept of the values of a parameter, and which values that are.
 use Rattle.std.specs.Prelude.{◌≡◌, ◌≤◌, false, List, map}
+use Rattle.bg_base.specs.Limits.{most_values}
 use Rattle.bg_base.specs.declared.labels.Value.{Value}
 use Rattle.bg_base.specs.Elementary.{counted}
 use Rattle.bg_values.specs.declared.values.Kept.{Kept}
@@ -14,4 +15,4 @@ values_kept (Range bounds) = map (number_after bounds.first bounds.step) (counte
 -- a range that is kept is not empty, and has at most 4,096 numbers
 abbrev pub IsKept : Kept → Type 0
 IsKept (Listed values) = Unit {0}
-IsKept (Range bounds) = (is_empty bounds.first bounds.step bounds.end ≡ false) × (count bounds.first bounds.step bounds.end ≤ 4096)
+IsKept (Range bounds) = (is_empty bounds.first bounds.step bounds.end ≡ false) × (count bounds.first bounds.step bounds.end ≤ most_values)

@@ -1,5 +1,6 @@
 -- The values of a parameter.
 use Rattle.std.specs.Prelude.{ℕ, suc, ℤ, pos, ◌+ℤ◌, ◌-ℤ◌, ◌*ℤ◌, int_div, nat_abs, int_lt, nat_lt, Bool, ◌||◌, if◌then◌else◌, List, [], ◌∷◌, map, length, Result, Ok}
+use Rattle.bg_base.specs.Limits.{most_values}
 use Rattle.bg_base.specs.Elementary.{counted}
 use Rattle.bg_base.specs.declared.labels.Value.{Value}
 use Rattle.bg_base.specs.declared.labels.Value.TheVariants.{Int, Words}
@@ -23,7 +24,7 @@ use Rattle.bg_values.specs.Scopes.{ScopeParts}
 
 -- a parameter, whose name is that token, has at most 4,096 values
 abbrev pub few : ℕ → List Value → Result (List Value) Refusal
-few name values = if nat_lt 4096 (length values) then refused (TooLarge Values) name else Ok values
+few name values = if nat_lt most_values (length values) then refused (TooLarge Values) name else Ok values
 
 -- the numbers of a list
 abbrev pub listed : ScopeParts → ℕ → SynX → List SynMoreXItem → Result (List Value) Refusal
@@ -49,7 +50,7 @@ number_after a s i = Int (a +ℤ (pos i *ℤ s))
 abbrev pub range : ℕ → ℕ → ℤ → ℤ → ℤ → Result (List Value) Refusal
 range name bracket a s b =
     if is_empty a s b then refused EmptyRange bracket
-    else if nat_lt 4096 (count a s b) then refused (TooLarge Values) name
+    else if nat_lt most_values (count a s b) then refused (TooLarge Values) name
     else Ok (map (number_after a s) (counted 0 (count a s b)))
 
 -- a range from a on, of which these values were found: each is a number; an operand stands behind its first token

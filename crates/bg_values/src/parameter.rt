@@ -11,13 +11,11 @@ use crate::reading::text_at;
 use crate::refusal::{Cause, LimitWord, Refusal, Stop};
 use crate::scope::Scope;
 use crate::values::{Bounds, ParameterValues, steps_of};
+use bg_base::limits::MOST_VALUES;
 use bg_base::Value;
 use bg_syntax::tree::arithmetic::{SynMoreXItem, SynX};
 use bg_syntax::tree::statements::{SynIntSet, SynMoreTextItem, SynParam, SynTextSet};
 use std::alloc::Global;
-
-/// A parameter has at most so many values.
-const MOST_VALUES: usize = 4096;
 
 /// The values of a parameter, in order, repeats kept: those of a list, or the numbers of a range, or one value. Refuses
 /// with the first cause: a name, since none is visible in them, whatever names `scope` has; then item by item of a list

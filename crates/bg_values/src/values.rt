@@ -1,5 +1,6 @@
 //! The values of a parameter, as they are kept.
 ghost use Rattle.std.specs.Prelude.{◌≡◌, ◌<◌, ◌≤◌, ◌↔◌, ◌+ℤ◌, ◌-ℤ◌, ◌*ℤ◌, pos, false, length, map, slice_get, IfOk, IsTrue, Some};
+ghost use Rattle.bg_base.specs.Limits.{most_values};
 ghost use Rattle.bg_base.specs.Elementary.{counted};
 ghost use Rattle.bg_values.specs.Parameters as definition;
 
@@ -55,7 +56,7 @@ impl ParameterValues {
     /// The numbers of a range that is not empty and has at most 4,096. Takes no memory, and constant time.
     pub(crate) fn range(bounds: Bounds) -> ParameterValues
         requires filled { definition.is_empty bounds.first bounds.step bounds.end ≡ false }
-        requires few { definition.count bounds.first bounds.step bounds.end ≤ 4096 }
+        requires few { definition.count bounds.first bounds.step bounds.end ≤ most_values }
         ensures { result ≡ map (definition.number_after bounds.first bounds.step) (counted 0 (definition.count bounds.first bounds.step bounds.end)) }
     {
         ParameterValues {
@@ -138,7 +139,7 @@ fn difference_of(bounds: &Bounds) -> i128
 /// How many numbers a range has that has at most 4,096.
 fn count_of(bounds: &Bounds) -> u32
     requires filled { definition.is_empty bounds.now.first bounds.now.step bounds.now.end ≡ false }
-    requires few { definition.count bounds.now.first bounds.now.step bounds.now.end ≤ 4096 }
+    requires few { definition.count bounds.now.first bounds.now.step bounds.now.end ≤ most_values }
     ensures { result ≡ definition.count bounds.now.first bounds.now.step bounds.now.end }
 {
     steps_of(bounds) as u32 + 1

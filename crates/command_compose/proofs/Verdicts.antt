@@ -3,6 +3,7 @@ use Rattle.std.proofs.Common.{◌≡◌, ℕ, ◌+◌, ◌≤◌, suc, Bool, tru
 use Rattle.std.specs.Prelude.{is_some, option_map}
 use Rattle.std.specs.List.{AllByRecursion, IsDistinct}
 use Rattle.std.proofs.lemmas.List.Elements.{All-from_recursion}
+use Rattle.bg_base.specs.Limits.{most_ports}
 use Rattle.bg_base.specs.declared.signature.Control.{Control}
 use Rattle.bg_base.specs.declared.big.Big.{Big}
 use Rattle.bg_base.specs.declared.check.Part.{Part}
@@ -75,7 +76,7 @@ kept_signature : (o : Option ℕ) (first_line : ℕ) (x y : List Control × List
 kept_signature None first_line x y e = (refl, cc)
 kept_signature (Some row) first_line x y e = absurd cc
 
-all_arities : (controls : List Control) → AllByRecursion IsControl controls → AllByRecursion (λ (c : Control). c.arity ≤ 16) controls
+all_arities : (controls : List Control) → AllByRecursion IsControl controls → AllByRecursion (λ (c : Control). c.arity ≤ most_ports) controls
 all_arities [] all = tt
 all_arities (c ∷ controls) all = (all.0.arity, all_arities controls all.1)
 
@@ -92,7 +93,7 @@ signature_there bytes at signature rest e =
     let kept = kept_signature (first_repeat both.read.0) (at.line + 1) both.read (signature, rest) both.kept in
     let none : first_repeat signature ≡ None = ap (λ found. first_repeat found.0) (sym kept.1) ∙ kept.0 in
     let text = signature_found (drop at.offset bytes) signature rest (both.read_is ∙ ap (λ found. Ok found) kept.1) in
-    let arities = All-from_recursion (λ (c : Control). c.arity ≤ 16) signature (all_arities signature text.counted.all) in
+    let arities = All-from_recursion (λ (c : Control). c.arity ≤ most_ports) signature (all_arities signature text.counted.all) in
     let is : IsSignature signature = record { few = text.counted.many; arities = arities; labels_differ = no_repeat signature none } in
     record { readable = readable_signature signature text.counted is; there = text.there }
 
