@@ -12,8 +12,8 @@ use crate::refusal::{Cause, LimitWord, Refusal, Stop};
 use crate::scope::Scope;
 use crate::values::{Bounds, ParameterValues, steps_of};
 use bg_base::Value;
-use bg_syntax::tree::arithmetic::{SynMoreXItem, SynX};
-use bg_syntax::tree::statements::{SynIntSet, SynMoreTextItem, SynParam, SynTextSet};
+use bg_trees::arithmetic::{SynMoreXItem, SynX};
+use bg_trees::statements::{SynIntSet, SynMoreTextItem, SynParam, SynTextSet};
 use std::alloc::Global;
 
 /// A parameter has at most so many values.
