@@ -1,17 +1,20 @@
 #!/usr/bin/env python3
-"""Writes the files of crates/bg_syntax that follow from the grammar of the model language.
+"""Writes the files of crates/bg_trees and crates/bg_syntax that follow from the grammar of the model language.
 
 Run it at the top of the repository:
 
     python3 tools/grammar.py
 
-It reads nothing but the grammar below, and writes every file of crates/bg_syntax whose first line names this script.
-Change the grammar here, run it, then `rt fmt` and `rt check` in crates/bg_syntax.
+It reads nothing but the grammar below, and writes every file of these crates whose first lines name this script.
+Change the grammar here, run it, then `rt fmt` and `rt check` in both crates, crates/bg_trees first.
 
-What it writes:
+What it writes in crates/bg_trees:
+
+    src/TOPIC.rt                             a type for each symbol
+
+and in crates/bg_syntax:
 
     src/symbol.rt, src/table.rt              the symbols, and the LL(1) table
-    src/tree/TOPIC.rt                        a type for each symbol
     src/read/TOPIC.rt                        a function for each symbol, by recursive descent
     specs/Numbers.antt, specs/Grammar.antt   the grammar as data
     specs/Plan.antt                          follow sets and ranks, beside the table

@@ -1,6 +1,7 @@
 """Writes the Rust files and the definitions: see grammar.py."""
 
 import re
+import textwrap
 
 from grammar_sets import *
 
@@ -10,9 +11,9 @@ FIRST_LINE = 'Written by tools/grammar.py'
 FILES = {}
 
 
-def put(path, text):
+def put(path, text, crate='bg_syntax'):
     text = needed(text)
-    FILES[f'crates/bg_syntax/{path}'] = text if text.endswith('\n') else text + '\n'
+    FILES[f'crates/{crate}/{path}'] = text if text.endswith('\n') else text + '\n'
 
 
 def needed(text):
@@ -34,8 +35,9 @@ def needed(text):
     return '\n'.join(kept)
 
 
-def rust(path, about, text):
-    put(path, f'//! {about} {FIRST_LINE}.\n{text}')
+def rust(path, about, text, crate='bg_syntax'):
+    head = textwrap.wrap(f'{about} {FIRST_LINE}.', 116)
+    put(path, ''.join(f'//! {line}\n' for line in head) + text, crate)
 
 
 def antt(path, about, text):
@@ -66,8 +68,8 @@ def write_types():
         uses = {}
         for p in sorted(used, key=SYMBOL_NUMBER.get):
             uses.setdefault(topic_of(p), []).append(type_name(p))
-        head = [f'use crate::tree::{t}::{{{", ".join(sorted(names))}}};' for t, names in sorted(uses.items())]
-        rust(f'src/tree/{topic}.rt', about, '\n'.join(head + lines))
+        head = [f'use crate::{t}::{{{", ".join(sorted(names))}}};' for t, names in sorted(uses.items())]
+        rust(f'src/{topic}.rt', about, '\n'.join(head + lines), 'bg_trees')
 
 
 def type_lines(s, name, ways, doc):
@@ -149,12 +151,12 @@ def type_name(s):
 def module_of(s):
     """The generated module of the symbol's type; a cycle's is that of its first enum."""
     name = cycle_types(s)[0][0] if s in CYCLE else type_name(s)
-    return f'Rattle.bg_syntax.specs.declared.tree.{topic_of(s)}.{name}'
+    return f'Rattle.bg_trees.specs.declared.{topic_of(s)}.{name}'
 
 
 def type_module(s):
     name = type_name(s)
-    return f'Rattle.bg_syntax.specs.declared.tree.{topic_of(s)}.{name}', name
+    return f'Rattle.bg_trees.specs.declared.{topic_of(s)}.{name}', name
 
 
 def steps_name(s):
@@ -438,7 +440,7 @@ def write_readers():
                 f'ghost use Rattle.bg_syntax.specs.{topic.capitalize()}Steps.{{{", ".join(words)}}};',
                 'ghost use Rattle.bg_syntax.specs.Reading.{wants, Reads, ReadsItem};', '',
                 'use crate::fault::SyntaxFault;', 'use crate::reader::Reader;', 'use crate::symbol::Symbol;',
-                f'use crate::tree::{topic}::{{{", ".join(sorted(names))}}};', 'use bg_text::TokenKind;']
+                'use bg_text::TokenKind;', f'use bg_trees::{topic}::{{{", ".join(sorted(names))}}};']
         rust(f'src/read/{topic}.rt', f'Reading. {about}', '\n'.join(head + lines))
 
 

@@ -1,15 +1,15 @@
 -- What the trees say, layer by layer.
 use Rattle.std.proofs.Common.{◌≡◌, ap, map}
-use Rattle.bg_syntax.specs.declared.tree.expressions.SynC1Item.{SynC1Item}
-use Rattle.bg_syntax.specs.declared.tree.expressions.SynE1Item.{SynE1Item, out-SynE1Item}
-use Rattle.bg_syntax.specs.declared.tree.expressions.SynM1Item.{SynM1Item, out-SynM1Item}
-use Rattle.bg_syntax.specs.declared.tree.expressions.SynP1Item.{SynP1Item, out-SynP1Item}
-use Rattle.bg_syntax.specs.declared.tree.expressions.SynN.{SynN}
-use Rattle.bg_syntax.specs.declared.tree.expressions.SynC.{SynC, out-SynC}
-use Rattle.bg_syntax.specs.declared.tree.expressions.SynE.{SynE, out-SynE}
-use Rattle.bg_syntax.specs.declared.tree.expressions.SynM.{SynM, out-SynM}
-use Rattle.bg_syntax.specs.declared.tree.expressions.SynP.{SynP, out-SynP}
-use Rattle.bg_syntax.specs.declared.tree.expressions.SynA.TheFolds.{fold_out-SynC1Item, fold_out-SynE1Item, fold_out-SynM1Item, fold_out-SynP1Item, fold_out-SynC, fold_out-SynE, fold_out-SynM, fold_out-SynP, fold_out-SynN}
+use Rattle.bg_trees.specs.declared.expressions.SynC1Item.{SynC1Item}
+use Rattle.bg_trees.specs.declared.expressions.SynE1Item.{SynE1Item, out-SynE1Item}
+use Rattle.bg_trees.specs.declared.expressions.SynM1Item.{SynM1Item, out-SynM1Item}
+use Rattle.bg_trees.specs.declared.expressions.SynP1Item.{SynP1Item, out-SynP1Item}
+use Rattle.bg_trees.specs.declared.expressions.SynN.{SynN}
+use Rattle.bg_trees.specs.declared.expressions.SynC.{SynC, out-SynC}
+use Rattle.bg_trees.specs.declared.expressions.SynE.{SynE, out-SynE}
+use Rattle.bg_trees.specs.declared.expressions.SynM.{SynM, out-SynM}
+use Rattle.bg_trees.specs.declared.expressions.SynP.{SynP, out-SynP}
+use Rattle.bg_trees.specs.declared.expressions.SynA.TheFolds.{fold_out-SynC1Item, fold_out-SynE1Item, fold_out-SynM1Item, fold_out-SynP1Item, fold_out-SynC, fold_out-SynE, fold_out-SynM, fold_out-SynP, fold_out-SynN}
 use Rattle.bg_terms.specs.declared.shape.BinaryOperation.TheVariants.{Composition, Tensor, Parallel, Merge}
 use Rattle.bg_terms.specs.Trees.{Form, Reading, Behind, Onward, Visible, joined, along, nested_read, a_layer, k_layer, n1_layer, c_layer, c1_item_layer, e_layer, e1_item_layer, m_layer, m1_item_layer, n_layer, p_layer, p1_item_layer}
 use Rattle.bg_terms.specs.Trees.{a_read, k_read, n1_read, n_read, c_read, c1_item_read, m_read, m1_item_read, p_read, p1_item_read, e_read, e1_item_read}

@@ -3,7 +3,7 @@ use Rattle.std.specs.Prelude.{◌≡◌, ℕ, List, ◌++◌, map, Result, Ok, E
 use Rattle.std.specs.Global.{Global}
 use Rattle.bg_code.specs.declared.operation.Operation.{Operation}
 use Rattle.bg_code.specs.Code.{code_of}
-use Rattle.bg_syntax.specs.declared.tree.names.SynMoreLowItem.{SynMoreLowItem}
+use Rattle.bg_trees.specs.declared.names.SynMoreLowItem.{SynMoreLowItem}
 use Rattle.bg_terms.specs.declared.shape.ControlEntry.{ControlEntry}
 use Rattle.bg_terms.specs.Expressions.{Expression}
 use Rattle.bg_terms.specs.Trees.{Visible}

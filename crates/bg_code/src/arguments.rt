@@ -5,7 +5,7 @@ ghost use Rattle.bg_terms.specs.Trees as trees;
 ghost use Rattle.bg_values.specs.Operands.{operands_read};
 
 use bg_base::Value;
-use bg_syntax::tree::expressions::SynArgs;
+use bg_trees::expressions::SynArgs;
 use bg_values::{Operand, Scope, Stop, operands_of, values_of};
 use std::alloc::Global;
 use std::marker::Model;

@@ -10,12 +10,12 @@ use crate::words::{listed_words, port_count, ports_at, width_at, word_at};
 use crate::{Operation, Visible};
 use bg_base::Ident;
 use bg_lists::Rows;
-use bg_syntax::tree::expressions::{
+use bg_terms::BinaryOperation;
+use bg_trees::expressions::{
     SynA, SynArgs, SynC, SynC1Item, SynE, SynE1Item, SynIdNames, SynIdTail, SynK, SynM, SynM1Item,
     SynN, SynN1, SynP, SynP1Item,
 };
-use bg_syntax::tree::names::{SynNameList, SynNames, SynNumber};
-use bg_terms::BinaryOperation;
+use bg_trees::names::{SynNameList, SynNames, SynNumber};
 use bg_values::{Cause, Stop};
 use std::alloc::Global;
 

@@ -8,7 +8,7 @@ ghost use Rattle.bg_values.specs.Outcome.{Gives};
 use crate::Visible;
 use bg_base::{Ident, is_ident};
 use bg_lists::Rows;
-use bg_syntax::tree::names::{SynMoreLowItem, SynNameList, SynNames, SynNumber};
+use bg_trees::names::{SynMoreLowItem, SynNameList, SynNames, SynNumber};
 use bg_values::{Cause, Refusal, Stop, number_at, number_token};
 use std::alloc::Global;
 

@@ -4,9 +4,9 @@ use Rattle.bg_elab.specs.Blocks.{Block, Listed, classes_read, preds_read, block_
 use Rattle.bg_elab.specs.References.{Reference, reference_read}
 use Rattle.bg_statements.specs.Uses.{NameSpacesParts}
 use Rattle.bg_statements.proofs.Turns.{stops_there}
-use Rattle.bg_syntax.specs.declared.tree.expressions.SynRef.{SynRef}
-use Rattle.bg_syntax.specs.declared.tree.models.SynClasses.{SynClasses}
-use Rattle.bg_syntax.specs.declared.tree.models.SynPreds.{SynPreds}
+use Rattle.bg_trees.specs.declared.expressions.SynRef.{SynRef}
+use Rattle.bg_trees.specs.declared.models.SynClasses.{SynClasses}
+use Rattle.bg_trees.specs.declared.models.SynPreds.{SynPreds}
 use Rattle.bg_values.specs.declared.refusal.Refusal.{Refusal}
 use Rattle.bg_values.specs.declared.refusal.Stop.{Stop}
 use Rattle.bg_values.specs.Outcome.{◌>>=◌, Stops}

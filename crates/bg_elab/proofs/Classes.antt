@@ -6,8 +6,8 @@ use Rattle.bg_elab.specs.Calls.{AddsClasses, classes_code, listed_codes}
 use Rattle.bg_elab.proofs.Turns.{coded_so, code_stops}
 use Rattle.bg_statements.specs.InTurn.{in_turn}
 use Rattle.bg_statements.specs.Uses.{NameSpacesParts}
-use Rattle.bg_syntax.specs.declared.tree.expressions.SynRef.{SynRef}
-use Rattle.bg_syntax.specs.declared.tree.models.SynClass.{SynClass}
+use Rattle.bg_trees.specs.declared.expressions.SynRef.{SynRef}
+use Rattle.bg_trees.specs.declared.models.SynClass.{SynClass}
 use Rattle.bg_values.specs.declared.refusal.Refusal.{Refusal}
 use Rattle.bg_values.specs.declared.refusal.Stop.{Stop}
 use Rattle.bg_values.specs.Lowering.{behind}

@@ -10,12 +10,12 @@ use Rattle.bg_statements.specs.Calls.{Kept, kept, kept_after}
 use Rattle.bg_statements.specs.Uses.{NameSpacesParts, defined_by, spaces_of}
 use Rattle.bg_statements.proofs.Codes.{Tried, tried_so}
 use Rattle.bg_statements.proofs.Turns.{stops_there}
-use Rattle.bg_syntax.specs.declared.tree.expressions.SynRef.{SynRef}
-use Rattle.bg_syntax.specs.declared.tree.models.SynClasses.{SynClasses}
-use Rattle.bg_syntax.specs.declared.tree.models.SynModel.{SynModel}
-use Rattle.bg_syntax.specs.declared.tree.models.SynParamsItem.{SynParamsItem}
-use Rattle.bg_syntax.specs.declared.tree.models.SynPreds.{SynPreds}
-use Rattle.bg_syntax.specs.declared.tree.models.SynStmtsItem.{SynStmtsItem}
+use Rattle.bg_trees.specs.declared.expressions.SynRef.{SynRef}
+use Rattle.bg_trees.specs.declared.models.SynClasses.{SynClasses}
+use Rattle.bg_trees.specs.declared.models.SynModel.{SynModel}
+use Rattle.bg_trees.specs.declared.models.SynParamsItem.{SynParamsItem}
+use Rattle.bg_trees.specs.declared.models.SynPreds.{SynPreds}
+use Rattle.bg_trees.specs.declared.models.SynStmtsItem.{SynStmtsItem}
 use Rattle.bg_values.specs.declared.refusal.Cause.TheVariants.{NoBlock}
 use Rattle.bg_values.specs.declared.refusal.Refusal.{Refusal}
 use Rattle.bg_values.specs.declared.refusal.Stop.{Stop}

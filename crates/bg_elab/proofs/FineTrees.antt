@@ -6,7 +6,7 @@ use Rattle.bg_elab.specs.Systems.{elaborated}
 use Rattle.bg_grammar.specs.Grammar.{Part, symbol, ways_of}
 use Rattle.bg_grammar.specs.Trees.{Trees, no_tree, AreTrees, no_part, a_kind, a_symbol}
 use Rattle.bg_syntax.specs.declared.symbol.Symbol.TheVariants as symbols
-use Rattle.bg_syntax.specs.declared.tree.models.SynModel.{SynModel}
+use Rattle.bg_trees.specs.declared.models.SynModel.{SynModel}
 use Rattle.bg_syntax.specs.Grammar.{grammar, model_ways}
 use Rattle.bg_syntax.specs.Models.{kinds, IsTreeOf}
 use Rattle.bg_syntax.specs.Numbers.{symbol_number}

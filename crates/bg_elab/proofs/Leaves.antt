@@ -4,7 +4,7 @@ use Rattle.bg_text.specs.declared.token.Token.{Token}
 use Rattle.bg_grammar.specs.Grammar.{Step, opened, taken, Grammar, depth_below, kinds_of}
 use Rattle.bg_grammar.specs.Trees.{Trees, no_tree, leaf, branch, steps_of, AreInTurn}
 use Rattle.bg_grammar.proofs.Trees.{derivation_in_turn}
-use Rattle.bg_syntax.specs.declared.tree.models.SynModel.{SynModel}
+use Rattle.bg_trees.specs.declared.models.SynModel.{SynModel}
 use Rattle.bg_syntax.specs.Grammar.{grammar}
 use Rattle.bg_syntax.specs.ModelsSteps.{model_steps}
 use Rattle.bg_syntax.specs.Models.{kinds, IsTreeOf, tree_of}

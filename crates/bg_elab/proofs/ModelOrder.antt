@@ -5,14 +5,14 @@ use Rattle.bg_rules.specs.Systems.{SystemParts}
 use Rattle.bg_statements.specs.Defined.{Defined}
 use Rattle.bg_statements.specs.Sound.{nothing}
 use Rattle.bg_statements.specs.Statements.{with_parameters, with_statements}
-use Rattle.bg_syntax.specs.declared.tree.expressions.SynRef.{SynRef}
-use Rattle.bg_syntax.specs.declared.tree.models.SynBlock.{SynBlock}
-use Rattle.bg_syntax.specs.declared.tree.models.SynBlock.TheVariants as blocks
-use Rattle.bg_syntax.specs.declared.tree.models.SynClasses.{SynClasses}
-use Rattle.bg_syntax.specs.declared.tree.models.SynModel.{SynModel}
-use Rattle.bg_syntax.specs.declared.tree.models.SynParamsItem.{SynParamsItem}
-use Rattle.bg_syntax.specs.declared.tree.models.SynPreds.{SynPreds}
-use Rattle.bg_syntax.specs.declared.tree.models.SynStmtsItem.{SynStmtsItem}
+use Rattle.bg_trees.specs.declared.expressions.SynRef.{SynRef}
+use Rattle.bg_trees.specs.declared.models.SynBlock.{SynBlock}
+use Rattle.bg_trees.specs.declared.models.SynBlock.TheVariants as blocks
+use Rattle.bg_trees.specs.declared.models.SynClasses.{SynClasses}
+use Rattle.bg_trees.specs.declared.models.SynModel.{SynModel}
+use Rattle.bg_trees.specs.declared.models.SynParamsItem.{SynParamsItem}
+use Rattle.bg_trees.specs.declared.models.SynPreds.{SynPreds}
+use Rattle.bg_trees.specs.declared.models.SynStmtsItem.{SynStmtsItem}
 use Rattle.bg_values.proofs.Bindings.{bind_assoc}
 use Rattle.bg_values.specs.declared.refusal.Cause.TheVariants.{NoBlock}
 use Rattle.bg_values.specs.declared.refusal.Refusal.{Refusal}

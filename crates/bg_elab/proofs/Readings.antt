@@ -16,7 +16,7 @@ use Rattle.bg_syntax.specs.Grammar.{grammar}
 use Rattle.bg_syntax.specs.Numbers.{symbol_number}
 use Rattle.bg_syntax.specs.declared.fault.SyntaxFault.{SyntaxFault}
 use Rattle.bg_syntax.specs.declared.fault.SyntaxFault.TheVariants as syntax
-use Rattle.bg_syntax.specs.declared.tree.models.SynModel.{SynModel}
+use Rattle.bg_trees.specs.declared.models.SynModel.{SynModel}
 use Rattle.bg_syntax.specs.ModelsSteps.{model_steps}
 use Rattle.bg_syntax.specs.Models.{kinds, DerivesModel, IsTreeOf, IsSyntaxFault}
 use Rattle.bg_text.specs.declared.fault.LexFault.{LexFault}

@@ -1,7 +1,7 @@
 -- A reference, part by part.
 use Rattle.std.proofs.Common.{◌≡◌, ◌∙◌, ℕ, List, Result, Ok, ap}
 use Rattle.bg_elab.specs.References.{OccurringParts, Reference, name_read, reference_with}
-use Rattle.bg_syntax.specs.declared.tree.expressions.SynRef.{SynRef}
+use Rattle.bg_trees.specs.declared.expressions.SynRef.{SynRef}
 use Rattle.bg_terms.specs.Trees.{arguments}
 use Rattle.bg_values.specs.declared.refusal.Refusal.{Refusal}
 use Rattle.bg_values.specs.Operands.{Operand, operands_read}

@@ -1,27 +1,27 @@
 -- What derivation trees of names and of arithmetic say.
 use Rattle.std.proofs.Common.{◌≡◌, ℕ, List, [], ◌∷◌, map, length, refl, ap, subst}
 use Rattle.bg_syntax.specs.declared.symbol.Symbol.TheVariants as symbols
-use Rattle.bg_syntax.specs.declared.tree.arithmetic.SynMoreXItem.{SynMoreXItem}
-use Rattle.bg_syntax.specs.declared.tree.arithmetic.SynT.{SynT}
-use Rattle.bg_syntax.specs.declared.tree.arithmetic.SynT1Item.TheFolds.{map-SynT1Item, fold-roll-SynT1Item, ind-SynT1Item, map-SynU, fold-roll-SynU, ind-SynU, map-SynX1Item, fold-roll-SynX1Item, ind-SynX1Item, map-SynT, fold-roll-SynT, ind-SynT, map-SynX, fold-roll-SynX, ind-SynX}
-use Rattle.bg_syntax.specs.declared.tree.arithmetic.SynT1Item.TheOpen.SynT1Item-F.{SynT1Item::Way1 as t1_1, SynT1Item::Way2 as t1_2}
-use Rattle.bg_syntax.specs.declared.tree.arithmetic.SynT1Item.TheOpen.SynU-F.{SynU::Way1 as u_1, SynU::Way2 as u_2, Way3 as u_3, Way4 as u_4, Way5 as u_5}
-use Rattle.bg_syntax.specs.declared.tree.arithmetic.SynT1Item.TheOpen.SynX1Item-F.{SynX1Item::Way1 as x1_1, SynX1Item::Way2 as x1_2}
-use Rattle.bg_syntax.specs.declared.tree.arithmetic.SynT1Item.TheOpen.{SynT1Item-F, SynU-F, SynX1Item-F, SynT-F, SynX-F}
-use Rattle.bg_syntax.specs.declared.tree.arithmetic.SynT1Item.TheViews.{roll-SynT1Item, roll-SynU, roll-SynX1Item, roll-SynT, roll-SynX}
-use Rattle.bg_syntax.specs.declared.tree.arithmetic.SynT1Item.{SynT1Item}
-use Rattle.bg_syntax.specs.declared.tree.arithmetic.SynU.{SynU}
-use Rattle.bg_syntax.specs.declared.tree.arithmetic.SynX.{SynX}
-use Rattle.bg_syntax.specs.declared.tree.arithmetic.SynX1Item.{SynX1Item}
-use Rattle.bg_syntax.specs.declared.tree.names.SynFormals.TheVariants as formals_ways
-use Rattle.bg_syntax.specs.declared.tree.names.SynFormals.{SynFormals}
-use Rattle.bg_syntax.specs.declared.tree.names.SynMoreLowItem.{SynMoreLowItem}
-use Rattle.bg_syntax.specs.declared.tree.names.SynNameList.TheVariants as name_list_ways
-use Rattle.bg_syntax.specs.declared.tree.names.SynNameList.{SynNameList}
-use Rattle.bg_syntax.specs.declared.tree.names.SynNames.TheVariants as names_ways
-use Rattle.bg_syntax.specs.declared.tree.names.SynNames.{SynNames}
-use Rattle.bg_syntax.specs.declared.tree.names.SynNumber.TheVariants as number_ways
-use Rattle.bg_syntax.specs.declared.tree.names.SynNumber.{SynNumber}
+use Rattle.bg_trees.specs.declared.arithmetic.SynMoreXItem.{SynMoreXItem}
+use Rattle.bg_trees.specs.declared.arithmetic.SynT.{SynT}
+use Rattle.bg_trees.specs.declared.arithmetic.SynT1Item.TheFolds.{map-SynT1Item, fold-roll-SynT1Item, ind-SynT1Item, map-SynU, fold-roll-SynU, ind-SynU, map-SynX1Item, fold-roll-SynX1Item, ind-SynX1Item, map-SynT, fold-roll-SynT, ind-SynT, map-SynX, fold-roll-SynX, ind-SynX}
+use Rattle.bg_trees.specs.declared.arithmetic.SynT1Item.TheOpen.SynT1Item-F.{SynT1Item::Way1 as t1_1, SynT1Item::Way2 as t1_2}
+use Rattle.bg_trees.specs.declared.arithmetic.SynT1Item.TheOpen.SynU-F.{SynU::Way1 as u_1, SynU::Way2 as u_2, Way3 as u_3, Way4 as u_4, Way5 as u_5}
+use Rattle.bg_trees.specs.declared.arithmetic.SynT1Item.TheOpen.SynX1Item-F.{SynX1Item::Way1 as x1_1, SynX1Item::Way2 as x1_2}
+use Rattle.bg_trees.specs.declared.arithmetic.SynT1Item.TheOpen.{SynT1Item-F, SynU-F, SynX1Item-F, SynT-F, SynX-F}
+use Rattle.bg_trees.specs.declared.arithmetic.SynT1Item.TheViews.{roll-SynT1Item, roll-SynU, roll-SynX1Item, roll-SynT, roll-SynX}
+use Rattle.bg_trees.specs.declared.arithmetic.SynT1Item.{SynT1Item}
+use Rattle.bg_trees.specs.declared.arithmetic.SynU.{SynU}
+use Rattle.bg_trees.specs.declared.arithmetic.SynX.{SynX}
+use Rattle.bg_trees.specs.declared.arithmetic.SynX1Item.{SynX1Item}
+use Rattle.bg_trees.specs.declared.names.SynFormals.TheVariants as formals_ways
+use Rattle.bg_trees.specs.declared.names.SynFormals.{SynFormals}
+use Rattle.bg_trees.specs.declared.names.SynMoreLowItem.{SynMoreLowItem}
+use Rattle.bg_trees.specs.declared.names.SynNameList.TheVariants as name_list_ways
+use Rattle.bg_trees.specs.declared.names.SynNameList.{SynNameList}
+use Rattle.bg_trees.specs.declared.names.SynNames.TheVariants as names_ways
+use Rattle.bg_trees.specs.declared.names.SynNames.{SynNames}
+use Rattle.bg_trees.specs.declared.names.SynNumber.TheVariants as number_ways
+use Rattle.bg_trees.specs.declared.names.SynNumber.{SynNumber}
 use Rattle.bg_text.specs.declared.token.TokenKind.TheVariants as kinds
 use Rattle.bg_syntax.specs.Trees.{Growth, ItemGrowth}
 use Rattle.bg_statements.specs.Statements.{formals_read, with_formals}

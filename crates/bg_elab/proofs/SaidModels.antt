@@ -2,22 +2,22 @@
 use Rattle.std.proofs.Common.{◌≡◌, List, [], ◌∷◌, map, refl, sym, ap, ◌∙◌}
 use Rattle.bg_text.specs.declared.token.TokenKind.TheVariants as kinds
 use Rattle.bg_syntax.specs.declared.symbol.Symbol.TheVariants as symbols
-use Rattle.bg_syntax.specs.declared.tree.models.SynStmtsItem.{SynStmtsItem}
-use Rattle.bg_syntax.specs.declared.tree.models.SynParamsItem.{SynParamsItem}
-use Rattle.bg_syntax.specs.declared.tree.models.SynMoreRefItem.{SynMoreRefItem}
-use Rattle.bg_syntax.specs.declared.tree.models.SynRefs.{SynRefs}
-use Rattle.bg_syntax.specs.declared.tree.models.SynRefs.TheVariants as refs_ways
-use Rattle.bg_syntax.specs.declared.tree.models.SynClass.{SynClass}
-use Rattle.bg_syntax.specs.declared.tree.models.SynClass.TheVariants as class_ways
-use Rattle.bg_syntax.specs.declared.tree.models.SynMoreClItem.{SynMoreClItem}
-use Rattle.bg_syntax.specs.declared.tree.models.SynClasses.{SynClasses}
-use Rattle.bg_syntax.specs.declared.tree.models.SynClasses.TheVariants as classes_ways
-use Rattle.bg_syntax.specs.declared.tree.models.SynPreds.{SynPreds}
-use Rattle.bg_syntax.specs.declared.tree.models.SynPreds.TheVariants as preds_ways
-use Rattle.bg_syntax.specs.declared.tree.models.SynBlock.{SynBlock}
-use Rattle.bg_syntax.specs.declared.tree.models.SynBlock.TheVariants as block_ways
-use Rattle.bg_syntax.specs.declared.tree.models.SynModel.{SynModel}
-use Rattle.bg_syntax.specs.declared.tree.expressions.SynRef.{SynRef}
+use Rattle.bg_trees.specs.declared.models.SynStmtsItem.{SynStmtsItem}
+use Rattle.bg_trees.specs.declared.models.SynParamsItem.{SynParamsItem}
+use Rattle.bg_trees.specs.declared.models.SynMoreRefItem.{SynMoreRefItem}
+use Rattle.bg_trees.specs.declared.models.SynRefs.{SynRefs}
+use Rattle.bg_trees.specs.declared.models.SynRefs.TheVariants as refs_ways
+use Rattle.bg_trees.specs.declared.models.SynClass.{SynClass}
+use Rattle.bg_trees.specs.declared.models.SynClass.TheVariants as class_ways
+use Rattle.bg_trees.specs.declared.models.SynMoreClItem.{SynMoreClItem}
+use Rattle.bg_trees.specs.declared.models.SynClasses.{SynClasses}
+use Rattle.bg_trees.specs.declared.models.SynClasses.TheVariants as classes_ways
+use Rattle.bg_trees.specs.declared.models.SynPreds.{SynPreds}
+use Rattle.bg_trees.specs.declared.models.SynPreds.TheVariants as preds_ways
+use Rattle.bg_trees.specs.declared.models.SynBlock.{SynBlock}
+use Rattle.bg_trees.specs.declared.models.SynBlock.TheVariants as block_ways
+use Rattle.bg_trees.specs.declared.models.SynModel.{SynModel}
+use Rattle.bg_trees.specs.declared.expressions.SynRef.{SynRef}
 use Rattle.bg_syntax.specs.ModelsTrees.{block_tree, class_tree, classes_tree, model_tree, more_cl_item_tree, more_cl_tree, more_ref_item_tree, more_ref_tree, params_item_tree, params_tree, preds_tree, refs_tree, stmts_item_tree, stmts_tree}
 use Rattle.bg_syntax.specs.Models.{IsTreeOf, tree_of}
 use Rattle.bg_syntax.proofs.OneTree.{tokens_tell}

@@ -2,39 +2,39 @@
 use Rattle.std.proofs.Common.{List, [], ◌∷◌, refl}
 use Rattle.bg_text.specs.declared.token.TokenKind.TheVariants as kinds
 use Rattle.bg_syntax.specs.declared.symbol.Symbol.TheVariants as symbols
-use Rattle.bg_syntax.specs.declared.tree.statements.SynFun.{SynFun}
-use Rattle.bg_syntax.specs.declared.tree.statements.SynFun.TheVariants as fun_ways
-use Rattle.bg_syntax.specs.declared.tree.statements.SynControl.{SynControl}
-use Rattle.bg_syntax.specs.declared.tree.statements.SynBigraph.{SynBigraph}
-use Rattle.bg_syntax.specs.declared.tree.statements.SynMoreNumItem.{SynMoreNumItem}
-use Rattle.bg_syntax.specs.declared.tree.statements.SynNumbers.{SynNumbers}
-use Rattle.bg_syntax.specs.declared.tree.statements.SynNumbers.TheVariants as numbers_ways
-use Rattle.bg_syntax.specs.declared.tree.statements.SynEta.{SynEta}
-use Rattle.bg_syntax.specs.declared.tree.statements.SynNot.{SynNot}
-use Rattle.bg_syntax.specs.declared.tree.statements.SynNot.TheVariants as negation_ways
-use Rattle.bg_syntax.specs.declared.tree.statements.SynSide.{SynSide}
-use Rattle.bg_syntax.specs.declared.tree.statements.SynSide.TheVariants as side_ways
-use Rattle.bg_syntax.specs.declared.tree.statements.SynTest.{SynTest}
-use Rattle.bg_syntax.specs.declared.tree.statements.SynTestsItem.{SynTestsItem}
-use Rattle.bg_syntax.specs.declared.tree.statements.SynCond.{SynCond}
-use Rattle.bg_syntax.specs.declared.tree.statements.SynIfTail.{SynIfTail}
-use Rattle.bg_syntax.specs.declared.tree.statements.SynIfTail.TheVariants as if_tail_ways
-use Rattle.bg_syntax.specs.declared.tree.statements.SynEtaTail.{SynEtaTail}
-use Rattle.bg_syntax.specs.declared.tree.statements.SynEtaTail.TheVariants as eta_tail_ways
-use Rattle.bg_syntax.specs.declared.tree.statements.SynTail.{SynTail}
-use Rattle.bg_syntax.specs.declared.tree.statements.SynTail.TheVariants as tail_ways
-use Rattle.bg_syntax.specs.declared.tree.statements.SynReact.{SynReact}
-use Rattle.bg_syntax.specs.declared.tree.statements.SynAfterFun.{SynAfterFun}
-use Rattle.bg_syntax.specs.declared.tree.statements.SynAfterFun.TheVariants as after_fun_ways
-use Rattle.bg_syntax.specs.declared.tree.statements.SynIntSet.{SynIntSet}
-use Rattle.bg_syntax.specs.declared.tree.statements.SynIntSet.TheVariants as int_set_ways
-use Rattle.bg_syntax.specs.declared.tree.statements.SynMoreTextItem.{SynMoreTextItem}
-use Rattle.bg_syntax.specs.declared.tree.statements.SynTextSet.{SynTextSet}
-use Rattle.bg_syntax.specs.declared.tree.statements.SynTextSet.TheVariants as text_set_ways
-use Rattle.bg_syntax.specs.declared.tree.statements.SynParam.{SynParam}
-use Rattle.bg_syntax.specs.declared.tree.statements.SynParam.TheVariants as param_ways
-use Rattle.bg_syntax.specs.declared.tree.statements.SynStmt.{SynStmt}
-use Rattle.bg_syntax.specs.declared.tree.statements.SynStmt.TheVariants as stmt_ways
+use Rattle.bg_trees.specs.declared.statements.SynFun.{SynFun}
+use Rattle.bg_trees.specs.declared.statements.SynFun.TheVariants as fun_ways
+use Rattle.bg_trees.specs.declared.statements.SynControl.{SynControl}
+use Rattle.bg_trees.specs.declared.statements.SynBigraph.{SynBigraph}
+use Rattle.bg_trees.specs.declared.statements.SynMoreNumItem.{SynMoreNumItem}
+use Rattle.bg_trees.specs.declared.statements.SynNumbers.{SynNumbers}
+use Rattle.bg_trees.specs.declared.statements.SynNumbers.TheVariants as numbers_ways
+use Rattle.bg_trees.specs.declared.statements.SynEta.{SynEta}
+use Rattle.bg_trees.specs.declared.statements.SynNot.{SynNot}
+use Rattle.bg_trees.specs.declared.statements.SynNot.TheVariants as negation_ways
+use Rattle.bg_trees.specs.declared.statements.SynSide.{SynSide}
+use Rattle.bg_trees.specs.declared.statements.SynSide.TheVariants as side_ways
+use Rattle.bg_trees.specs.declared.statements.SynTest.{SynTest}
+use Rattle.bg_trees.specs.declared.statements.SynTestsItem.{SynTestsItem}
+use Rattle.bg_trees.specs.declared.statements.SynCond.{SynCond}
+use Rattle.bg_trees.specs.declared.statements.SynIfTail.{SynIfTail}
+use Rattle.bg_trees.specs.declared.statements.SynIfTail.TheVariants as if_tail_ways
+use Rattle.bg_trees.specs.declared.statements.SynEtaTail.{SynEtaTail}
+use Rattle.bg_trees.specs.declared.statements.SynEtaTail.TheVariants as eta_tail_ways
+use Rattle.bg_trees.specs.declared.statements.SynTail.{SynTail}
+use Rattle.bg_trees.specs.declared.statements.SynTail.TheVariants as tail_ways
+use Rattle.bg_trees.specs.declared.statements.SynReact.{SynReact}
+use Rattle.bg_trees.specs.declared.statements.SynAfterFun.{SynAfterFun}
+use Rattle.bg_trees.specs.declared.statements.SynAfterFun.TheVariants as after_fun_ways
+use Rattle.bg_trees.specs.declared.statements.SynIntSet.{SynIntSet}
+use Rattle.bg_trees.specs.declared.statements.SynIntSet.TheVariants as int_set_ways
+use Rattle.bg_trees.specs.declared.statements.SynMoreTextItem.{SynMoreTextItem}
+use Rattle.bg_trees.specs.declared.statements.SynTextSet.{SynTextSet}
+use Rattle.bg_trees.specs.declared.statements.SynTextSet.TheVariants as text_set_ways
+use Rattle.bg_trees.specs.declared.statements.SynParam.{SynParam}
+use Rattle.bg_trees.specs.declared.statements.SynParam.TheVariants as param_ways
+use Rattle.bg_trees.specs.declared.statements.SynStmt.{SynStmt}
+use Rattle.bg_trees.specs.declared.statements.SynStmt.TheVariants as stmt_ways
 use Rattle.bg_syntax.specs.StatementsTrees.{after_fun_tree, bigraph_tree, cond_tree, control_tree, eta_tail_tree, eta_tree, fun_tree, if_tail_tree, int_set_tree, more_num_item_tree, more_num_tree, more_text_item_tree, more_text_tree, negation_tree, numbers_tree, param_tree, react_tree, side_tree, stmt_tree, tail_tree, test_tree, tests_item_tree, tests_tree, text_set_tree}
 use Rattle.bg_statements.specs.Rules.{with_entries, entries_read, is_positive, side_of, condition_read, with_conditions, conditions_read, later_conditions, map_read, later_map, tail_read}
 use Rattle.bg_statements.specs.Statements.{with_control, with_bigraph, with_rule, with_parameter, with_after_fun, with_statement}

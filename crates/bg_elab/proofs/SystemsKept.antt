@@ -26,15 +26,15 @@ use Rattle.bg_statements.proofs.TestsPassed.{one_more}
 use Rattle.bg_statements.proofs.Turns.{turns_keep}
 use Rattle.bg_statements.proofs.UsesAre.{host_used_host, predicate_used_is}
 use Rattle.bg_statements.proofs.UsesFit.{FitsControls, GoesOn, stays, goes_further, valid_later, rule_later, host_used_fits, predicate_used_fits, rule_used_fits}
-use Rattle.bg_syntax.specs.declared.tree.expressions.SynRef.{SynRef}
-use Rattle.bg_syntax.specs.declared.tree.models.SynBlock.{SynBlock}
-use Rattle.bg_syntax.specs.declared.tree.models.SynBlock.TheVariants as blocks
-use Rattle.bg_syntax.specs.declared.tree.models.SynClass.{SynClass}
-use Rattle.bg_syntax.specs.declared.tree.models.SynClasses.{SynClasses}
-use Rattle.bg_syntax.specs.declared.tree.models.SynModel.{SynModel}
-use Rattle.bg_syntax.specs.declared.tree.models.SynParamsItem.{SynParamsItem}
-use Rattle.bg_syntax.specs.declared.tree.models.SynPreds.{SynPreds}
-use Rattle.bg_syntax.specs.declared.tree.models.SynStmtsItem.{SynStmtsItem}
+use Rattle.bg_trees.specs.declared.expressions.SynRef.{SynRef}
+use Rattle.bg_trees.specs.declared.models.SynBlock.{SynBlock}
+use Rattle.bg_trees.specs.declared.models.SynBlock.TheVariants as blocks
+use Rattle.bg_trees.specs.declared.models.SynClass.{SynClass}
+use Rattle.bg_trees.specs.declared.models.SynClasses.{SynClasses}
+use Rattle.bg_trees.specs.declared.models.SynModel.{SynModel}
+use Rattle.bg_trees.specs.declared.models.SynParamsItem.{SynParamsItem}
+use Rattle.bg_trees.specs.declared.models.SynPreds.{SynPreds}
+use Rattle.bg_trees.specs.declared.models.SynStmtsItem.{SynStmtsItem}
 use Rattle.bg_terms.proofs.Numbered.{bound}
 use Rattle.bg_values.proofs.Bindings.{ok_same}
 use Rattle.bg_values.specs.declared.refusal.Cause.TheVariants.{NoBlock}

@@ -4,17 +4,17 @@ use Rattle.bg_elab.specs.References.{Reference, reference_read}
 use Rattle.bg_lists.specs.Lists.{Mem}
 use Rattle.bg_statements.specs.InTurn.{in_turn}
 use Rattle.bg_statements.specs.Uses.{NameSpacesParts}
-use Rattle.bg_syntax.specs.declared.tree.expressions.SynRef.{SynRef}
-use Rattle.bg_syntax.specs.declared.tree.models.SynClass.{SynClass}
-use Rattle.bg_syntax.specs.declared.tree.models.SynClass.TheVariants as class_ways
-use Rattle.bg_syntax.specs.declared.tree.models.SynClasses.{SynClasses}
-use Rattle.bg_syntax.specs.declared.tree.models.SynClasses.TheVariants as classes_ways
-use Rattle.bg_syntax.specs.declared.tree.models.SynMoreClItem.{SynMoreClItem}
-use Rattle.bg_syntax.specs.declared.tree.models.SynMoreRefItem.{SynMoreRefItem}
-use Rattle.bg_syntax.specs.declared.tree.models.SynPreds.{SynPreds}
-use Rattle.bg_syntax.specs.declared.tree.models.SynPreds.TheVariants as preds_ways
-use Rattle.bg_syntax.specs.declared.tree.models.SynRefs.{SynRefs}
-use Rattle.bg_syntax.specs.declared.tree.models.SynRefs.TheVariants as refs_ways
+use Rattle.bg_trees.specs.declared.expressions.SynRef.{SynRef}
+use Rattle.bg_trees.specs.declared.models.SynClass.{SynClass}
+use Rattle.bg_trees.specs.declared.models.SynClass.TheVariants as class_ways
+use Rattle.bg_trees.specs.declared.models.SynClasses.{SynClasses}
+use Rattle.bg_trees.specs.declared.models.SynClasses.TheVariants as classes_ways
+use Rattle.bg_trees.specs.declared.models.SynMoreClItem.{SynMoreClItem}
+use Rattle.bg_trees.specs.declared.models.SynMoreRefItem.{SynMoreRefItem}
+use Rattle.bg_trees.specs.declared.models.SynPreds.{SynPreds}
+use Rattle.bg_trees.specs.declared.models.SynPreds.TheVariants as preds_ways
+use Rattle.bg_trees.specs.declared.models.SynRefs.{SynRefs}
+use Rattle.bg_trees.specs.declared.models.SynRefs.TheVariants as refs_ways
 use Rattle.bg_values.specs.declared.refusal.Refusal.{Refusal}
 use Rattle.bg_values.specs.Outcome.{◌>>=◌}
 use Rattle.bg_values.specs.Scopes.{ScopeParts}

@@ -6,7 +6,7 @@ use Rattle.bg_elab.specs.declared.fault.ModelFault.{ModelFault}
 use Rattle.bg_elab.specs.declared.fault.ModelFault.TheVariants as faults
 use Rattle.bg_elab.specs.Systems.{elaborated}
 use Rattle.bg_rules.specs.Systems.{SystemParts}
-use Rattle.bg_syntax.specs.declared.tree.models.SynModel.{SynModel}
+use Rattle.bg_trees.specs.declared.models.SynModel.{SynModel}
 use Rattle.bg_text.specs.declared.token.Token.{Token}
 use Rattle.bg_values.specs.declared.refusal.Cause.{Cause}
 use Rattle.bg_values.specs.declared.refusal.Cause.TheVariants.{NotSolid, TooLarge}

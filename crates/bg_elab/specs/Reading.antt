@@ -8,7 +8,7 @@ use Rattle.bg_elab.specs.Systems.{elaborated}
 use Rattle.bg_rules.specs.Systems.{SystemParts}
 use Rattle.bg_syntax.specs.declared.fault.SyntaxFault.{SyntaxFault}
 use Rattle.bg_syntax.specs.declared.fault.SyntaxFault.TheVariants as syntax
-use Rattle.bg_syntax.specs.declared.tree.models.SynModel.{SynModel}
+use Rattle.bg_trees.specs.declared.models.SynModel.{SynModel}
 use Rattle.bg_syntax.specs.Models.{IsTreeOf, IsSyntaxFault}
 use Rattle.bg_text.specs.declared.fault.LexFault.{LexFault}
 use Rattle.bg_text.specs.declared.fault.LexFault.TheVariants as lexical

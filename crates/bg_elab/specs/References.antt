@@ -2,9 +2,9 @@
 use Rattle.std.specs.Prelude.{ℕ, ◌-◌, ◌==◌, not, is_some, if◌then◌else◌, List, [], ◌∷◌, ◌++◌, length, Option, Some, None, Result, Ok}
 use Rattle.bg_base.specs.declared.labels.Value.{Value}
 use Rattle.bg_base.specs.Elementary.{counted}
-use Rattle.bg_syntax.specs.declared.tree.expressions.SynArgs.{SynArgs}
-use Rattle.bg_syntax.specs.declared.tree.expressions.SynArgs.TheVariants as args_ways
-use Rattle.bg_syntax.specs.declared.tree.expressions.SynRef.{SynRef}
+use Rattle.bg_trees.specs.declared.expressions.SynArgs.{SynArgs}
+use Rattle.bg_trees.specs.declared.expressions.SynArgs.TheVariants as args_ways
+use Rattle.bg_trees.specs.declared.expressions.SynRef.{SynRef}
 use Rattle.bg_terms.specs.Trees.{arguments, word_at}
 use Rattle.bg_values.specs.declared.refusal.Refusal.{Refusal}
 use Rattle.bg_values.specs.declared.refusal.Cause.TheVariants.{UnknownName, WrongArguments}

@@ -4,16 +4,14 @@ ghost use Rattle.bg_elab.specs.Blocks as definition;
 ghost use Rattle.bg_elab.specs.Calls.{Adds, AddsClasses, block_code, classes_code, listed_codes, reference_codes};
 ghost use Rattle.bg_statements.specs.Calls.{ReadsAs};
 ghost use Rattle.bg_statements.specs.InTurn.{in_turn};
-ghost use Rattle.bg_syntax.specs.declared.tree.models.SynMoreClItem.{SynMoreClItem as MoreClasses};
-ghost use Rattle.bg_syntax.specs.declared.tree.models.SynMoreRefItem.{SynMoreRefItem as MoreReferences};
+ghost use Rattle.bg_trees.specs.declared.models.SynMoreClItem.{SynMoreClItem as MoreClasses};
+ghost use Rattle.bg_trees.specs.declared.models.SynMoreRefItem.{SynMoreRefItem as MoreReferences};
 
 use crate::references::{Reference, reference_of};
 use bg_lists::Rows;
 use bg_statements::NameSpaces;
-use bg_syntax::tree::expressions::SynRef;
-use bg_syntax::tree::models::{
-    SynClass, SynClasses, SynMoreClItem, SynMoreRefItem, SynPreds, SynRefs,
-};
+use bg_trees::expressions::SynRef;
+use bg_trees::models::{SynClass, SynClasses, SynMoreClItem, SynMoreRefItem, SynPreds, SynRefs};
 use bg_values::{NameTable, Scope, Stop};
 use std::alloc::Global;
 

@@ -9,11 +9,9 @@ use crate::fault::{ModelFault, fault_of};
 use crate::systems::system_of_block;
 use bg_rules::System;
 use bg_statements::Uses;
-use bg_syntax::tree::expressions::SynRef;
-use bg_syntax::tree::models::{
-    SynBlock, SynClasses, SynModel, SynParamsItem, SynPreds, SynStmtsItem,
-};
 use bg_text::Token;
+use bg_trees::expressions::SynRef;
+use bg_trees::models::{SynBlock, SynClasses, SynModel, SynParamsItem, SynPreds, SynStmtsItem};
 use bg_values::{Cause, NameTable, Scope, Stop};
 use std::alloc::Global;
 

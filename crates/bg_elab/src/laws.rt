@@ -9,7 +9,7 @@ ghost use Rattle.bg_elab.specs.Spellings.{Spells, IsUnexpectedAt};
 ghost use Rattle.bg_elab.specs.Systems.{elaborated};
 ghost use Rattle.bg_rules.specs.Systems.{SystemParts, IsSystem};
 ghost use Rattle.bg_syntax.specs.Models.{IsTreeOf};
-ghost use Rattle.bg_syntax.specs.declared.tree.models.SynModel.{SynModel};
+ghost use Rattle.bg_trees.specs.declared.models.SynModel.{SynModel};
 ghost use Rattle.bg_text.specs.declared.token.Token.{Token};
 ghost use Rattle.bg_text.specs.Tokens.{AreTokens};
 ghost use Rattle.bg_values.specs.declared.refusal.Refusal.{Refusal};

@@ -5,7 +5,7 @@ ghost use Rattle.bg_elab.specs.References as definition;
 ghost use Rattle.bg_values.specs.Names.{number_of};
 
 use bg_lists::{Duplicate, Mem};
-use bg_syntax::tree::expressions::SynArgs;
+use bg_trees::expressions::SynArgs;
 use bg_values::{NameTable, ParameterValues, Scope};
 use std::alloc::Global;
 use std::marker::Model;

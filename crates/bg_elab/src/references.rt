@@ -8,7 +8,7 @@ use crate::occurring::{Occurring, parameters_in};
 use bg_base::{Ident, Label, Value};
 use bg_code::{Arguments, Visible, argument_count, arguments_of, word_at};
 use bg_lists::{Duplicate, Rows};
-use bg_syntax::tree::expressions::SynRef;
+use bg_trees::expressions::SynRef;
 use bg_values::{Cause, NameTable, ParameterValues, Scope, Stop};
 use std::alloc::Global;
 

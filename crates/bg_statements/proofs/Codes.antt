@@ -10,11 +10,11 @@ use Rattle.bg_statements.specs.Defined.{Defined}
 use Rattle.bg_statements.specs.Rules.{ConditionExpression, conditions_read, later_conditions, later_map, map_read, tail_read}
 use Rattle.bg_statements.specs.Settings.{SettingParts}
 use Rattle.bg_statements.specs.Statements.{setting_of}
-use Rattle.bg_syntax.specs.declared.tree.statements.SynCond.{SynCond}
-use Rattle.bg_syntax.specs.declared.tree.statements.SynEta.{SynEta}
-use Rattle.bg_syntax.specs.declared.tree.statements.SynEtaTail.{SynEtaTail}
-use Rattle.bg_syntax.specs.declared.tree.statements.SynIfTail.{SynIfTail}
-use Rattle.bg_syntax.specs.declared.tree.statements.SynTail.TheVariants as tails
+use Rattle.bg_trees.specs.declared.statements.SynCond.{SynCond}
+use Rattle.bg_trees.specs.declared.statements.SynEta.{SynEta}
+use Rattle.bg_trees.specs.declared.statements.SynEtaTail.{SynEtaTail}
+use Rattle.bg_trees.specs.declared.statements.SynIfTail.{SynIfTail}
+use Rattle.bg_trees.specs.declared.statements.SynTail.TheVariants as tails
 use Rattle.bg_terms.specs.declared.shape.ControlEntry.{ControlEntry}
 use Rattle.bg_terms.specs.Trees.{Visible}
 use Rattle.bg_values.specs.declared.refusal.Refusal.{Refusal}

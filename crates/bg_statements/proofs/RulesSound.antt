@@ -20,20 +20,20 @@ use Rattle.bg_statements.specs.Statements.{new_word, formals_read, setting_of, s
 use Rattle.bg_statements.specs.Uses.{defined_by}
 use Rattle.bg_statements.proofs.Sounds.{AreRulesRead, Entered, as_many_more, bigraphs_still, rules_still, grown, nothing_sound, control_sound, bigraph_sound, parameter_sound}
 use Rattle.bg_statements.proofs.Turns.{turns_keep}
-use Rattle.bg_syntax.specs.declared.tree.models.SynParamsItem.{SynParamsItem}
-use Rattle.bg_syntax.specs.declared.tree.models.SynStmtsItem.{SynStmtsItem}
-use Rattle.bg_syntax.specs.declared.tree.statements.SynAfterFun.{SynAfterFun}
-use Rattle.bg_syntax.specs.declared.tree.statements.SynAfterFun.TheVariants as after_fun
-use Rattle.bg_syntax.specs.declared.tree.statements.SynCond.{SynCond}
-use Rattle.bg_syntax.specs.declared.tree.statements.SynIfTail.{SynIfTail}
-use Rattle.bg_syntax.specs.declared.tree.statements.SynIfTail.TheVariants as if_tails
-use Rattle.bg_syntax.specs.declared.tree.statements.SynReact.{SynReact}
-use Rattle.bg_syntax.specs.declared.tree.statements.SynStmt.{SynStmt}
-use Rattle.bg_syntax.specs.declared.tree.statements.SynStmt.TheVariants as statements
-use Rattle.bg_syntax.specs.declared.tree.statements.SynTail.{SynTail}
-use Rattle.bg_syntax.specs.declared.tree.statements.SynTail.TheVariants as tails
-use Rattle.bg_syntax.specs.declared.tree.statements.SynTest.{SynTest}
-use Rattle.bg_syntax.specs.declared.tree.statements.SynTestsItem.{SynTestsItem}
+use Rattle.bg_trees.specs.declared.models.SynParamsItem.{SynParamsItem}
+use Rattle.bg_trees.specs.declared.models.SynStmtsItem.{SynStmtsItem}
+use Rattle.bg_trees.specs.declared.statements.SynAfterFun.{SynAfterFun}
+use Rattle.bg_trees.specs.declared.statements.SynAfterFun.TheVariants as after_fun
+use Rattle.bg_trees.specs.declared.statements.SynCond.{SynCond}
+use Rattle.bg_trees.specs.declared.statements.SynIfTail.{SynIfTail}
+use Rattle.bg_trees.specs.declared.statements.SynIfTail.TheVariants as if_tails
+use Rattle.bg_trees.specs.declared.statements.SynReact.{SynReact}
+use Rattle.bg_trees.specs.declared.statements.SynStmt.{SynStmt}
+use Rattle.bg_trees.specs.declared.statements.SynStmt.TheVariants as statements
+use Rattle.bg_trees.specs.declared.statements.SynTail.{SynTail}
+use Rattle.bg_trees.specs.declared.statements.SynTail.TheVariants as tails
+use Rattle.bg_trees.specs.declared.statements.SynTest.{SynTest}
+use Rattle.bg_trees.specs.declared.statements.SynTestsItem.{SynTestsItem}
 use Rattle.bg_terms.specs.declared.shape.Shape.{Shape}
 use Rattle.bg_terms.specs.Expressions.{Expression}
 use Rattle.bg_terms.specs.Read.{AreRead, IsRead, shapes_of}

@@ -17,9 +17,9 @@ use Rattle.bg_statements.specs.Defined.{Defined, visible_with}
 use Rattle.bg_statements.specs.Rules.{RuleExpression}
 use Rattle.bg_statements.specs.Sound.{IsRuleRead, IsSound, nothing}
 use Rattle.bg_statements.specs.Statements.{new_word, formals_read, arity_at, entered_at_once, with_shape, with_control, tried, with_expression, with_bigraph, with_parameter}
-use Rattle.bg_syntax.specs.declared.tree.statements.SynBigraph.{SynBigraph}
-use Rattle.bg_syntax.specs.declared.tree.statements.SynControl.{SynControl}
-use Rattle.bg_syntax.specs.declared.tree.statements.SynParam.{SynParam}
+use Rattle.bg_trees.specs.declared.statements.SynBigraph.{SynBigraph}
+use Rattle.bg_trees.specs.declared.statements.SynControl.{SynControl}
+use Rattle.bg_trees.specs.declared.statements.SynParam.{SynParam}
 use Rattle.bg_terms.specs.declared.shape.ControlEntry.{ControlEntry}
 use Rattle.bg_terms.specs.declared.shape.Shape.{Shape}
 use Rattle.bg_terms.specs.Expansion.{control_of, expand, meanings_of}

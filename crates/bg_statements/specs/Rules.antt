@@ -3,25 +3,25 @@ use Rattle.std.specs.Prelude.{â„•, Bool, true, false, min, nat_abs, List, [], â—
 use Rattle.bg_rules.specs.declared.condition.Side.{Side}
 use Rattle.bg_rules.specs.declared.condition.Side.TheVariants.{Ctx, Param}
 use Rattle.bg_statements.specs.InTurn.{in_turn}
-use Rattle.bg_syntax.specs.declared.tree.statements.SynCond.{SynCond}
-use Rattle.bg_syntax.specs.declared.tree.statements.SynEta.{SynEta}
-use Rattle.bg_syntax.specs.declared.tree.statements.SynEtaTail.{SynEtaTail}
-use Rattle.bg_syntax.specs.declared.tree.statements.SynEtaTail.TheVariants as eta_tails
-use Rattle.bg_syntax.specs.declared.tree.statements.SynIfTail.{SynIfTail}
-use Rattle.bg_syntax.specs.declared.tree.statements.SynIfTail.TheVariants as if_tails
-use Rattle.bg_syntax.specs.declared.tree.statements.SynMoreNumItem.{SynMoreNumItem}
-use Rattle.bg_syntax.specs.declared.tree.statements.SynNot.{SynNot}
-use Rattle.bg_syntax.specs.declared.tree.statements.SynNot.TheVariants as nots
-use Rattle.bg_syntax.specs.declared.tree.statements.SynNumbers.{SynNumbers}
-use Rattle.bg_syntax.specs.declared.tree.statements.SynNumbers.TheVariants as lists
-use Rattle.bg_syntax.specs.declared.tree.statements.SynReact.{SynReact}
-use Rattle.bg_syntax.specs.declared.tree.statements.SynSide.{SynSide}
-use Rattle.bg_syntax.specs.declared.tree.statements.SynSide.TheVariants as sides
-use Rattle.bg_syntax.specs.declared.tree.statements.SynTail.{SynTail}
-use Rattle.bg_syntax.specs.declared.tree.statements.SynTail.TheVariants as tails
-use Rattle.bg_syntax.specs.declared.tree.statements.SynTest.{SynTest}
-use Rattle.bg_syntax.specs.declared.tree.statements.SynTestsItem.{SynTestsItem}
-use Rattle.bg_syntax.specs.declared.tree.names.SynNumber.{SynNumber}
+use Rattle.bg_trees.specs.declared.statements.SynCond.{SynCond}
+use Rattle.bg_trees.specs.declared.statements.SynEta.{SynEta}
+use Rattle.bg_trees.specs.declared.statements.SynEtaTail.{SynEtaTail}
+use Rattle.bg_trees.specs.declared.statements.SynEtaTail.TheVariants as eta_tails
+use Rattle.bg_trees.specs.declared.statements.SynIfTail.{SynIfTail}
+use Rattle.bg_trees.specs.declared.statements.SynIfTail.TheVariants as if_tails
+use Rattle.bg_trees.specs.declared.statements.SynMoreNumItem.{SynMoreNumItem}
+use Rattle.bg_trees.specs.declared.statements.SynNot.{SynNot}
+use Rattle.bg_trees.specs.declared.statements.SynNot.TheVariants as nots
+use Rattle.bg_trees.specs.declared.statements.SynNumbers.{SynNumbers}
+use Rattle.bg_trees.specs.declared.statements.SynNumbers.TheVariants as lists
+use Rattle.bg_trees.specs.declared.statements.SynReact.{SynReact}
+use Rattle.bg_trees.specs.declared.statements.SynSide.{SynSide}
+use Rattle.bg_trees.specs.declared.statements.SynSide.TheVariants as sides
+use Rattle.bg_trees.specs.declared.statements.SynTail.{SynTail}
+use Rattle.bg_trees.specs.declared.statements.SynTail.TheVariants as tails
+use Rattle.bg_trees.specs.declared.statements.SynTest.{SynTest}
+use Rattle.bg_trees.specs.declared.statements.SynTestsItem.{SynTestsItem}
+use Rattle.bg_trees.specs.declared.names.SynNumber.{SynNumber}
 use Rattle.bg_terms.specs.Expressions.{Expression}
 use Rattle.bg_terms.specs.Trees.{Visible, e_read}
 use Rattle.bg_values.specs.declared.refusal.Refusal.{Refusal}

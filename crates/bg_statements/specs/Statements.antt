@@ -9,19 +9,19 @@ use Rattle.bg_statements.specs.Defined.{Defined, visible_with}
 use Rattle.bg_statements.specs.InTurn.{in_turn}
 use Rattle.bg_statements.specs.Rules.{RuleExpression, rule_read}
 use Rattle.bg_statements.specs.RuleValues.{Setting, rule_valued}
-use Rattle.bg_syntax.specs.declared.tree.names.SynFormals.{SynFormals}
-use Rattle.bg_syntax.specs.declared.tree.names.SynFormals.TheVariants as formals_ways
-use Rattle.bg_syntax.specs.declared.tree.names.SynMoreLowItem.{SynMoreLowItem}
-use Rattle.bg_syntax.specs.declared.tree.models.SynParamsItem.{SynParamsItem}
-use Rattle.bg_syntax.specs.declared.tree.models.SynStmtsItem.{SynStmtsItem}
-use Rattle.bg_syntax.specs.declared.tree.statements.SynAfterFun.{SynAfterFun}
-use Rattle.bg_syntax.specs.declared.tree.statements.SynAfterFun.TheVariants as after_fun
-use Rattle.bg_syntax.specs.declared.tree.statements.SynBigraph.{SynBigraph}
-use Rattle.bg_syntax.specs.declared.tree.statements.SynControl.{SynControl}
-use Rattle.bg_syntax.specs.declared.tree.statements.SynParam.{SynParam}
-use Rattle.bg_syntax.specs.declared.tree.statements.SynReact.{SynReact}
-use Rattle.bg_syntax.specs.declared.tree.statements.SynStmt.{SynStmt}
-use Rattle.bg_syntax.specs.declared.tree.statements.SynStmt.TheVariants as statements
+use Rattle.bg_trees.specs.declared.names.SynFormals.{SynFormals}
+use Rattle.bg_trees.specs.declared.names.SynFormals.TheVariants as formals_ways
+use Rattle.bg_trees.specs.declared.names.SynMoreLowItem.{SynMoreLowItem}
+use Rattle.bg_trees.specs.declared.models.SynParamsItem.{SynParamsItem}
+use Rattle.bg_trees.specs.declared.models.SynStmtsItem.{SynStmtsItem}
+use Rattle.bg_trees.specs.declared.statements.SynAfterFun.{SynAfterFun}
+use Rattle.bg_trees.specs.declared.statements.SynAfterFun.TheVariants as after_fun
+use Rattle.bg_trees.specs.declared.statements.SynBigraph.{SynBigraph}
+use Rattle.bg_trees.specs.declared.statements.SynControl.{SynControl}
+use Rattle.bg_trees.specs.declared.statements.SynParam.{SynParam}
+use Rattle.bg_trees.specs.declared.statements.SynReact.{SynReact}
+use Rattle.bg_trees.specs.declared.statements.SynStmt.{SynStmt}
+use Rattle.bg_trees.specs.declared.statements.SynStmt.TheVariants as statements
 use Rattle.bg_terms.specs.declared.shape.Shape.{Shape}
 use Rattle.bg_terms.specs.Expansion.{control_of, expand, meanings_of}
 use Rattle.bg_terms.specs.Expressions.{Expression}

@@ -13,8 +13,8 @@ use Rattle.bg_statements.specs.declared.rule_values.RuleValue.{RuleValue}
 use Rattle.bg_statements.specs.Defined.{Defined}
 use Rattle.bg_statements.specs.Sound.{nothing}
 use Rattle.bg_statements.specs.Statements.{with_parameters, with_statements}
-use Rattle.bg_syntax.specs.declared.tree.models.SynParamsItem.{SynParamsItem}
-use Rattle.bg_syntax.specs.declared.tree.models.SynStmtsItem.{SynStmtsItem}
+use Rattle.bg_trees.specs.declared.models.SynParamsItem.{SynParamsItem}
+use Rattle.bg_trees.specs.declared.models.SynStmtsItem.{SynStmtsItem}
 use Rattle.bg_statements.specs.RuleValues.{Setting, rule_valued, solid_at, whole_value}
 use Rattle.bg_values.specs.declared.refusal.Refusal.{Refusal}
 use Rattle.bg_values.specs.declared.refusal.Cause.TheVariants.{NotGround, UnknownName}

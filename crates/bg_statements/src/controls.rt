@@ -10,9 +10,9 @@ use bg_base::limits::MOST_PORTS;
 use bg_base::{Ident, Kind, Value};
 use bg_code::{Visible, word_at};
 use bg_machine::enter;
-use bg_syntax::tree::names::SynNumber;
-use bg_syntax::tree::statements::SynControl;
 use bg_terms::{ControlEntry, Shape};
+use bg_trees::names::SynNumber;
+use bg_trees::statements::SynControl;
 use bg_values::{Cause, LimitWord, NameTable, Refusal, Scope, Stop, number_at, number_token};
 use std::alloc::Global;
 

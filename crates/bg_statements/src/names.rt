@@ -4,7 +4,7 @@ ghost use Rattle.bg_statements.specs.Statements as definition;
 ghost use Rattle.bg_values.specs.Outcome.{Gives, Goes};
 ghost use Rattle.bg_values.specs.Scopes.{spelling};
 
-use bg_syntax::tree::names::{SynFormals, SynMoreLowItem};
+use bg_trees::names::{SynFormals, SynMoreLowItem};
 use bg_values::{Cause, NameTable, Refusal, Scope, Stop};
 use std::alloc::Global;
 

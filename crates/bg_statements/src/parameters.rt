@@ -1,8 +1,8 @@
 //! Statements of parameters.
 use crate::definitions::Definitions;
 use crate::names::check_new;
-use bg_syntax::tree::models::SynParamsItem;
-use bg_syntax::tree::statements::SynParam;
+use bg_trees::models::SynParamsItem;
+use bg_trees::statements::SynParam;
 use bg_values::{Scope, Stop, parameter_name, parameter_values};
 use std::alloc::Global;
 

@@ -11,9 +11,9 @@ use bg_base::Map;
 use bg_code::{Operation, Visible, code_of};
 use bg_lists::Rows;
 use bg_rules::Side;
-use bg_syntax::tree::expressions::SynE;
-use bg_syntax::tree::names::SynNumber;
-use bg_syntax::tree::statements::{
+use bg_trees::expressions::SynE;
+use bg_trees::names::SynNumber;
+use bg_trees::statements::{
     SynCond, SynEta, SynEtaTail, SynIfTail, SynMoreNumItem, SynNot, SynNumbers, SynReact, SynSide,
     SynTail, SynTest, SynTestsItem,
 };

@@ -1,8 +1,8 @@
 //! Any statement, and statements in the order of the text.
 use crate::definitions::Definitions;
 use bg_base::Kind;
-use bg_syntax::tree::models::SynStmtsItem;
-use bg_syntax::tree::statements::{SynAfterFun, SynStmt};
+use bg_trees::models::SynStmtsItem;
+use bg_trees::statements::{SynAfterFun, SynStmt};
 use bg_values::{Scope, Stop};
 use std::alloc::Global;
 

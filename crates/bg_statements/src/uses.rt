@@ -12,7 +12,7 @@ use bg_code::Operation;
 use bg_lists::Rows;
 use bg_machine::Met;
 use bg_rules::{Host, Predicate, Rule};
-use bg_syntax::tree::models::{SynParamsItem, SynStmtsItem};
+use bg_trees::models::{SynParamsItem, SynStmtsItem};
 use bg_values::{Cause, NameTable, ParameterValues, Refusal, Scope, Stop};
 use std::alloc::Global;
 use std::marker::Model;

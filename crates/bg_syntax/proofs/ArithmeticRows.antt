@@ -7,21 +7,21 @@ use Rattle.bg_syntax.specs.Grammar.{s, model_ways, model_deepens, grammar}
 use Rattle.bg_syntax.specs.Steps.{Steps}
 use Rattle.bg_syntax.specs.Trees.{Growth, ItemGrowth}
 use Rattle.bg_syntax.proofs.Rows.{Row, ItemRow, none_row, token_row, symbol_row, row_opened, item_opened, row_same, item_same, nested_row, nested_items}
-use Rattle.bg_syntax.specs.declared.tree.arithmetic.SynT1Item.{SynT1Item}
-use Rattle.bg_syntax.specs.declared.tree.arithmetic.SynT1Item.TheOpen.{SynT1Item-F, SynU-F, SynX1Item-F, SynT-F, SynX-F}
-use Rattle.bg_syntax.specs.declared.tree.arithmetic.SynT1Item.TheFolds.{map-SynT1Item, fold-roll-SynT1Item, ind-SynT1Item, map-SynU, fold-roll-SynU, ind-SynU, map-SynX1Item, fold-roll-SynX1Item, ind-SynX1Item, map-SynT, fold-roll-SynT, ind-SynT, map-SynX, fold-roll-SynX, ind-SynX}
-use Rattle.bg_syntax.specs.declared.tree.arithmetic.SynT1Item.TheViews.{roll-SynT1Item, roll-SynU, roll-SynX1Item, roll-SynT, roll-SynX}
+use Rattle.bg_trees.specs.declared.arithmetic.SynT1Item.{SynT1Item}
+use Rattle.bg_trees.specs.declared.arithmetic.SynT1Item.TheOpen.{SynT1Item-F, SynU-F, SynX1Item-F, SynT-F, SynX-F}
+use Rattle.bg_trees.specs.declared.arithmetic.SynT1Item.TheFolds.{map-SynT1Item, fold-roll-SynT1Item, ind-SynT1Item, map-SynU, fold-roll-SynU, ind-SynU, map-SynX1Item, fold-roll-SynX1Item, ind-SynX1Item, map-SynT, fold-roll-SynT, ind-SynT, map-SynX, fold-roll-SynX, ind-SynX}
+use Rattle.bg_trees.specs.declared.arithmetic.SynT1Item.TheViews.{roll-SynT1Item, roll-SynU, roll-SynX1Item, roll-SynT, roll-SynX}
 use Rattle.bg_syntax.specs.ArithmeticSteps.{t1_item_steps, t1_item_layer, t1_steps, u_steps, u_layer, x1_item_steps, x1_item_layer, x1_steps, t_steps, t_layer, x_steps, x_layer, more_x_item_steps, more_x_steps}
 use Rattle.bg_syntax.specs.ArithmeticTrees.{t1_item_tree, t1_item_tree_layer, t1_tree, u_tree, u_tree_layer, x1_item_tree, x1_item_tree_layer, x1_tree, t_tree, t_tree_layer, x_tree, x_tree_layer, more_x_item_tree, more_x_tree}
-use Rattle.bg_syntax.specs.declared.tree.arithmetic.SynU.{SynU}
-use Rattle.bg_syntax.specs.declared.tree.arithmetic.SynX1Item.{SynX1Item}
-use Rattle.bg_syntax.specs.declared.tree.arithmetic.SynT.{SynT}
-use Rattle.bg_syntax.specs.declared.tree.arithmetic.SynX.{SynX}
-use Rattle.bg_syntax.specs.declared.tree.arithmetic.SynT1Item.TheOpen.SynT1Item-F.{SynT1Item::Way1 as t1_1, SynT1Item::Way2 as t1_2}
-use Rattle.bg_syntax.specs.declared.tree.arithmetic.SynT1Item.TheOpen.SynU-F.{SynU::Way1 as u_1, SynU::Way2 as u_2, Way3 as u_3, Way4 as u_4, Way5 as u_5}
+use Rattle.bg_trees.specs.declared.arithmetic.SynU.{SynU}
+use Rattle.bg_trees.specs.declared.arithmetic.SynX1Item.{SynX1Item}
+use Rattle.bg_trees.specs.declared.arithmetic.SynT.{SynT}
+use Rattle.bg_trees.specs.declared.arithmetic.SynX.{SynX}
+use Rattle.bg_trees.specs.declared.arithmetic.SynT1Item.TheOpen.SynT1Item-F.{SynT1Item::Way1 as t1_1, SynT1Item::Way2 as t1_2}
+use Rattle.bg_trees.specs.declared.arithmetic.SynT1Item.TheOpen.SynU-F.{SynU::Way1 as u_1, SynU::Way2 as u_2, Way3 as u_3, Way4 as u_4, Way5 as u_5}
 use Rattle.bg_syntax.proofs.NamesRows.{number_row}
-use Rattle.bg_syntax.specs.declared.tree.arithmetic.SynT1Item.TheOpen.SynX1Item-F.{SynX1Item::Way1 as x1_1, SynX1Item::Way2 as x1_2}
-use Rattle.bg_syntax.specs.declared.tree.arithmetic.SynMoreXItem.{SynMoreXItem}
+use Rattle.bg_trees.specs.declared.arithmetic.SynT1Item.TheOpen.SynX1Item-F.{SynX1Item::Way1 as x1_1, SynX1Item::Way2 as x1_2}
+use Rattle.bg_trees.specs.declared.arithmetic.SynMoreXItem.{SynMoreXItem}
 
 abbrev SynT1ItemRow : SynT1Item → Type 0
 SynT1ItemRow x = ItemRow symbols.T1 (t1_item_steps x) (t1_item_tree x)

@@ -3,22 +3,22 @@ use Rattle.std.proofs.Common.{◌≡◌, ℕ, ◌+◌, [], ◌∷◌, ◌++◌, 
 use Rattle.bg_text.specs.declared.token.TokenKind.TheVariants as kinds
 use Rattle.bg_syntax.specs.declared.symbol.Symbol.TheVariants as symbols
 use Rattle.bg_syntax.specs.Steps.{Steps, opens, takes}
-use Rattle.bg_syntax.specs.declared.tree.arithmetic.SynT1Item.{SynT1Item}
-use Rattle.bg_syntax.specs.declared.tree.arithmetic.SynU.{SynU}
-use Rattle.bg_syntax.specs.declared.tree.arithmetic.SynT1Item.TheOpen.SynT1Item-F.{SynT1Item::Way1 as t1_1, SynT1Item::Way2 as t1_2}
-use Rattle.bg_syntax.specs.declared.tree.arithmetic.SynT1Item.TheFolds.{fold-roll-SynT1Item, fold-roll-SynU, fold-roll-SynX1Item, fold_out-SynT, fold-roll-SynX}
-use Rattle.bg_syntax.specs.declared.tree.arithmetic.SynT1Item.TheVariants as t1_ways
+use Rattle.bg_trees.specs.declared.arithmetic.SynT1Item.{SynT1Item}
+use Rattle.bg_trees.specs.declared.arithmetic.SynU.{SynU}
+use Rattle.bg_trees.specs.declared.arithmetic.SynT1Item.TheOpen.SynT1Item-F.{SynT1Item::Way1 as t1_1, SynT1Item::Way2 as t1_2}
+use Rattle.bg_trees.specs.declared.arithmetic.SynT1Item.TheFolds.{fold-roll-SynT1Item, fold-roll-SynU, fold-roll-SynX1Item, fold_out-SynT, fold-roll-SynX}
+use Rattle.bg_trees.specs.declared.arithmetic.SynT1Item.TheVariants as t1_ways
 use Rattle.bg_syntax.specs.ArithmeticSteps.{u_steps, t1_item_steps, t1_item_layer, t1_steps, u_layer, x_steps, t_steps, x1_item_steps, x1_item_layer, x1_steps, t_layer, x_layer}
-use Rattle.bg_syntax.specs.declared.tree.names.SynNumber.{SynNumber}
-use Rattle.bg_syntax.specs.declared.tree.arithmetic.SynT1Item.TheOpen.SynU-F.{SynU::Way1 as u_1, SynU::Way2 as u_2, Way3 as u_3, Way4 as u_4, Way5 as u_5}
-use Rattle.bg_syntax.specs.declared.tree.arithmetic.SynU.TheVariants as u_ways
+use Rattle.bg_trees.specs.declared.names.SynNumber.{SynNumber}
+use Rattle.bg_trees.specs.declared.arithmetic.SynT1Item.TheOpen.SynU-F.{SynU::Way1 as u_1, SynU::Way2 as u_2, Way3 as u_3, Way4 as u_4, Way5 as u_5}
+use Rattle.bg_trees.specs.declared.arithmetic.SynU.TheVariants as u_ways
 use Rattle.bg_syntax.specs.NamesSteps.{number_steps}
-use Rattle.bg_syntax.specs.declared.tree.arithmetic.SynX.{SynX}
-use Rattle.bg_syntax.specs.declared.tree.arithmetic.SynX1Item.{SynX1Item}
-use Rattle.bg_syntax.specs.declared.tree.arithmetic.SynT.{SynT}
-use Rattle.bg_syntax.specs.declared.tree.arithmetic.SynT1Item.TheOpen.SynX1Item-F.{SynX1Item::Way1 as x1_1, SynX1Item::Way2 as x1_2}
-use Rattle.bg_syntax.specs.declared.tree.arithmetic.SynX1Item.TheVariants as x1_ways
-use Rattle.bg_syntax.specs.declared.tree.arithmetic.SynT1Item.TheViews.{roll-SynX}
+use Rattle.bg_trees.specs.declared.arithmetic.SynX.{SynX}
+use Rattle.bg_trees.specs.declared.arithmetic.SynX1Item.{SynX1Item}
+use Rattle.bg_trees.specs.declared.arithmetic.SynT.{SynT}
+use Rattle.bg_trees.specs.declared.arithmetic.SynT1Item.TheOpen.SynX1Item-F.{SynX1Item::Way1 as x1_1, SynX1Item::Way2 as x1_2}
+use Rattle.bg_trees.specs.declared.arithmetic.SynX1Item.TheVariants as x1_ways
+use Rattle.bg_trees.specs.declared.arithmetic.SynT1Item.TheViews.{roll-SynX}
 
 pub t1_made1 : (part1 : ℕ) (box2 : Box SynU Global) (part2 : SynU) (d : ℕ) → box2.value ≡ part2 → t1_item_steps (t1_ways.Way1 part1 box2) d ≡ opens symbols.T1 0 ∷ (takes kinds.Star d part1 ∷ u_steps part2 d)
 unfolding t1_item_steps u_steps x1_item_steps t_steps x_steps t1_steps x1_steps

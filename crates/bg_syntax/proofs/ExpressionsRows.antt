@@ -7,35 +7,35 @@ use Rattle.bg_syntax.specs.Grammar.{s, model_ways, model_deepens, grammar}
 use Rattle.bg_syntax.specs.Steps.{Steps}
 use Rattle.bg_syntax.specs.Trees.{Growth, ItemGrowth}
 use Rattle.bg_syntax.proofs.Rows.{Row, ItemRow, none_row, token_row, symbol_row, row_opened, item_opened, row_same, item_same, nested_row, nested_items}
-use Rattle.bg_syntax.specs.declared.tree.expressions.SynArgs.{SynArgs}
+use Rattle.bg_trees.specs.declared.expressions.SynArgs.{SynArgs}
 use Rattle.bg_syntax.specs.ExpressionsSteps.{args_steps, reference_steps, id_names_steps, id_tail_steps, a_steps, a_layer, k_steps, k_layer, n1_steps, n1_layer, c_steps, c_layer, c1_item_steps, c1_item_layer, c1_steps, e_steps, e_layer, e1_item_steps, e1_item_layer, e1_steps, m_steps, m_layer, m1_item_steps, m1_item_layer, m1_steps, n_steps, n_layer, p_steps, p_layer, p1_item_steps, p1_item_layer, p1_steps}
 use Rattle.bg_syntax.specs.ExpressionsTrees.{args_tree, reference_tree, id_names_tree, id_tail_tree, a_tree, a_tree_layer, k_tree, k_tree_layer, n1_tree, n1_tree_layer, c_tree, c_tree_layer, c1_item_tree, c1_item_tree_layer, c1_tree, e_tree, e_tree_layer, e1_item_tree, e1_item_tree_layer, e1_tree, m_tree, m_tree_layer, m1_item_tree, m1_item_tree_layer, m1_tree, n_tree, n_tree_layer, p_tree, p_tree_layer, p1_item_tree, p1_item_tree_layer, p1_tree}
-use Rattle.bg_syntax.specs.declared.tree.expressions.SynArgs.TheVariants as args_ways
+use Rattle.bg_trees.specs.declared.expressions.SynArgs.TheVariants as args_ways
 use Rattle.bg_syntax.proofs.ArithmeticRows.{more_x_row, x_row}
-use Rattle.bg_syntax.specs.declared.tree.expressions.SynRef.{SynRef}
-use Rattle.bg_syntax.specs.declared.tree.expressions.SynIdNames.{SynIdNames}
-use Rattle.bg_syntax.specs.declared.tree.expressions.SynIdNames.TheVariants as id_names_ways
+use Rattle.bg_trees.specs.declared.expressions.SynRef.{SynRef}
+use Rattle.bg_trees.specs.declared.expressions.SynIdNames.{SynIdNames}
+use Rattle.bg_trees.specs.declared.expressions.SynIdNames.TheVariants as id_names_ways
 use Rattle.bg_syntax.proofs.NamesRows.{name_list_row, number_row, names_row}
-use Rattle.bg_syntax.specs.declared.tree.expressions.SynIdTail.{SynIdTail}
-use Rattle.bg_syntax.specs.declared.tree.expressions.SynIdTail.TheVariants as id_tail_ways
-use Rattle.bg_syntax.specs.declared.tree.expressions.SynA.{SynA}
-use Rattle.bg_syntax.specs.declared.tree.expressions.SynA.TheOpen.{SynA-F, SynK-F, SynN1-F, SynC-F, SynC1Item-F, SynE-F, SynE1Item-F, SynM-F, SynM1Item-F, SynN-F, SynP-F, SynP1Item-F}
-use Rattle.bg_syntax.specs.declared.tree.expressions.SynA.TheFolds.{map-SynA, fold-roll-SynA, ind-SynA, map-SynK, fold-roll-SynK, ind-SynK, map-SynN1, fold-roll-SynN1, ind-SynN1, map-SynC, fold-roll-SynC, ind-SynC, map-SynC1Item, fold-roll-SynC1Item, ind-SynC1Item, map-SynE, fold-roll-SynE, ind-SynE, map-SynE1Item, fold-roll-SynE1Item, ind-SynE1Item, map-SynM, fold-roll-SynM, ind-SynM, map-SynM1Item, fold-roll-SynM1Item, ind-SynM1Item, map-SynN, fold-roll-SynN, ind-SynN, map-SynP, fold-roll-SynP, ind-SynP, map-SynP1Item, fold-roll-SynP1Item, ind-SynP1Item}
-use Rattle.bg_syntax.specs.declared.tree.expressions.SynA.TheViews.{roll-SynA, roll-SynK, roll-SynN1, roll-SynC, roll-SynC1Item, roll-SynE, roll-SynE1Item, roll-SynM, roll-SynM1Item, roll-SynN, roll-SynP, roll-SynP1Item}
-use Rattle.bg_syntax.specs.declared.tree.expressions.SynK.{SynK}
-use Rattle.bg_syntax.specs.declared.tree.expressions.SynN1.{SynN1}
-use Rattle.bg_syntax.specs.declared.tree.expressions.SynC.{SynC}
-use Rattle.bg_syntax.specs.declared.tree.expressions.SynC1Item.{SynC1Item}
-use Rattle.bg_syntax.specs.declared.tree.expressions.SynE.{SynE}
-use Rattle.bg_syntax.specs.declared.tree.expressions.SynE1Item.{SynE1Item}
-use Rattle.bg_syntax.specs.declared.tree.expressions.SynM.{SynM}
-use Rattle.bg_syntax.specs.declared.tree.expressions.SynM1Item.{SynM1Item}
-use Rattle.bg_syntax.specs.declared.tree.expressions.SynN.{SynN}
-use Rattle.bg_syntax.specs.declared.tree.expressions.SynP.{SynP}
-use Rattle.bg_syntax.specs.declared.tree.expressions.SynP1Item.{SynP1Item}
-use Rattle.bg_syntax.specs.declared.tree.expressions.SynA.TheOpen.SynA-F.{SynA::Way1 as a_1, SynA::Way2 as a_2, Way3 as a_3, Way4 as a_4, Way5 as a_5, Way6 as a_6, Way7 as a_7, Way8 as a_8}
-use Rattle.bg_syntax.specs.declared.tree.expressions.SynA.TheOpen.SynK-F.{SynK::Way1 as k_1, SynK::Way2 as k_2}
-use Rattle.bg_syntax.specs.declared.tree.expressions.SynA.TheOpen.SynN1-F.{SynN1::Way1 as n1_1, SynN1::Way2 as n1_2}
+use Rattle.bg_trees.specs.declared.expressions.SynIdTail.{SynIdTail}
+use Rattle.bg_trees.specs.declared.expressions.SynIdTail.TheVariants as id_tail_ways
+use Rattle.bg_trees.specs.declared.expressions.SynA.{SynA}
+use Rattle.bg_trees.specs.declared.expressions.SynA.TheOpen.{SynA-F, SynK-F, SynN1-F, SynC-F, SynC1Item-F, SynE-F, SynE1Item-F, SynM-F, SynM1Item-F, SynN-F, SynP-F, SynP1Item-F}
+use Rattle.bg_trees.specs.declared.expressions.SynA.TheFolds.{map-SynA, fold-roll-SynA, ind-SynA, map-SynK, fold-roll-SynK, ind-SynK, map-SynN1, fold-roll-SynN1, ind-SynN1, map-SynC, fold-roll-SynC, ind-SynC, map-SynC1Item, fold-roll-SynC1Item, ind-SynC1Item, map-SynE, fold-roll-SynE, ind-SynE, map-SynE1Item, fold-roll-SynE1Item, ind-SynE1Item, map-SynM, fold-roll-SynM, ind-SynM, map-SynM1Item, fold-roll-SynM1Item, ind-SynM1Item, map-SynN, fold-roll-SynN, ind-SynN, map-SynP, fold-roll-SynP, ind-SynP, map-SynP1Item, fold-roll-SynP1Item, ind-SynP1Item}
+use Rattle.bg_trees.specs.declared.expressions.SynA.TheViews.{roll-SynA, roll-SynK, roll-SynN1, roll-SynC, roll-SynC1Item, roll-SynE, roll-SynE1Item, roll-SynM, roll-SynM1Item, roll-SynN, roll-SynP, roll-SynP1Item}
+use Rattle.bg_trees.specs.declared.expressions.SynK.{SynK}
+use Rattle.bg_trees.specs.declared.expressions.SynN1.{SynN1}
+use Rattle.bg_trees.specs.declared.expressions.SynC.{SynC}
+use Rattle.bg_trees.specs.declared.expressions.SynC1Item.{SynC1Item}
+use Rattle.bg_trees.specs.declared.expressions.SynE.{SynE}
+use Rattle.bg_trees.specs.declared.expressions.SynE1Item.{SynE1Item}
+use Rattle.bg_trees.specs.declared.expressions.SynM.{SynM}
+use Rattle.bg_trees.specs.declared.expressions.SynM1Item.{SynM1Item}
+use Rattle.bg_trees.specs.declared.expressions.SynN.{SynN}
+use Rattle.bg_trees.specs.declared.expressions.SynP.{SynP}
+use Rattle.bg_trees.specs.declared.expressions.SynP1Item.{SynP1Item}
+use Rattle.bg_trees.specs.declared.expressions.SynA.TheOpen.SynA-F.{SynA::Way1 as a_1, SynA::Way2 as a_2, Way3 as a_3, Way4 as a_4, Way5 as a_5, Way6 as a_6, Way7 as a_7, Way8 as a_8}
+use Rattle.bg_trees.specs.declared.expressions.SynA.TheOpen.SynK-F.{SynK::Way1 as k_1, SynK::Way2 as k_2}
+use Rattle.bg_trees.specs.declared.expressions.SynA.TheOpen.SynN1-F.{SynN1::Way1 as n1_1, SynN1::Way2 as n1_2}
 
 pub args_row : (x : SynArgs) → Row (s symbols.Args ∷ []) (args_steps x) (args_tree x)
 unfolding grammar model_ways model_deepens args_steps args_tree

@@ -3,34 +3,34 @@ use Rattle.std.proofs.Common.{◌≡◌, ℕ, ◌+◌, [], ◌∷◌, ◌++◌, 
 use Rattle.bg_text.specs.declared.token.TokenKind.TheVariants as kinds
 use Rattle.bg_syntax.specs.declared.symbol.Symbol.TheVariants as symbols
 use Rattle.bg_syntax.specs.Steps.{Steps, opens, takes}
-use Rattle.bg_syntax.specs.declared.tree.expressions.SynA.{SynA}
-use Rattle.bg_syntax.specs.declared.tree.expressions.SynArgs.{SynArgs}
-use Rattle.bg_syntax.specs.declared.tree.names.SynNames.{SynNames}
-use Rattle.bg_syntax.specs.declared.tree.expressions.SynA.TheOpen.SynA-F.{SynA::Way1 as a_1, SynA::Way2 as a_2, Way3 as a_3, Way4 as a_4, Way5 as a_5, Way6 as a_6, Way7 as a_7, Way8 as a_8}
-use Rattle.bg_syntax.specs.declared.tree.expressions.SynA.TheFolds.{fold-roll-SynA, fold-roll-SynK, fold-roll-SynN1, fold-roll-SynC, fold_out-SynC1Item, fold-roll-SynE, fold-roll-SynE1Item, fold-roll-SynM, fold-roll-SynM1Item, fold_out-SynN, fold-roll-SynP, fold-roll-SynP1Item}
-use Rattle.bg_syntax.specs.declared.tree.expressions.SynA.TheVariants as a_ways
+use Rattle.bg_trees.specs.declared.expressions.SynA.{SynA}
+use Rattle.bg_trees.specs.declared.expressions.SynArgs.{SynArgs}
+use Rattle.bg_trees.specs.declared.names.SynNames.{SynNames}
+use Rattle.bg_trees.specs.declared.expressions.SynA.TheOpen.SynA-F.{SynA::Way1 as a_1, SynA::Way2 as a_2, Way3 as a_3, Way4 as a_4, Way5 as a_5, Way6 as a_6, Way7 as a_7, Way8 as a_8}
+use Rattle.bg_trees.specs.declared.expressions.SynA.TheFolds.{fold-roll-SynA, fold-roll-SynK, fold-roll-SynN1, fold-roll-SynC, fold_out-SynC1Item, fold-roll-SynE, fold-roll-SynE1Item, fold-roll-SynM, fold-roll-SynM1Item, fold_out-SynN, fold-roll-SynP, fold-roll-SynP1Item}
+use Rattle.bg_trees.specs.declared.expressions.SynA.TheVariants as a_ways
 use Rattle.bg_syntax.specs.NamesSteps.{names_steps, name_list_steps, number_steps}
 use Rattle.bg_syntax.specs.ExpressionsSteps.{args_steps, a_steps, a_layer, reference_steps, id_tail_steps, e_steps, k_steps, k_layer, n_steps, n1_steps, n1_layer, c1_steps, c_steps, c_layer, c1_item_steps, c1_item_layer, e1_steps, p_steps, e_layer, e1_item_steps, e1_item_layer, m1_steps, m_steps, m_layer, m1_item_steps, m1_item_layer, n_layer, p1_steps, p_layer, p1_item_steps, p1_item_layer}
-use Rattle.bg_syntax.specs.declared.tree.expressions.SynRef.{SynRef}
-use Rattle.bg_syntax.specs.declared.tree.names.SynNameList.{SynNameList}
-use Rattle.bg_syntax.specs.declared.tree.expressions.SynIdTail.{SynIdTail}
-use Rattle.bg_syntax.specs.declared.tree.names.SynNumber.{SynNumber}
-use Rattle.bg_syntax.specs.declared.tree.expressions.SynE.{SynE}
-use Rattle.bg_syntax.specs.declared.tree.expressions.SynK.{SynK}
-use Rattle.bg_syntax.specs.declared.tree.expressions.SynA.TheOpen.SynK-F.{SynK::Way1 as k_1, SynK::Way2 as k_2}
-use Rattle.bg_syntax.specs.declared.tree.expressions.SynK.TheVariants as k_ways
-use Rattle.bg_syntax.specs.declared.tree.expressions.SynN.{SynN}
-use Rattle.bg_syntax.specs.declared.tree.expressions.SynN1.{SynN1}
-use Rattle.bg_syntax.specs.declared.tree.expressions.SynA.TheOpen.SynN1-F.{SynN1::Way1 as n1_1, SynN1::Way2 as n1_2}
-use Rattle.bg_syntax.specs.declared.tree.expressions.SynN1.TheVariants as n1_ways
-use Rattle.bg_syntax.specs.declared.tree.expressions.SynC.{SynC}
-use Rattle.bg_syntax.specs.declared.tree.expressions.SynC1Item.{SynC1Item}
-use Rattle.bg_syntax.specs.declared.tree.expressions.SynA.TheViews.{roll-SynC, roll-SynE, roll-SynE1Item, roll-SynM, roll-SynM1Item, roll-SynP, roll-SynP1Item}
-use Rattle.bg_syntax.specs.declared.tree.expressions.SynP.{SynP}
-use Rattle.bg_syntax.specs.declared.tree.expressions.SynE1Item.{SynE1Item}
-use Rattle.bg_syntax.specs.declared.tree.expressions.SynM.{SynM}
-use Rattle.bg_syntax.specs.declared.tree.expressions.SynM1Item.{SynM1Item}
-use Rattle.bg_syntax.specs.declared.tree.expressions.SynP1Item.{SynP1Item}
+use Rattle.bg_trees.specs.declared.expressions.SynRef.{SynRef}
+use Rattle.bg_trees.specs.declared.names.SynNameList.{SynNameList}
+use Rattle.bg_trees.specs.declared.expressions.SynIdTail.{SynIdTail}
+use Rattle.bg_trees.specs.declared.names.SynNumber.{SynNumber}
+use Rattle.bg_trees.specs.declared.expressions.SynE.{SynE}
+use Rattle.bg_trees.specs.declared.expressions.SynK.{SynK}
+use Rattle.bg_trees.specs.declared.expressions.SynA.TheOpen.SynK-F.{SynK::Way1 as k_1, SynK::Way2 as k_2}
+use Rattle.bg_trees.specs.declared.expressions.SynK.TheVariants as k_ways
+use Rattle.bg_trees.specs.declared.expressions.SynN.{SynN}
+use Rattle.bg_trees.specs.declared.expressions.SynN1.{SynN1}
+use Rattle.bg_trees.specs.declared.expressions.SynA.TheOpen.SynN1-F.{SynN1::Way1 as n1_1, SynN1::Way2 as n1_2}
+use Rattle.bg_trees.specs.declared.expressions.SynN1.TheVariants as n1_ways
+use Rattle.bg_trees.specs.declared.expressions.SynC.{SynC}
+use Rattle.bg_trees.specs.declared.expressions.SynC1Item.{SynC1Item}
+use Rattle.bg_trees.specs.declared.expressions.SynA.TheViews.{roll-SynC, roll-SynE, roll-SynE1Item, roll-SynM, roll-SynM1Item, roll-SynP, roll-SynP1Item}
+use Rattle.bg_trees.specs.declared.expressions.SynP.{SynP}
+use Rattle.bg_trees.specs.declared.expressions.SynE1Item.{SynE1Item}
+use Rattle.bg_trees.specs.declared.expressions.SynM.{SynM}
+use Rattle.bg_trees.specs.declared.expressions.SynM1Item.{SynM1Item}
+use Rattle.bg_trees.specs.declared.expressions.SynP1Item.{SynP1Item}
 
 pub a_made1 : (part1 : ℕ) (part2 : SynArgs) (part3 : SynNames) (d : ℕ) → a_steps (a_ways.Way1 part1 part2 part3) d ≡ opens symbols.A 0 ∷ (takes kinds.Upper d part1 ∷ (args_steps part2 d ++ names_steps part3 d))
 unfolding a_steps k_steps n1_steps c_steps c1_item_steps e_steps e1_item_steps m_steps m1_item_steps n_steps p_steps p1_item_steps c1_steps e1_steps m1_steps p1_steps

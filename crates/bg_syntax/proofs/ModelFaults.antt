@@ -10,7 +10,7 @@ use Rattle.bg_grammar.proofs.Faults.{only_fault}
 use Rattle.bg_syntax.specs.declared.fault.SyntaxFault.{SyntaxFault}
 use Rattle.bg_syntax.specs.declared.fault.SyntaxFault.TheVariants.{Unexpected, TooDeep}
 use Rattle.bg_syntax.specs.declared.symbol.Symbol.TheVariants as symbols
-use Rattle.bg_syntax.specs.declared.tree.models.SynModel.{SynModel}
+use Rattle.bg_trees.specs.declared.models.SynModel.{SynModel}
 use Rattle.bg_syntax.specs.Grammar.{grammar}
 use Rattle.bg_syntax.specs.Plan.{plan}
 use Rattle.bg_syntax.specs.ModelsSteps.{model_steps}

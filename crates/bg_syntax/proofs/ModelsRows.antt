@@ -5,25 +5,25 @@ use Rattle.bg_syntax.specs.declared.symbol.Symbol.TheVariants as symbols
 use Rattle.bg_lists.specs.Lists.{at_here, at_there}
 use Rattle.bg_syntax.specs.Grammar.{s, model_ways, model_deepens, grammar}
 use Rattle.bg_syntax.proofs.Rows.{Row, ItemRow, none_row, token_row, symbol_row, row_opened, item_opened, nested_row}
-use Rattle.bg_syntax.specs.declared.tree.models.SynStmtsItem.{SynStmtsItem}
+use Rattle.bg_trees.specs.declared.models.SynStmtsItem.{SynStmtsItem}
 use Rattle.bg_syntax.specs.ModelsSteps.{stmts_item_steps, stmts_steps, params_item_steps, params_steps, more_ref_item_steps, more_ref_steps, refs_steps, class_steps, more_cl_item_steps, more_cl_steps, classes_steps, preds_steps, block_steps, model_steps}
 use Rattle.bg_syntax.specs.ModelsTrees.{stmts_item_tree, stmts_tree, params_item_tree, params_tree, more_ref_item_tree, more_ref_tree, refs_tree, class_tree, more_cl_item_tree, more_cl_tree, classes_tree, preds_tree, block_tree, model_tree}
 use Rattle.bg_syntax.proofs.StatementsRows.{stmt_row, param_row}
-use Rattle.bg_syntax.specs.declared.tree.models.SynParamsItem.{SynParamsItem}
-use Rattle.bg_syntax.specs.declared.tree.models.SynMoreRefItem.{SynMoreRefItem}
+use Rattle.bg_trees.specs.declared.models.SynParamsItem.{SynParamsItem}
+use Rattle.bg_trees.specs.declared.models.SynMoreRefItem.{SynMoreRefItem}
 use Rattle.bg_syntax.proofs.ExpressionsRows.{reference_row}
-use Rattle.bg_syntax.specs.declared.tree.models.SynRefs.{SynRefs}
-use Rattle.bg_syntax.specs.declared.tree.models.SynRefs.TheVariants as refs_ways
-use Rattle.bg_syntax.specs.declared.tree.models.SynClass.{SynClass}
-use Rattle.bg_syntax.specs.declared.tree.models.SynClass.TheVariants as class_ways
-use Rattle.bg_syntax.specs.declared.tree.models.SynMoreClItem.{SynMoreClItem}
-use Rattle.bg_syntax.specs.declared.tree.models.SynClasses.{SynClasses}
-use Rattle.bg_syntax.specs.declared.tree.models.SynClasses.TheVariants as classes_ways
-use Rattle.bg_syntax.specs.declared.tree.models.SynPreds.{SynPreds}
-use Rattle.bg_syntax.specs.declared.tree.models.SynPreds.TheVariants as preds_ways
-use Rattle.bg_syntax.specs.declared.tree.models.SynBlock.{SynBlock}
-use Rattle.bg_syntax.specs.declared.tree.models.SynBlock.TheVariants as block_ways
-use Rattle.bg_syntax.specs.declared.tree.models.SynModel.{SynModel}
+use Rattle.bg_trees.specs.declared.models.SynRefs.{SynRefs}
+use Rattle.bg_trees.specs.declared.models.SynRefs.TheVariants as refs_ways
+use Rattle.bg_trees.specs.declared.models.SynClass.{SynClass}
+use Rattle.bg_trees.specs.declared.models.SynClass.TheVariants as class_ways
+use Rattle.bg_trees.specs.declared.models.SynMoreClItem.{SynMoreClItem}
+use Rattle.bg_trees.specs.declared.models.SynClasses.{SynClasses}
+use Rattle.bg_trees.specs.declared.models.SynClasses.TheVariants as classes_ways
+use Rattle.bg_trees.specs.declared.models.SynPreds.{SynPreds}
+use Rattle.bg_trees.specs.declared.models.SynPreds.TheVariants as preds_ways
+use Rattle.bg_trees.specs.declared.models.SynBlock.{SynBlock}
+use Rattle.bg_trees.specs.declared.models.SynBlock.TheVariants as block_ways
+use Rattle.bg_trees.specs.declared.models.SynModel.{SynModel}
 
 pub stmts_item_row : (x : SynStmtsItem) → ItemRow symbols.Stmts (stmts_item_steps x) (stmts_item_tree x)
 unfolding grammar model_ways model_deepens stmts_item_steps stmts_item_tree

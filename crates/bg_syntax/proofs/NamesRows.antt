@@ -5,17 +5,17 @@ use Rattle.bg_syntax.specs.declared.symbol.Symbol.TheVariants as symbols
 use Rattle.bg_lists.specs.Lists.{at_here, at_there}
 use Rattle.bg_syntax.specs.Grammar.{s, model_ways, model_deepens, grammar}
 use Rattle.bg_syntax.proofs.Rows.{Row, ItemRow, none_row, token_row, symbol_row, row_opened, item_opened, nested_row}
-use Rattle.bg_syntax.specs.declared.tree.names.SynNumber.{SynNumber}
+use Rattle.bg_trees.specs.declared.names.SynNumber.{SynNumber}
 use Rattle.bg_syntax.specs.NamesSteps.{number_steps, more_low_item_steps, more_low_steps, formals_steps, name_list_steps, names_steps}
 use Rattle.bg_syntax.specs.NamesTrees.{number_tree, more_low_item_tree, more_low_tree, formals_tree, name_list_tree, names_tree}
-use Rattle.bg_syntax.specs.declared.tree.names.SynNumber.TheVariants as number_ways
-use Rattle.bg_syntax.specs.declared.tree.names.SynMoreLowItem.{SynMoreLowItem}
-use Rattle.bg_syntax.specs.declared.tree.names.SynFormals.{SynFormals}
-use Rattle.bg_syntax.specs.declared.tree.names.SynFormals.TheVariants as formals_ways
-use Rattle.bg_syntax.specs.declared.tree.names.SynNameList.{SynNameList}
-use Rattle.bg_syntax.specs.declared.tree.names.SynNameList.TheVariants as name_list_ways
-use Rattle.bg_syntax.specs.declared.tree.names.SynNames.{SynNames}
-use Rattle.bg_syntax.specs.declared.tree.names.SynNames.TheVariants as names_ways
+use Rattle.bg_trees.specs.declared.names.SynNumber.TheVariants as number_ways
+use Rattle.bg_trees.specs.declared.names.SynMoreLowItem.{SynMoreLowItem}
+use Rattle.bg_trees.specs.declared.names.SynFormals.{SynFormals}
+use Rattle.bg_trees.specs.declared.names.SynFormals.TheVariants as formals_ways
+use Rattle.bg_trees.specs.declared.names.SynNameList.{SynNameList}
+use Rattle.bg_trees.specs.declared.names.SynNameList.TheVariants as name_list_ways
+use Rattle.bg_trees.specs.declared.names.SynNames.{SynNames}
+use Rattle.bg_trees.specs.declared.names.SynNames.TheVariants as names_ways
 
 pub number_row : (x : SynNumber) → Row (s symbols.Number ∷ []) (number_steps x) (number_tree x)
 unfolding grammar model_ways model_deepens number_steps number_tree

@@ -5,7 +5,7 @@ use Rattle.bg_grammar.specs.Trees.{no_tree, no_part, IsTree, steps_of}
 use Rattle.bg_grammar.proofs.Stops.{accepted_once, sentences_accepted}
 use Rattle.bg_grammar.proofs.Trees.{one_tree}
 use Rattle.bg_syntax.specs.declared.symbol.Symbol.TheVariants as symbols
-use Rattle.bg_syntax.specs.declared.tree.models.SynModel.{SynModel}
+use Rattle.bg_trees.specs.declared.models.SynModel.{SynModel}
 use Rattle.bg_syntax.specs.Numbers.{symbol_number}
 use Rattle.bg_syntax.specs.Grammar.{grammar}
 use Rattle.bg_syntax.specs.Plan.{plan}

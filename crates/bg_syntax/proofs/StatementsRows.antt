@@ -5,44 +5,44 @@ use Rattle.bg_syntax.specs.declared.symbol.Symbol.TheVariants as symbols
 use Rattle.bg_lists.specs.Lists.{at_here, at_there}
 use Rattle.bg_syntax.specs.Grammar.{s, model_ways, model_deepens, grammar}
 use Rattle.bg_syntax.proofs.Rows.{Row, ItemRow, none_row, token_row, symbol_row, row_opened, item_opened, nested_row}
-use Rattle.bg_syntax.specs.declared.tree.statements.SynFun.{SynFun}
+use Rattle.bg_trees.specs.declared.statements.SynFun.{SynFun}
 use Rattle.bg_syntax.specs.StatementsSteps.{fun_steps, control_steps, bigraph_steps, more_num_item_steps, more_num_steps, numbers_steps, eta_steps, negation_steps, side_steps, test_steps, tests_item_steps, tests_steps, cond_steps, if_tail_steps, eta_tail_steps, tail_steps, react_steps, after_fun_steps, int_set_steps, more_text_item_steps, more_text_steps, text_set_steps, param_steps, stmt_steps}
 use Rattle.bg_syntax.specs.StatementsTrees.{fun_tree, control_tree, bigraph_tree, more_num_item_tree, more_num_tree, numbers_tree, eta_tree, negation_tree, side_tree, test_tree, tests_item_tree, tests_tree, cond_tree, if_tail_tree, eta_tail_tree, tail_tree, react_tree, after_fun_tree, int_set_tree, more_text_item_tree, more_text_tree, text_set_tree, param_tree, stmt_tree}
-use Rattle.bg_syntax.specs.declared.tree.statements.SynFun.TheVariants as fun_ways
-use Rattle.bg_syntax.specs.declared.tree.statements.SynControl.{SynControl}
+use Rattle.bg_trees.specs.declared.statements.SynFun.TheVariants as fun_ways
+use Rattle.bg_trees.specs.declared.statements.SynControl.{SynControl}
 use Rattle.bg_syntax.proofs.NamesRows.{number_row, formals_row}
-use Rattle.bg_syntax.specs.declared.tree.statements.SynBigraph.{SynBigraph}
+use Rattle.bg_trees.specs.declared.statements.SynBigraph.{SynBigraph}
 use Rattle.bg_syntax.proofs.ExpressionsRows.{e_row}
-use Rattle.bg_syntax.specs.declared.tree.statements.SynMoreNumItem.{SynMoreNumItem}
-use Rattle.bg_syntax.specs.declared.tree.statements.SynNumbers.{SynNumbers}
-use Rattle.bg_syntax.specs.declared.tree.statements.SynNumbers.TheVariants as numbers_ways
-use Rattle.bg_syntax.specs.declared.tree.statements.SynEta.{SynEta}
-use Rattle.bg_syntax.specs.declared.tree.statements.SynNot.{SynNot}
-use Rattle.bg_syntax.specs.declared.tree.statements.SynNot.TheVariants as negation_ways
-use Rattle.bg_syntax.specs.declared.tree.statements.SynSide.{SynSide}
-use Rattle.bg_syntax.specs.declared.tree.statements.SynSide.TheVariants as side_ways
-use Rattle.bg_syntax.specs.declared.tree.statements.SynTest.{SynTest}
-use Rattle.bg_syntax.specs.declared.tree.statements.SynTestsItem.{SynTestsItem}
-use Rattle.bg_syntax.specs.declared.tree.statements.SynCond.{SynCond}
-use Rattle.bg_syntax.specs.declared.tree.statements.SynIfTail.{SynIfTail}
-use Rattle.bg_syntax.specs.declared.tree.statements.SynIfTail.TheVariants as if_tail_ways
-use Rattle.bg_syntax.specs.declared.tree.statements.SynEtaTail.{SynEtaTail}
-use Rattle.bg_syntax.specs.declared.tree.statements.SynEtaTail.TheVariants as eta_tail_ways
-use Rattle.bg_syntax.specs.declared.tree.statements.SynTail.{SynTail}
-use Rattle.bg_syntax.specs.declared.tree.statements.SynTail.TheVariants as tail_ways
-use Rattle.bg_syntax.specs.declared.tree.statements.SynReact.{SynReact}
-use Rattle.bg_syntax.specs.declared.tree.statements.SynAfterFun.{SynAfterFun}
-use Rattle.bg_syntax.specs.declared.tree.statements.SynAfterFun.TheVariants as after_fun_ways
-use Rattle.bg_syntax.specs.declared.tree.statements.SynIntSet.{SynIntSet}
-use Rattle.bg_syntax.specs.declared.tree.statements.SynIntSet.TheVariants as int_set_ways
+use Rattle.bg_trees.specs.declared.statements.SynMoreNumItem.{SynMoreNumItem}
+use Rattle.bg_trees.specs.declared.statements.SynNumbers.{SynNumbers}
+use Rattle.bg_trees.specs.declared.statements.SynNumbers.TheVariants as numbers_ways
+use Rattle.bg_trees.specs.declared.statements.SynEta.{SynEta}
+use Rattle.bg_trees.specs.declared.statements.SynNot.{SynNot}
+use Rattle.bg_trees.specs.declared.statements.SynNot.TheVariants as negation_ways
+use Rattle.bg_trees.specs.declared.statements.SynSide.{SynSide}
+use Rattle.bg_trees.specs.declared.statements.SynSide.TheVariants as side_ways
+use Rattle.bg_trees.specs.declared.statements.SynTest.{SynTest}
+use Rattle.bg_trees.specs.declared.statements.SynTestsItem.{SynTestsItem}
+use Rattle.bg_trees.specs.declared.statements.SynCond.{SynCond}
+use Rattle.bg_trees.specs.declared.statements.SynIfTail.{SynIfTail}
+use Rattle.bg_trees.specs.declared.statements.SynIfTail.TheVariants as if_tail_ways
+use Rattle.bg_trees.specs.declared.statements.SynEtaTail.{SynEtaTail}
+use Rattle.bg_trees.specs.declared.statements.SynEtaTail.TheVariants as eta_tail_ways
+use Rattle.bg_trees.specs.declared.statements.SynTail.{SynTail}
+use Rattle.bg_trees.specs.declared.statements.SynTail.TheVariants as tail_ways
+use Rattle.bg_trees.specs.declared.statements.SynReact.{SynReact}
+use Rattle.bg_trees.specs.declared.statements.SynAfterFun.{SynAfterFun}
+use Rattle.bg_trees.specs.declared.statements.SynAfterFun.TheVariants as after_fun_ways
+use Rattle.bg_trees.specs.declared.statements.SynIntSet.{SynIntSet}
+use Rattle.bg_trees.specs.declared.statements.SynIntSet.TheVariants as int_set_ways
 use Rattle.bg_syntax.proofs.ArithmeticRows.{more_x_row, x_row}
-use Rattle.bg_syntax.specs.declared.tree.statements.SynMoreTextItem.{SynMoreTextItem}
-use Rattle.bg_syntax.specs.declared.tree.statements.SynTextSet.{SynTextSet}
-use Rattle.bg_syntax.specs.declared.tree.statements.SynTextSet.TheVariants as text_set_ways
-use Rattle.bg_syntax.specs.declared.tree.statements.SynParam.{SynParam}
-use Rattle.bg_syntax.specs.declared.tree.statements.SynParam.TheVariants as param_ways
-use Rattle.bg_syntax.specs.declared.tree.statements.SynStmt.{SynStmt}
-use Rattle.bg_syntax.specs.declared.tree.statements.SynStmt.TheVariants as stmt_ways
+use Rattle.bg_trees.specs.declared.statements.SynMoreTextItem.{SynMoreTextItem}
+use Rattle.bg_trees.specs.declared.statements.SynTextSet.{SynTextSet}
+use Rattle.bg_trees.specs.declared.statements.SynTextSet.TheVariants as text_set_ways
+use Rattle.bg_trees.specs.declared.statements.SynParam.{SynParam}
+use Rattle.bg_trees.specs.declared.statements.SynParam.TheVariants as param_ways
+use Rattle.bg_trees.specs.declared.statements.SynStmt.{SynStmt}
+use Rattle.bg_trees.specs.declared.statements.SynStmt.TheVariants as stmt_ways
 
 pub fun_row : (x : SynFun) → Row (s symbols.Fun ∷ []) (fun_steps x) (fun_tree x)
 unfolding grammar model_ways model_deepens fun_steps fun_tree

@@ -4,18 +4,18 @@ use Rattle.bg_text.specs.declared.token.TokenKind.TheVariants as kinds
 use Rattle.bg_syntax.specs.declared.symbol.Symbol.TheVariants as symbols
 use Rattle.bg_grammar.specs.Trees.{no_tree}
 use Rattle.bg_syntax.specs.Trees.{Growth, ItemGrowth, token, node, nested}
-use Rattle.bg_syntax.specs.declared.tree.arithmetic.SynT1Item.TheOpen.{SynT1Item-F, SynU-F, SynX1Item-F, SynT-F, SynX-F}
-use Rattle.bg_syntax.specs.declared.tree.arithmetic.SynT1Item.TheOpen.SynT1Item-F.{SynT1Item::Way1 as t1_1, SynT1Item::Way2 as t1_2}
-use Rattle.bg_syntax.specs.declared.tree.arithmetic.SynT1Item.TheOpen.SynU-F.{SynU::Way1 as u_1, SynU::Way2 as u_2, Way3 as u_3, Way4 as u_4, Way5 as u_5}
+use Rattle.bg_trees.specs.declared.arithmetic.SynT1Item.TheOpen.{SynT1Item-F, SynU-F, SynX1Item-F, SynT-F, SynX-F}
+use Rattle.bg_trees.specs.declared.arithmetic.SynT1Item.TheOpen.SynT1Item-F.{SynT1Item::Way1 as t1_1, SynT1Item::Way2 as t1_2}
+use Rattle.bg_trees.specs.declared.arithmetic.SynT1Item.TheOpen.SynU-F.{SynU::Way1 as u_1, SynU::Way2 as u_2, Way3 as u_3, Way4 as u_4, Way5 as u_5}
 use Rattle.bg_syntax.specs.NamesTrees.{number_tree}
-use Rattle.bg_syntax.specs.declared.tree.arithmetic.SynT1Item.TheOpen.SynX1Item-F.{SynX1Item::Way1 as x1_1, SynX1Item::Way2 as x1_2}
-use Rattle.bg_syntax.specs.declared.tree.arithmetic.SynT1Item.{SynT1Item}
-use Rattle.bg_syntax.specs.declared.tree.arithmetic.SynT1Item.TheFolds.{fold-SynT1Item, fold-SynU, fold-SynX1Item, fold-SynT, fold-SynX}
-use Rattle.bg_syntax.specs.declared.tree.arithmetic.SynU.{SynU}
-use Rattle.bg_syntax.specs.declared.tree.arithmetic.SynX1Item.{SynX1Item}
-use Rattle.bg_syntax.specs.declared.tree.arithmetic.SynT.{SynT}
-use Rattle.bg_syntax.specs.declared.tree.arithmetic.SynX.{SynX}
-use Rattle.bg_syntax.specs.declared.tree.arithmetic.SynMoreXItem.{SynMoreXItem}
+use Rattle.bg_trees.specs.declared.arithmetic.SynT1Item.TheOpen.SynX1Item-F.{SynX1Item::Way1 as x1_1, SynX1Item::Way2 as x1_2}
+use Rattle.bg_trees.specs.declared.arithmetic.SynT1Item.{SynT1Item}
+use Rattle.bg_trees.specs.declared.arithmetic.SynT1Item.TheFolds.{fold-SynT1Item, fold-SynU, fold-SynX1Item, fold-SynT, fold-SynX}
+use Rattle.bg_trees.specs.declared.arithmetic.SynU.{SynU}
+use Rattle.bg_trees.specs.declared.arithmetic.SynX1Item.{SynX1Item}
+use Rattle.bg_trees.specs.declared.arithmetic.SynT.{SynT}
+use Rattle.bg_trees.specs.declared.arithmetic.SynX.{SynX}
+use Rattle.bg_trees.specs.declared.arithmetic.SynMoreXItem.{SynMoreXItem}
 
 -- the types of this cycle are read by folds; a layer has the trees of its parts in place of the parts
 

@@ -3,32 +3,32 @@ use Rattle.std.specs.Prelude.{◌+◌, List, [], ◌∷◌, ◌++◌, map}
 use Rattle.bg_text.specs.declared.token.TokenKind.TheVariants as kinds
 use Rattle.bg_syntax.specs.declared.symbol.Symbol.TheVariants as symbols
 use Rattle.bg_syntax.specs.Steps.{Steps, opens, takes, in_turn}
-use Rattle.bg_syntax.specs.declared.tree.expressions.SynArgs.{SynArgs}
+use Rattle.bg_trees.specs.declared.expressions.SynArgs.{SynArgs}
 use Rattle.bg_syntax.specs.ArithmeticSteps.{more_x_steps, x_steps}
-use Rattle.bg_syntax.specs.declared.tree.expressions.SynArgs.TheVariants as args_ways
-use Rattle.bg_syntax.specs.declared.tree.expressions.SynRef.{SynRef}
-use Rattle.bg_syntax.specs.declared.tree.expressions.SynIdNames.{SynIdNames}
+use Rattle.bg_trees.specs.declared.expressions.SynArgs.TheVariants as args_ways
+use Rattle.bg_trees.specs.declared.expressions.SynRef.{SynRef}
+use Rattle.bg_trees.specs.declared.expressions.SynIdNames.{SynIdNames}
 use Rattle.bg_syntax.specs.NamesSteps.{name_list_steps, number_steps, names_steps}
-use Rattle.bg_syntax.specs.declared.tree.expressions.SynIdNames.TheVariants as id_names_ways
-use Rattle.bg_syntax.specs.declared.tree.expressions.SynIdTail.{SynIdTail}
-use Rattle.bg_syntax.specs.declared.tree.expressions.SynIdTail.TheVariants as id_tail_ways
-use Rattle.bg_syntax.specs.declared.tree.expressions.SynA.TheOpen.{SynA-F, SynK-F, SynN1-F, SynC-F, SynC1Item-F, SynE-F, SynE1Item-F, SynM-F, SynM1Item-F, SynN-F, SynP-F, SynP1Item-F}
-use Rattle.bg_syntax.specs.declared.tree.expressions.SynA.TheOpen.SynA-F.{SynA::Way1 as a_1, SynA::Way2 as a_2, Way3 as a_3, Way4 as a_4, Way5 as a_5, Way6 as a_6, Way7 as a_7, Way8 as a_8}
-use Rattle.bg_syntax.specs.declared.tree.expressions.SynA.TheOpen.SynK-F.{SynK::Way1 as k_1, SynK::Way2 as k_2}
-use Rattle.bg_syntax.specs.declared.tree.expressions.SynA.TheOpen.SynN1-F.{SynN1::Way1 as n1_1, SynN1::Way2 as n1_2}
-use Rattle.bg_syntax.specs.declared.tree.expressions.SynA.{SynA}
-use Rattle.bg_syntax.specs.declared.tree.expressions.SynA.TheFolds.{fold-SynA, fold-SynK, fold-SynN1, fold-SynC, fold-SynC1Item, fold-SynE, fold-SynE1Item, fold-SynM, fold-SynM1Item, fold-SynN, fold-SynP, fold-SynP1Item}
-use Rattle.bg_syntax.specs.declared.tree.expressions.SynK.{SynK}
-use Rattle.bg_syntax.specs.declared.tree.expressions.SynN1.{SynN1}
-use Rattle.bg_syntax.specs.declared.tree.expressions.SynC.{SynC}
-use Rattle.bg_syntax.specs.declared.tree.expressions.SynC1Item.{SynC1Item}
-use Rattle.bg_syntax.specs.declared.tree.expressions.SynE.{SynE}
-use Rattle.bg_syntax.specs.declared.tree.expressions.SynE1Item.{SynE1Item}
-use Rattle.bg_syntax.specs.declared.tree.expressions.SynM.{SynM}
-use Rattle.bg_syntax.specs.declared.tree.expressions.SynM1Item.{SynM1Item}
-use Rattle.bg_syntax.specs.declared.tree.expressions.SynN.{SynN}
-use Rattle.bg_syntax.specs.declared.tree.expressions.SynP.{SynP}
-use Rattle.bg_syntax.specs.declared.tree.expressions.SynP1Item.{SynP1Item}
+use Rattle.bg_trees.specs.declared.expressions.SynIdNames.TheVariants as id_names_ways
+use Rattle.bg_trees.specs.declared.expressions.SynIdTail.{SynIdTail}
+use Rattle.bg_trees.specs.declared.expressions.SynIdTail.TheVariants as id_tail_ways
+use Rattle.bg_trees.specs.declared.expressions.SynA.TheOpen.{SynA-F, SynK-F, SynN1-F, SynC-F, SynC1Item-F, SynE-F, SynE1Item-F, SynM-F, SynM1Item-F, SynN-F, SynP-F, SynP1Item-F}
+use Rattle.bg_trees.specs.declared.expressions.SynA.TheOpen.SynA-F.{SynA::Way1 as a_1, SynA::Way2 as a_2, Way3 as a_3, Way4 as a_4, Way5 as a_5, Way6 as a_6, Way7 as a_7, Way8 as a_8}
+use Rattle.bg_trees.specs.declared.expressions.SynA.TheOpen.SynK-F.{SynK::Way1 as k_1, SynK::Way2 as k_2}
+use Rattle.bg_trees.specs.declared.expressions.SynA.TheOpen.SynN1-F.{SynN1::Way1 as n1_1, SynN1::Way2 as n1_2}
+use Rattle.bg_trees.specs.declared.expressions.SynA.{SynA}
+use Rattle.bg_trees.specs.declared.expressions.SynA.TheFolds.{fold-SynA, fold-SynK, fold-SynN1, fold-SynC, fold-SynC1Item, fold-SynE, fold-SynE1Item, fold-SynM, fold-SynM1Item, fold-SynN, fold-SynP, fold-SynP1Item}
+use Rattle.bg_trees.specs.declared.expressions.SynK.{SynK}
+use Rattle.bg_trees.specs.declared.expressions.SynN1.{SynN1}
+use Rattle.bg_trees.specs.declared.expressions.SynC.{SynC}
+use Rattle.bg_trees.specs.declared.expressions.SynC1Item.{SynC1Item}
+use Rattle.bg_trees.specs.declared.expressions.SynE.{SynE}
+use Rattle.bg_trees.specs.declared.expressions.SynE1Item.{SynE1Item}
+use Rattle.bg_trees.specs.declared.expressions.SynM.{SynM}
+use Rattle.bg_trees.specs.declared.expressions.SynM1Item.{SynM1Item}
+use Rattle.bg_trees.specs.declared.expressions.SynN.{SynN}
+use Rattle.bg_trees.specs.declared.expressions.SynP.{SynP}
+use Rattle.bg_trees.specs.declared.expressions.SynP1Item.{SynP1Item}
 
 -- Args = "(" X MoreX ")" | none
 unfoldable pub args_steps : SynArgs → Steps

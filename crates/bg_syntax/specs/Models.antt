@@ -6,7 +6,7 @@ use Rattle.bg_grammar.specs.Faults.{IsShallow, unexpected, too_deep, IsOnlyFault
 use Rattle.bg_grammar.specs.Trees.{Trees, no_tree}
 use Rattle.bg_syntax.specs.declared.fault.SyntaxFault.{SyntaxFault}
 use Rattle.bg_syntax.specs.declared.fault.SyntaxFault.TheVariants.{Unexpected, TooDeep, OutOfMemory}
-use Rattle.bg_syntax.specs.declared.tree.models.SynModel.{SynModel}
+use Rattle.bg_trees.specs.declared.models.SynModel.{SynModel}
 use Rattle.bg_syntax.specs.declared.symbol.Symbol.TheVariants as symbols
 use Rattle.bg_syntax.specs.Numbers.{kind_number, symbol_number}
 use Rattle.bg_syntax.specs.Grammar.{grammar}

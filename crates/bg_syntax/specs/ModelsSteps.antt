@@ -3,23 +3,23 @@ use Rattle.std.specs.Prelude.{List, [], ◌∷◌, ◌++◌, map}
 use Rattle.bg_text.specs.declared.token.TokenKind.TheVariants as kinds
 use Rattle.bg_syntax.specs.declared.symbol.Symbol.TheVariants as symbols
 use Rattle.bg_syntax.specs.Steps.{Steps, opens, takes, in_turn}
-use Rattle.bg_syntax.specs.declared.tree.models.SynStmtsItem.{SynStmtsItem}
+use Rattle.bg_trees.specs.declared.models.SynStmtsItem.{SynStmtsItem}
 use Rattle.bg_syntax.specs.StatementsSteps.{stmt_steps, param_steps}
-use Rattle.bg_syntax.specs.declared.tree.models.SynParamsItem.{SynParamsItem}
-use Rattle.bg_syntax.specs.declared.tree.models.SynMoreRefItem.{SynMoreRefItem}
+use Rattle.bg_trees.specs.declared.models.SynParamsItem.{SynParamsItem}
+use Rattle.bg_trees.specs.declared.models.SynMoreRefItem.{SynMoreRefItem}
 use Rattle.bg_syntax.specs.ExpressionsSteps.{reference_steps}
-use Rattle.bg_syntax.specs.declared.tree.models.SynRefs.{SynRefs}
-use Rattle.bg_syntax.specs.declared.tree.models.SynRefs.TheVariants as refs_ways
-use Rattle.bg_syntax.specs.declared.tree.models.SynClass.{SynClass}
-use Rattle.bg_syntax.specs.declared.tree.models.SynClass.TheVariants as class_ways
-use Rattle.bg_syntax.specs.declared.tree.models.SynMoreClItem.{SynMoreClItem}
-use Rattle.bg_syntax.specs.declared.tree.models.SynClasses.{SynClasses}
-use Rattle.bg_syntax.specs.declared.tree.models.SynClasses.TheVariants as classes_ways
-use Rattle.bg_syntax.specs.declared.tree.models.SynPreds.{SynPreds}
-use Rattle.bg_syntax.specs.declared.tree.models.SynPreds.TheVariants as preds_ways
-use Rattle.bg_syntax.specs.declared.tree.models.SynBlock.{SynBlock}
-use Rattle.bg_syntax.specs.declared.tree.models.SynBlock.TheVariants as block_ways
-use Rattle.bg_syntax.specs.declared.tree.models.SynModel.{SynModel}
+use Rattle.bg_trees.specs.declared.models.SynRefs.{SynRefs}
+use Rattle.bg_trees.specs.declared.models.SynRefs.TheVariants as refs_ways
+use Rattle.bg_trees.specs.declared.models.SynClass.{SynClass}
+use Rattle.bg_trees.specs.declared.models.SynClass.TheVariants as class_ways
+use Rattle.bg_trees.specs.declared.models.SynMoreClItem.{SynMoreClItem}
+use Rattle.bg_trees.specs.declared.models.SynClasses.{SynClasses}
+use Rattle.bg_trees.specs.declared.models.SynClasses.TheVariants as classes_ways
+use Rattle.bg_trees.specs.declared.models.SynPreds.{SynPreds}
+use Rattle.bg_trees.specs.declared.models.SynPreds.TheVariants as preds_ways
+use Rattle.bg_trees.specs.declared.models.SynBlock.{SynBlock}
+use Rattle.bg_trees.specs.declared.models.SynBlock.TheVariants as block_ways
+use Rattle.bg_trees.specs.declared.models.SynModel.{SynModel}
 
 -- Stmts = Stmt Stmts | none
 unfoldable pub stmts_item_steps : SynStmtsItem → Steps

@@ -3,15 +3,15 @@ use Rattle.std.specs.Prelude.{List, [], ◌∷◌, ◌++◌, map}
 use Rattle.bg_text.specs.declared.token.TokenKind.TheVariants as kinds
 use Rattle.bg_syntax.specs.declared.symbol.Symbol.TheVariants as symbols
 use Rattle.bg_syntax.specs.Steps.{Steps, opens, takes, in_turn}
-use Rattle.bg_syntax.specs.declared.tree.names.SynNumber.{SynNumber}
-use Rattle.bg_syntax.specs.declared.tree.names.SynNumber.TheVariants as number_ways
-use Rattle.bg_syntax.specs.declared.tree.names.SynMoreLowItem.{SynMoreLowItem}
-use Rattle.bg_syntax.specs.declared.tree.names.SynFormals.{SynFormals}
-use Rattle.bg_syntax.specs.declared.tree.names.SynFormals.TheVariants as formals_ways
-use Rattle.bg_syntax.specs.declared.tree.names.SynNameList.{SynNameList}
-use Rattle.bg_syntax.specs.declared.tree.names.SynNameList.TheVariants as name_list_ways
-use Rattle.bg_syntax.specs.declared.tree.names.SynNames.{SynNames}
-use Rattle.bg_syntax.specs.declared.tree.names.SynNames.TheVariants as names_ways
+use Rattle.bg_trees.specs.declared.names.SynNumber.{SynNumber}
+use Rattle.bg_trees.specs.declared.names.SynNumber.TheVariants as number_ways
+use Rattle.bg_trees.specs.declared.names.SynMoreLowItem.{SynMoreLowItem}
+use Rattle.bg_trees.specs.declared.names.SynFormals.{SynFormals}
+use Rattle.bg_trees.specs.declared.names.SynFormals.TheVariants as formals_ways
+use Rattle.bg_trees.specs.declared.names.SynNameList.{SynNameList}
+use Rattle.bg_trees.specs.declared.names.SynNameList.TheVariants as name_list_ways
+use Rattle.bg_trees.specs.declared.names.SynNames.{SynNames}
+use Rattle.bg_trees.specs.declared.names.SynNames.TheVariants as names_ways
 
 -- Number = zero | one | num
 unfoldable pub number_steps : SynNumber → Steps

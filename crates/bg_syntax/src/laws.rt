@@ -3,7 +3,7 @@ ghost use Rattle.std.specs.Prelude.{◌≡◌, ℕ, List};
 ghost use Rattle.bg_text.specs.declared.token.Token.{Token};
 ghost use Rattle.bg_grammar.specs.Trees.{IsTree, steps_of};
 ghost use Rattle.bg_syntax.specs.declared.symbol.Symbol.TheVariants as symbols;
-ghost use Rattle.bg_syntax.specs.declared.tree.models.SynModel.{SynModel};
+ghost use Rattle.bg_trees.specs.declared.models.SynModel.{SynModel};
 ghost use Rattle.bg_syntax.specs.Numbers.{symbol_number};
 ghost use Rattle.bg_syntax.specs.Grammar.{grammar};
 ghost use Rattle.bg_syntax.specs.ModelsSteps.{model_steps};

@@ -1,10 +1,10 @@
 //! The grammar of the model language: from tokens to the tree of their derivation.
 //!
 //! - [`parse`]: the tree of the tokens, or their first fault ([`SyntaxFault`]).
-//! - [`tree`]: a type for each symbol of the grammar; [`Tree`] is the whole.
 //! - [`tokens_have_one_tree`], [`steps_determine_models`], [`models_are_derivation_trees`]: what the tokens and the
-//!   steps
-//!   of a tree determine.
+//!   steps of a tree determine.
+//!
+//! The types of the trees stand in `bg_trees`.
 #![tactic(auto)]
 
 mod fault;
@@ -14,10 +14,8 @@ mod read;
 mod reader;
 mod symbol;
 mod table;
-pub mod tree;
 
 pub use fault::{SyntaxFault, TOO_DEEP, UNEXPECTED};
 pub use laws::{models_are_derivation_trees, steps_determine_models, tokens_have_one_tree};
 pub use parsing::parse;
 pub use symbol::Symbol;
-pub use tree::Tree;

@@ -6,8 +6,8 @@ ghost use Rattle.bg_syntax.specs.Models.{DerivesModel, IsTreeOf, IsSyntaxFault};
 
 use crate::fault::SyntaxFault;
 use crate::reader::Reader;
-use crate::tree::models::SynModel;
 use bg_text::Token;
+use bg_trees::models::SynModel;
 use std::alloc::Global;
 
 /// The tree of the tokens' derivation from `Model`. `Unexpected` and `TooDeep` come exactly where they have none

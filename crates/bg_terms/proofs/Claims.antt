@@ -1,28 +1,28 @@
 -- A claim that each form of expression keeps holds of the expressions of all trees.
 use Rattle.std.proofs.Common.{◌≡◌, ◌∙◌, ℕ, suc, Bool, true, false, not, ◌==◌, List, [], ◌∷◌, map, length, Option, Some, None, Result, Ok, Err, refl, sym, ap, subst, eqb-true}
 use Rattle.std.specs.Prelude.{IfOk, if◌then◌else◌}
-use Rattle.bg_syntax.specs.declared.tree.arithmetic.SynX.{SynX}
-use Rattle.bg_syntax.specs.declared.tree.names.SynNumber.{SynNumber}
-use Rattle.bg_syntax.specs.declared.tree.expressions.SynIdTail.{SynIdTail}
-use Rattle.bg_syntax.specs.declared.tree.expressions.SynIdTail.TheVariants as id_tail_ways
-use Rattle.bg_syntax.specs.declared.tree.expressions.SynA.TheOpen.{SynA-F, SynK-F, SynN1-F, SynC-F, SynC1Item-F, SynE-F, SynE1Item-F, SynM-F, SynM1Item-F, SynN-F, SynP-F, SynP1Item-F}
-use Rattle.bg_syntax.specs.declared.tree.expressions.SynA.TheOpen.SynA-F.{SynA::Way1 as a_1, SynA::Way2 as a_2, Way3 as a_3, Way4 as a_4, Way5 as a_5, Way6 as a_6, Way7 as a_7, Way8 as a_8}
-use Rattle.bg_syntax.specs.declared.tree.expressions.SynA.TheOpen.SynK-F.{SynK::Way1 as k_1, SynK::Way2 as k_2}
-use Rattle.bg_syntax.specs.declared.tree.expressions.SynA.TheOpen.SynN1-F.{SynN1::Way1 as n1_1, SynN1::Way2 as n1_2}
-use Rattle.bg_syntax.specs.declared.tree.expressions.SynA.TheFolds.{map-SynA, map-SynK, map-SynN1, map-SynC, map-SynC1Item, map-SynE, map-SynE1Item, map-SynM, map-SynM1Item, map-SynN, map-SynP, map-SynP1Item, ind-SynE}
-use Rattle.bg_syntax.specs.declared.tree.expressions.SynA.TheViews.{roll-SynA, roll-SynK, roll-SynN1, roll-SynC, roll-SynC1Item, roll-SynE, roll-SynE1Item, roll-SynM, roll-SynM1Item, roll-SynN, roll-SynP, roll-SynP1Item}
-use Rattle.bg_syntax.specs.declared.tree.expressions.SynA.{SynA}
-use Rattle.bg_syntax.specs.declared.tree.expressions.SynK.{SynK}
-use Rattle.bg_syntax.specs.declared.tree.expressions.SynN1.{SynN1}
-use Rattle.bg_syntax.specs.declared.tree.expressions.SynC.{SynC}
-use Rattle.bg_syntax.specs.declared.tree.expressions.SynC1Item.{SynC1Item}
-use Rattle.bg_syntax.specs.declared.tree.expressions.SynE.{SynE}
-use Rattle.bg_syntax.specs.declared.tree.expressions.SynE1Item.{SynE1Item}
-use Rattle.bg_syntax.specs.declared.tree.expressions.SynM.{SynM}
-use Rattle.bg_syntax.specs.declared.tree.expressions.SynM1Item.{SynM1Item}
-use Rattle.bg_syntax.specs.declared.tree.expressions.SynN.{SynN}
-use Rattle.bg_syntax.specs.declared.tree.expressions.SynP.{SynP}
-use Rattle.bg_syntax.specs.declared.tree.expressions.SynP1Item.{SynP1Item}
+use Rattle.bg_trees.specs.declared.arithmetic.SynX.{SynX}
+use Rattle.bg_trees.specs.declared.names.SynNumber.{SynNumber}
+use Rattle.bg_trees.specs.declared.expressions.SynIdTail.{SynIdTail}
+use Rattle.bg_trees.specs.declared.expressions.SynIdTail.TheVariants as id_tail_ways
+use Rattle.bg_trees.specs.declared.expressions.SynA.TheOpen.{SynA-F, SynK-F, SynN1-F, SynC-F, SynC1Item-F, SynE-F, SynE1Item-F, SynM-F, SynM1Item-F, SynN-F, SynP-F, SynP1Item-F}
+use Rattle.bg_trees.specs.declared.expressions.SynA.TheOpen.SynA-F.{SynA::Way1 as a_1, SynA::Way2 as a_2, Way3 as a_3, Way4 as a_4, Way5 as a_5, Way6 as a_6, Way7 as a_7, Way8 as a_8}
+use Rattle.bg_trees.specs.declared.expressions.SynA.TheOpen.SynK-F.{SynK::Way1 as k_1, SynK::Way2 as k_2}
+use Rattle.bg_trees.specs.declared.expressions.SynA.TheOpen.SynN1-F.{SynN1::Way1 as n1_1, SynN1::Way2 as n1_2}
+use Rattle.bg_trees.specs.declared.expressions.SynA.TheFolds.{map-SynA, map-SynK, map-SynN1, map-SynC, map-SynC1Item, map-SynE, map-SynE1Item, map-SynM, map-SynM1Item, map-SynN, map-SynP, map-SynP1Item, ind-SynE}
+use Rattle.bg_trees.specs.declared.expressions.SynA.TheViews.{roll-SynA, roll-SynK, roll-SynN1, roll-SynC, roll-SynC1Item, roll-SynE, roll-SynE1Item, roll-SynM, roll-SynM1Item, roll-SynN, roll-SynP, roll-SynP1Item}
+use Rattle.bg_trees.specs.declared.expressions.SynA.{SynA}
+use Rattle.bg_trees.specs.declared.expressions.SynK.{SynK}
+use Rattle.bg_trees.specs.declared.expressions.SynN1.{SynN1}
+use Rattle.bg_trees.specs.declared.expressions.SynC.{SynC}
+use Rattle.bg_trees.specs.declared.expressions.SynC1Item.{SynC1Item}
+use Rattle.bg_trees.specs.declared.expressions.SynE.{SynE}
+use Rattle.bg_trees.specs.declared.expressions.SynE1Item.{SynE1Item}
+use Rattle.bg_trees.specs.declared.expressions.SynM.{SynM}
+use Rattle.bg_trees.specs.declared.expressions.SynM1Item.{SynM1Item}
+use Rattle.bg_trees.specs.declared.expressions.SynN.{SynN}
+use Rattle.bg_trees.specs.declared.expressions.SynP.{SynP}
+use Rattle.bg_trees.specs.declared.expressions.SynP1Item.{SynP1Item}
 use Rattle.bg_values.specs.declared.refusal.Cause.{Cause}
 use Rattle.bg_values.specs.declared.refusal.Cause.TheVariants.{UnknownName}
 use Rattle.bg_values.specs.declared.refusal.Refusal.{Refusal}

@@ -6,7 +6,7 @@ use Rattle.std.proofs.lemmas.Option.{slice_get_within}
 use Rattle.bg_lists.specs.Lists.{Mem, here, there}
 use Rattle.bg_lists.proofs.Places.{At-slice_get, slice_get-At, At-append_left, slice_get-append_left}
 use Rattle.bg_base.specs.declared.labels.Value.{Value}
-use Rattle.bg_syntax.specs.declared.tree.expressions.SynE.{SynE}
+use Rattle.bg_trees.specs.declared.expressions.SynE.{SynE}
 use Rattle.bg_values.specs.Names.{Entry, number_of, look_up}
 use Rattle.bg_values.specs.Operands.{values}
 use Rattle.bg_values.specs.Scopes.{spelling}

@@ -1,20 +1,20 @@
 -- What the trees say, where they are made of their parts.
 use Rattle.std.proofs.Common.{◌≡◌}
-use Rattle.bg_syntax.specs.declared.tree.expressions.SynA.TheOpen.{SynA-F, SynK-F, SynN1-F, SynC-F, SynC1Item-F, SynE-F, SynE1Item-F, SynM-F, SynM1Item-F, SynN-F, SynP-F, SynP1Item-F}
-use Rattle.bg_syntax.specs.declared.tree.expressions.SynA.TheFolds.{map-SynA, map-SynK, map-SynN1, map-SynC, map-SynC1Item, map-SynE, map-SynE1Item, map-SynM, map-SynM1Item, map-SynN, map-SynP, map-SynP1Item, fold-roll-SynA, fold-roll-SynK, fold-roll-SynN1, fold-roll-SynC, fold-roll-SynC1Item, fold-roll-SynE, fold-roll-SynE1Item, fold-roll-SynM, fold-roll-SynM1Item, fold-roll-SynN, fold-roll-SynP, fold-roll-SynP1Item}
-use Rattle.bg_syntax.specs.declared.tree.expressions.SynA.TheViews.{roll-SynA, roll-SynK, roll-SynN1, roll-SynC, roll-SynC1Item, roll-SynE, roll-SynE1Item, roll-SynM, roll-SynM1Item, roll-SynN, roll-SynP, roll-SynP1Item}
-use Rattle.bg_syntax.specs.declared.tree.expressions.SynA.{SynA}
-use Rattle.bg_syntax.specs.declared.tree.expressions.SynK.{SynK}
-use Rattle.bg_syntax.specs.declared.tree.expressions.SynN1.{SynN1}
-use Rattle.bg_syntax.specs.declared.tree.expressions.SynC.{SynC}
-use Rattle.bg_syntax.specs.declared.tree.expressions.SynC1Item.{SynC1Item}
-use Rattle.bg_syntax.specs.declared.tree.expressions.SynE.{SynE}
-use Rattle.bg_syntax.specs.declared.tree.expressions.SynE1Item.{SynE1Item}
-use Rattle.bg_syntax.specs.declared.tree.expressions.SynM.{SynM}
-use Rattle.bg_syntax.specs.declared.tree.expressions.SynM1Item.{SynM1Item}
-use Rattle.bg_syntax.specs.declared.tree.expressions.SynN.{SynN}
-use Rattle.bg_syntax.specs.declared.tree.expressions.SynP.{SynP}
-use Rattle.bg_syntax.specs.declared.tree.expressions.SynP1Item.{SynP1Item}
+use Rattle.bg_trees.specs.declared.expressions.SynA.TheOpen.{SynA-F, SynK-F, SynN1-F, SynC-F, SynC1Item-F, SynE-F, SynE1Item-F, SynM-F, SynM1Item-F, SynN-F, SynP-F, SynP1Item-F}
+use Rattle.bg_trees.specs.declared.expressions.SynA.TheFolds.{map-SynA, map-SynK, map-SynN1, map-SynC, map-SynC1Item, map-SynE, map-SynE1Item, map-SynM, map-SynM1Item, map-SynN, map-SynP, map-SynP1Item, fold-roll-SynA, fold-roll-SynK, fold-roll-SynN1, fold-roll-SynC, fold-roll-SynC1Item, fold-roll-SynE, fold-roll-SynE1Item, fold-roll-SynM, fold-roll-SynM1Item, fold-roll-SynN, fold-roll-SynP, fold-roll-SynP1Item}
+use Rattle.bg_trees.specs.declared.expressions.SynA.TheViews.{roll-SynA, roll-SynK, roll-SynN1, roll-SynC, roll-SynC1Item, roll-SynE, roll-SynE1Item, roll-SynM, roll-SynM1Item, roll-SynN, roll-SynP, roll-SynP1Item}
+use Rattle.bg_trees.specs.declared.expressions.SynA.{SynA}
+use Rattle.bg_trees.specs.declared.expressions.SynK.{SynK}
+use Rattle.bg_trees.specs.declared.expressions.SynN1.{SynN1}
+use Rattle.bg_trees.specs.declared.expressions.SynC.{SynC}
+use Rattle.bg_trees.specs.declared.expressions.SynC1Item.{SynC1Item}
+use Rattle.bg_trees.specs.declared.expressions.SynE.{SynE}
+use Rattle.bg_trees.specs.declared.expressions.SynE1Item.{SynE1Item}
+use Rattle.bg_trees.specs.declared.expressions.SynM.{SynM}
+use Rattle.bg_trees.specs.declared.expressions.SynM1Item.{SynM1Item}
+use Rattle.bg_trees.specs.declared.expressions.SynN.{SynN}
+use Rattle.bg_trees.specs.declared.expressions.SynP.{SynP}
+use Rattle.bg_trees.specs.declared.expressions.SynP1Item.{SynP1Item}
 use Rattle.bg_terms.specs.Trees.{Form, Reading, Behind, Onward}
 use Rattle.bg_terms.specs.Trees.{a_layer, k_layer, n1_layer, c_layer, c1_item_layer, e_layer, e1_item_layer, m_layer, m1_item_layer, n_layer, p_layer, p1_item_layer}
 use Rattle.bg_terms.specs.Trees.{a_read, k_read, n1_read, c_read, c1_item_read, e_read, e1_item_read, m_read, m1_item_read, n_read, p_read, p1_item_read}

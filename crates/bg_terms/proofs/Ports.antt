@@ -3,7 +3,7 @@ use Rattle.std.proofs.Common.{◌≡◌, ◌++◌, ℕ, List, Option, Some, None
 use Rattle.std.specs.Prelude.{IfOk, option_map}
 use Rattle.std.proofs.lemmas.Option.{slice_get-map}
 use Rattle.bg_lists.proofs.Places.{At-slice_get, slice_get-At, At-append_left}
-use Rattle.bg_syntax.specs.declared.tree.expressions.SynE.{SynE}
+use Rattle.bg_trees.specs.declared.expressions.SynE.{SynE}
 use Rattle.bg_values.specs.Names.{Entry, number_of, entry_at, look_up}
 use Rattle.bg_values.specs.Scopes.{spelling}
 use Rattle.bg_terms.specs.declared.shape.ControlEntry.{ControlEntry}

@@ -1,7 +1,7 @@
 -- Expressions that were read from trees, while more and more controls became visible.
 use Rattle.std.specs.Prelude.{◌≡◌, ◌≤◌, ◌<◌, ℕ, List, ◌++◌, map, Ok}
 use Rattle.bg_lists.specs.Lists.{Mem}
-use Rattle.bg_syntax.specs.declared.tree.expressions.SynE.{SynE}
+use Rattle.bg_trees.specs.declared.expressions.SynE.{SynE}
 use Rattle.bg_values.specs.Names.{Entry}
 use Rattle.bg_terms.specs.declared.shape.ControlEntry.{ControlEntry}
 use Rattle.bg_terms.specs.declared.shape.Shape.{Shape}

@@ -14,7 +14,7 @@ ghost use Rattle.bg_terms.specs.Expressions.{Expression};
 ghost use Rattle.bg_terms.specs.declared.shape.Shape.{Shape};
 ghost use Rattle.bg_terms.specs.Expansion.{Meaning, expand, meanings_of, HasNoReference};
 ghost use Rattle.bg_terms.specs.Closures.{StandsBehind, IsEvaluatedAt};
-ghost use Rattle.bg_syntax.specs.declared.tree.expressions.SynE.{SynE};
+ghost use Rattle.bg_trees.specs.declared.expressions.SynE.{SynE};
 ghost use Rattle.bg_values.specs.Names.{Entry, number_of};
 ghost use Rattle.bg_terms.specs.declared.shape.ControlEntry.{ControlEntry};
 ghost use Rattle.bg_terms.specs.Read.{shapes_of, IsRead, AreControls, AreRead, RefersBelow};

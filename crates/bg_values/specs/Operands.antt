@@ -4,8 +4,8 @@ use Rattle.std.specs.Prelude.{Vec}
 use Rattle.std.specs.Global.{Global}
 use Rattle.bg_base.specs.declared.labels.Value.{Value}
 use Rattle.bg_base.specs.declared.labels.Value.TheVariants.{Int}
-use Rattle.bg_syntax.specs.declared.tree.arithmetic.SynX.{SynX}
-use Rattle.bg_syntax.specs.declared.tree.arithmetic.SynMoreXItem.{SynMoreXItem}
+use Rattle.bg_trees.specs.declared.arithmetic.SynX.{SynX}
+use Rattle.bg_trees.specs.declared.arithmetic.SynMoreXItem.{SynMoreXItem}
 use Rattle.bg_values.specs.declared.formula.Step.{Step}
 use Rattle.bg_values.specs.declared.operands.Operand.{Operand as Code}
 use Rattle.bg_values.specs.declared.refusal.Refusal.{Refusal}

@@ -4,15 +4,15 @@ use Rattle.bg_base.specs.Limits.{most_values}
 use Rattle.bg_base.specs.Elementary.{counted}
 use Rattle.bg_base.specs.declared.labels.Value.{Value}
 use Rattle.bg_base.specs.declared.labels.Value.TheVariants.{Int, Words}
-use Rattle.bg_syntax.specs.declared.tree.arithmetic.SynX.{SynX}
-use Rattle.bg_syntax.specs.declared.tree.arithmetic.SynMoreXItem.{SynMoreXItem}
-use Rattle.bg_syntax.specs.declared.tree.statements.SynParam.{SynParam}
-use Rattle.bg_syntax.specs.declared.tree.statements.SynParam.TheVariants as params
-use Rattle.bg_syntax.specs.declared.tree.statements.SynIntSet.{SynIntSet}
-use Rattle.bg_syntax.specs.declared.tree.statements.SynIntSet.TheVariants as int_sets
-use Rattle.bg_syntax.specs.declared.tree.statements.SynTextSet.{SynTextSet}
-use Rattle.bg_syntax.specs.declared.tree.statements.SynTextSet.TheVariants as text_sets
-use Rattle.bg_syntax.specs.declared.tree.statements.SynMoreTextItem.{SynMoreTextItem}
+use Rattle.bg_trees.specs.declared.arithmetic.SynX.{SynX}
+use Rattle.bg_trees.specs.declared.arithmetic.SynMoreXItem.{SynMoreXItem}
+use Rattle.bg_trees.specs.declared.statements.SynParam.{SynParam}
+use Rattle.bg_trees.specs.declared.statements.SynParam.TheVariants as params
+use Rattle.bg_trees.specs.declared.statements.SynIntSet.{SynIntSet}
+use Rattle.bg_trees.specs.declared.statements.SynIntSet.TheVariants as int_sets
+use Rattle.bg_trees.specs.declared.statements.SynTextSet.{SynTextSet}
+use Rattle.bg_trees.specs.declared.statements.SynTextSet.TheVariants as text_sets
+use Rattle.bg_trees.specs.declared.statements.SynMoreTextItem.{SynMoreTextItem}
 use Rattle.bg_values.specs.declared.refusal.LimitWord.TheVariants.{Values}
 use Rattle.bg_values.specs.declared.refusal.Refusal.{Refusal}
 use Rattle.bg_values.specs.declared.refusal.Cause.TheVariants.{TooLarge, EmptyRange}

@@ -1,18 +1,18 @@
 -- What a tree of arithmetic says, where some names are visible.
 use Rattle.std.specs.Prelude.{ℕ, ◌-◌, if◌then◌else◌, List, [], ◌∷◌, length, take, drop, Result, Ok, ℤ}
 use Rattle.bg_base.specs.Spelling.{is_text}
-use Rattle.bg_syntax.specs.declared.tree.names.SynNumber.{SynNumber}
-use Rattle.bg_syntax.specs.declared.tree.names.SynNumber.TheVariants as numbers
-use Rattle.bg_syntax.specs.declared.tree.arithmetic.SynT1Item.TheOpen.{SynT1Item-F, SynU-F, SynX1Item-F, SynT-F, SynX-F}
-use Rattle.bg_syntax.specs.declared.tree.arithmetic.SynT1Item.TheOpen.SynT1Item-F.{SynT1Item::Way1 as t1_1, SynT1Item::Way2 as t1_2}
-use Rattle.bg_syntax.specs.declared.tree.arithmetic.SynT1Item.TheOpen.SynU-F.{SynU::Way1 as u_1, SynU::Way2 as u_2, Way3 as u_3, Way4 as u_4, Way5 as u_5}
-use Rattle.bg_syntax.specs.declared.tree.arithmetic.SynT1Item.TheOpen.SynX1Item-F.{SynX1Item::Way1 as x1_1, SynX1Item::Way2 as x1_2}
-use Rattle.bg_syntax.specs.declared.tree.arithmetic.SynT1Item.{SynT1Item}
-use Rattle.bg_syntax.specs.declared.tree.arithmetic.SynT1Item.TheFolds.{fold-SynT1Item, fold-SynU, fold-SynX1Item, fold-SynT, fold-SynX}
-use Rattle.bg_syntax.specs.declared.tree.arithmetic.SynU.{SynU}
-use Rattle.bg_syntax.specs.declared.tree.arithmetic.SynX1Item.{SynX1Item}
-use Rattle.bg_syntax.specs.declared.tree.arithmetic.SynT.{SynT}
-use Rattle.bg_syntax.specs.declared.tree.arithmetic.SynX.{SynX}
+use Rattle.bg_trees.specs.declared.names.SynNumber.{SynNumber}
+use Rattle.bg_trees.specs.declared.names.SynNumber.TheVariants as numbers
+use Rattle.bg_trees.specs.declared.arithmetic.SynT1Item.TheOpen.{SynT1Item-F, SynU-F, SynX1Item-F, SynT-F, SynX-F}
+use Rattle.bg_trees.specs.declared.arithmetic.SynT1Item.TheOpen.SynT1Item-F.{SynT1Item::Way1 as t1_1, SynT1Item::Way2 as t1_2}
+use Rattle.bg_trees.specs.declared.arithmetic.SynT1Item.TheOpen.SynU-F.{SynU::Way1 as u_1, SynU::Way2 as u_2, Way3 as u_3, Way4 as u_4, Way5 as u_5}
+use Rattle.bg_trees.specs.declared.arithmetic.SynT1Item.TheOpen.SynX1Item-F.{SynX1Item::Way1 as x1_1, SynX1Item::Way2 as x1_2}
+use Rattle.bg_trees.specs.declared.arithmetic.SynT1Item.{SynT1Item}
+use Rattle.bg_trees.specs.declared.arithmetic.SynT1Item.TheFolds.{fold-SynT1Item, fold-SynU, fold-SynX1Item, fold-SynT, fold-SynX}
+use Rattle.bg_trees.specs.declared.arithmetic.SynU.{SynU}
+use Rattle.bg_trees.specs.declared.arithmetic.SynX1Item.{SynX1Item}
+use Rattle.bg_trees.specs.declared.arithmetic.SynT.{SynT}
+use Rattle.bg_trees.specs.declared.arithmetic.SynX.{SynX}
 use Rattle.bg_values.specs.declared.formula.Operator.{Operator}
 use Rattle.bg_values.specs.declared.formula.Operator.TheVariants.{Add, Subtract, Multiply, Divide}
 use Rattle.bg_values.specs.declared.refusal.Refusal.{Refusal}

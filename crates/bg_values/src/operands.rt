@@ -8,7 +8,7 @@ use crate::reading::{first_of_x, formula_of};
 use crate::refusal::Stop;
 use crate::scope::Scope;
 use bg_base::Value;
-use bg_syntax::tree::arithmetic::{SynMoreXItem, SynX};
+use bg_trees::arithmetic::{SynMoreXItem, SynX};
 use std::alloc::Global;
 
 /// A formula, and its first token.

@@ -13,8 +13,8 @@ use crate::scope::Scope;
 use crate::values::{Bounds, ParameterValues, steps_of};
 use bg_base::limits::MOST_VALUES;
 use bg_base::Value;
-use bg_syntax::tree::arithmetic::{SynMoreXItem, SynX};
-use bg_syntax::tree::statements::{SynIntSet, SynMoreTextItem, SynParam, SynTextSet};
+use bg_trees::arithmetic::{SynMoreXItem, SynX};
+use bg_trees::statements::{SynIntSet, SynMoreTextItem, SynParam, SynTextSet};
 use std::alloc::Global;
 
 /// The values of a parameter, in order, repeats kept: those of a list, or the numbers of a range, or one value. Refuses

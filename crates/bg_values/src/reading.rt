@@ -9,8 +9,8 @@ use crate::number::number_in;
 use crate::refusal::{Cause, Refusal, Stop};
 use crate::scope::Scope;
 use bg_base::{Text, is_text};
-use bg_syntax::tree::arithmetic::{SynT, SynT1Item, SynU, SynX, SynX1Item};
-use bg_syntax::tree::names::SynNumber;
+use bg_trees::arithmetic::{SynT, SynT1Item, SynU, SynX, SynX1Item};
+use bg_trees::names::SynNumber;
 use std::alloc::Global;
 
 /// The formula that a tree is, its names numbered as they stand among the visible ones. Refuses the first name that is

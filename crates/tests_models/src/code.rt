@@ -1,10 +1,10 @@
 use bg_base::{Ident, Kind};
 use bg_code::*;
 use bg_lists::{Mem, OutOfMemory};
-use bg_syntax::tree::statements::SynStmt;
 use bg_syntax::{SyntaxFault, parse};
 use bg_terms::{BinaryOperation, ControlEntry, Shape};
 use bg_text::{LexFault, tokens};
+use bg_trees::statements::SynStmt;
 use bg_values::{NameTable, Scope, Stop};
 use std::alloc::Global;
 

@@ -1,8 +1,8 @@
 use bg_lists::{Mem, OutOfMemory};
 use bg_statements::Uses;
-use bg_syntax::tree::models::SynBlock;
 use bg_syntax::{SyntaxFault, parse};
 use bg_text::{LexFault, tokens};
+use bg_trees::models::SynBlock;
 use bg_values::{NameTable, Scope, Stop};
 use std::alloc::Global;
 

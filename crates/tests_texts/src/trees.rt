@@ -1,7 +1,7 @@
-use bg_syntax::tree::models::SynModel;
-use bg_syntax::tree::statements::SynStmt;
 use bg_syntax::{SyntaxFault, parse};
 use bg_text::tokens;
+use bg_trees::models::SynModel;
+use bg_trees::statements::SynStmt;
 
 /// The tokens of the last statement, a bigraph's: `big`, the name, `=` and the semicolon; none of another.
 fn places_of(tree: &SynModel) -> [u32; 4] {

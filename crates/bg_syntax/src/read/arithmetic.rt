@@ -8,8 +8,8 @@ ghost use Rattle.bg_syntax.specs.Reading.{wants, Reads, ReadsItem};
 use crate::fault::SyntaxFault;
 use crate::reader::Reader;
 use crate::symbol::Symbol;
-use crate::tree::arithmetic::{SynMoreXItem, SynT, SynT1Item, SynU, SynX, SynX1Item};
 use bg_text::TokenKind;
+use bg_trees::arithmetic::{SynMoreXItem, SynT, SynT1Item, SynU, SynX, SynX1Item};
 
 impl Reader<'_> {
     // MoreX = "," X MoreX | none

@@ -8,11 +8,11 @@ ghost use Rattle.bg_syntax.specs.Reading.{wants, Reads, ReadsItem};
 use crate::fault::SyntaxFault;
 use crate::reader::Reader;
 use crate::symbol::Symbol;
-use crate::tree::expressions::{
+use bg_text::TokenKind;
+use bg_trees::expressions::{
     SynA, SynArgs, SynC, SynC1Item, SynE, SynE1Item, SynIdNames, SynIdTail, SynK, SynM, SynM1Item,
     SynN, SynN1, SynP, SynP1Item, SynRef,
 };
-use bg_text::TokenKind;
 
 impl Reader<'_> {
     // Ref = lower Args

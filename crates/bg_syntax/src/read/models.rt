@@ -9,11 +9,11 @@ ghost use Rattle.bg_syntax.specs.Reading.{wants, Reads, ReadsItem};
 use crate::fault::SyntaxFault;
 use crate::reader::Reader;
 use crate::symbol::Symbol;
-use crate::tree::models::{
+use bg_text::TokenKind;
+use bg_trees::models::{
     SynBlock, SynClass, SynClasses, SynModel, SynMoreClItem, SynMoreRefItem, SynParamsItem,
     SynPreds, SynRefs, SynStmtsItem,
 };
-use bg_text::TokenKind;
 
 impl Reader<'_> {
     // Model = Stmts Block

@@ -8,8 +8,8 @@ ghost use Rattle.bg_syntax.specs.Reading.{wants, Reads, ReadsItem};
 use crate::fault::SyntaxFault;
 use crate::reader::Reader;
 use crate::symbol::Symbol;
-use crate::tree::names::{SynFormals, SynMoreLowItem, SynNameList, SynNames, SynNumber};
 use bg_text::TokenKind;
+use bg_trees::names::{SynFormals, SynMoreLowItem, SynNameList, SynNames, SynNumber};
 
 impl Reader<'_> {
     // Number = zero | one | num

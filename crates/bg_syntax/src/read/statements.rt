@@ -8,12 +8,12 @@ ghost use Rattle.bg_syntax.specs.Reading.{wants, Reads, ReadsItem};
 use crate::fault::SyntaxFault;
 use crate::reader::Reader;
 use crate::symbol::Symbol;
-use crate::tree::statements::{
+use bg_text::TokenKind;
+use bg_trees::statements::{
     SynAfterFun, SynBigraph, SynCond, SynControl, SynEta, SynEtaTail, SynFun, SynIfTail, SynIntSet,
     SynMoreNumItem, SynMoreTextItem, SynNot, SynNumbers, SynParam, SynReact, SynSide, SynStmt,
     SynTail, SynTest, SynTestsItem, SynTextSet,
 };
-use bg_text::TokenKind;
 
 impl Reader<'_> {
     // Stmt = atomic Fun ctrl Control | fun AfterFun | ctrl Control | big Bigraph | react React | Param

@@ -7,9 +7,9 @@ use Rattle.bg_code.specs.Lowering.{lowered}
 use Rattle.bg_code.proofs.Items.{along_from}
 use Rattle.bg_code.proofs.Joins.{joined_made, joined_stops}
 use Rattle.bg_code.proofs.Layers.{c1_item_says, m1_item_says, p1_item_says, e1_item_says}
-use Rattle.bg_syntax.specs.declared.tree.expressions.SynE1Item.{out-SynE1Item}
-use Rattle.bg_syntax.specs.declared.tree.expressions.SynM1Item.{out-SynM1Item}
-use Rattle.bg_syntax.specs.declared.tree.expressions.SynP1Item.{out-SynP1Item}
+use Rattle.bg_trees.specs.declared.expressions.SynE1Item.{out-SynE1Item}
+use Rattle.bg_trees.specs.declared.expressions.SynM1Item.{out-SynM1Item}
+use Rattle.bg_trees.specs.declared.expressions.SynP1Item.{out-SynP1Item}
 use Rattle.bg_values.specs.Outcome.{Goes}
 use Rattle.bg_code.proofs.lowering.+lowering.Goals as goal
 

@@ -4,7 +4,7 @@ use Rattle.bg_elab.specs.Calls.{classes_code}
 use Rattle.bg_elab.proofs.Classes.{step_so}
 use Rattle.bg_elab.proofs.Turns.{coded_so, first_goes, first_stops}
 use Rattle.bg_statements.specs.InTurn.{in_turn}
-use Rattle.bg_syntax.specs.declared.tree.models.SynMoreClItem.{SynMoreClItem}
+use Rattle.bg_trees.specs.declared.models.SynMoreClItem.{SynMoreClItem}
 use Rattle.bg_elab.proofs.blocks.add_all_classes.Goals as goal
 
 pub returns-in_err-add_class-in-Way1 : goal.returns-in_err-add_class-in-Way1

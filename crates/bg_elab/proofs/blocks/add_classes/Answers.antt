@@ -5,7 +5,7 @@ use Rattle.bg_elab.proofs.Classes.{step_stopped, step_taken}
 use Rattle.bg_elab.proofs.Turns.{toward_more, toward_stops}
 use Rattle.bg_statements.specs.InTurn.{in_turn}
 use Rattle.bg_statements.proofs.Turns.{turn_next}
-use Rattle.bg_syntax.specs.declared.tree.models.SynMoreClItem.{SynMoreClItem}
+use Rattle.bg_trees.specs.declared.models.SynMoreClItem.{SynMoreClItem}
 use Rattle.bg_values.specs.Outcome.{◌>>=◌}
 use Rattle.bg_elab.proofs.blocks.add_classes.Goals as goal
 

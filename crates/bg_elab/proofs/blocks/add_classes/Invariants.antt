@@ -3,7 +3,7 @@ use Rattle.bg_elab.specs.Blocks.{Listed, with_class}
 use Rattle.bg_elab.specs.Calls.{classes_code, listed_codes}
 use Rattle.bg_elab.proofs.Turns.{Toward}
 use Rattle.bg_statements.specs.InTurn.{in_turn}
-use Rattle.bg_syntax.specs.declared.tree.models.SynMoreClItem.{SynMoreClItem}
+use Rattle.bg_trees.specs.declared.models.SynMoreClItem.{SynMoreClItem}
 use Rattle.bg_elab.proofs.blocks.add_classes.Given as goal
 
 abbrev pub invariant-loop-item : goal.invariant-loop-item

@@ -2,7 +2,7 @@ use Rattle.std.proofs.Common.{◌++◌, [], List, ap, rules}
 use Rattle.bg_elab.specs.Blocks.{Listed, trees_of_refs, with_listed}
 use Rattle.bg_elab.specs.Calls.{listed_codes}
 use Rattle.bg_elab.proofs.Turns.{coded_so, first_goes, first_stops}
-use Rattle.bg_syntax.specs.declared.tree.models.SynMoreRefItem.{SynMoreRefItem}
+use Rattle.bg_trees.specs.declared.models.SynMoreRefItem.{SynMoreRefItem}
 use Rattle.bg_elab.proofs.blocks.add_listed.Goals as goal
 
 pub returns-in_err-add_one_listed-in-Way1 : goal.returns-in_err-add_one_listed-in-Way1

@@ -4,7 +4,7 @@ use Rattle.bg_elab.specs.Calls.{listed_codes}
 use Rattle.bg_statements.specs.InTurn.{in_turn}
 use Rattle.bg_statements.proofs.Turns.{turn_next}
 use Rattle.bg_elab.proofs.Turns.{partly_stops}
-use Rattle.bg_syntax.specs.declared.tree.models.SynMoreRefItem.{SynMoreRefItem}
+use Rattle.bg_trees.specs.declared.models.SynMoreRefItem.{SynMoreRefItem}
 use Rattle.bg_values.proofs.Partly.{one_more}
 use Rattle.bg_values.specs.Outcome.{◌>>=◌}
 use Rattle.bg_elab.proofs.blocks.add_more_listed.Goals as goal

@@ -3,7 +3,7 @@ use Rattle.bg_elab.specs.Blocks.{Listed}
 use Rattle.bg_elab.specs.Blocks.{with_listed}
 use Rattle.bg_elab.specs.Calls.{listed_codes}
 use Rattle.bg_statements.specs.InTurn.{in_turn}
-use Rattle.bg_syntax.specs.declared.tree.models.SynMoreRefItem.{SynMoreRefItem}
+use Rattle.bg_trees.specs.declared.models.SynMoreRefItem.{SynMoreRefItem}
 use Rattle.bg_values.proofs.Partly.{Partly}
 use Rattle.bg_elab.proofs.blocks.add_more_listed.Given as goal
 

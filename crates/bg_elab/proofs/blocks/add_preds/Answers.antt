@@ -3,7 +3,7 @@ use Rattle.bg_elab.specs.Blocks.{trees_of_refs, with_pred}
 use Rattle.bg_elab.specs.Calls.{reference_codes}
 use Rattle.bg_elab.specs.References.{Reference}
 use Rattle.bg_elab.proofs.Turns.{coded_so, first_goes, first_stops}
-use Rattle.bg_syntax.specs.declared.tree.models.SynMoreRefItem.{SynMoreRefItem}
+use Rattle.bg_trees.specs.declared.models.SynMoreRefItem.{SynMoreRefItem}
 use Rattle.bg_elab.proofs.blocks.add_preds.Goals as goal
 
 pub returns-in_err-add_pred-in-Way1 : goal.returns-in_err-add_pred-in-Way1

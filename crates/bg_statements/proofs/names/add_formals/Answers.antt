@@ -1,7 +1,7 @@
 use Rattle.std.proofs.Common.{rules}
 use Rattle.bg_statements.specs.Statements.{with_formal, with_formals}
 use Rattle.bg_statements.proofs.Turns.{turn_taken, turn_stopped}
-use Rattle.bg_syntax.specs.declared.tree.names.SynMoreLowItem.{SynMoreLowItem}
+use Rattle.bg_trees.specs.declared.names.SynMoreLowItem.{SynMoreLowItem}
 use Rattle.bg_statements.proofs.names.add_formals.Goals as goal
 
 pub returns-in_err-add_formal : goal.returns-in_err-add_formal

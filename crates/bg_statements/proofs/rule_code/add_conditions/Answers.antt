@@ -2,7 +2,7 @@ use Rattle.std.proofs.Common.{◌+◌, ◌∙◌, [], ap, sym, drop}
 use Rattle.bg_statements.specs.Calls.{condition_codes}
 use Rattle.bg_statements.specs.Rules.{with_condition, with_conditions}
 use Rattle.bg_statements.proofs.Turns.{turn_next}
-use Rattle.bg_syntax.specs.declared.tree.statements.SynTestsItem.{SynTestsItem}
+use Rattle.bg_trees.specs.declared.statements.SynTestsItem.{SynTestsItem}
 use Rattle.bg_values.proofs.Partly.{one_more}
 use Rattle.bg_values.specs.Outcome.{◌>>=◌}
 use Rattle.bg_statements.proofs.rule_code.add_conditions.Goals as goal

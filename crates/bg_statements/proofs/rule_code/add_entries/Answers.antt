@@ -1,7 +1,7 @@
 use Rattle.std.proofs.Common.{rules}
 use Rattle.bg_statements.specs.Rules.{with_entry, with_entries}
 use Rattle.bg_statements.proofs.Turns.{turn_taken, turn_stopped}
-use Rattle.bg_syntax.specs.declared.tree.statements.SynMoreNumItem.{SynMoreNumItem}
+use Rattle.bg_trees.specs.declared.statements.SynMoreNumItem.{SynMoreNumItem}
 use Rattle.bg_statements.proofs.rule_code.add_entries.Goals as goal
 
 pub returns-in_err-add_entry : goal.returns-in_err-add_entry

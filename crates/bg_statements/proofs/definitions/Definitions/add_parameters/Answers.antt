@@ -3,7 +3,7 @@ use Rattle.bg_statements.specs.Defined.{Defined}
 use Rattle.bg_statements.specs.Statements.{with_parameter, with_parameters}
 use Rattle.bg_statements.proofs.Codes.{Reached, reached_more, reached_stops}
 use Rattle.bg_statements.proofs.Turns.{turn_next}
-use Rattle.bg_syntax.specs.declared.tree.models.SynParamsItem.{SynParamsItem}
+use Rattle.bg_trees.specs.declared.models.SynParamsItem.{SynParamsItem}
 use Rattle.bg_values.specs.Outcome.{◌>>=◌}
 use Rattle.bg_statements.proofs.definitions.Definitions.add_parameters.Goals as goal
 

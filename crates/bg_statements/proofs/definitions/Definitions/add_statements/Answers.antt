@@ -3,7 +3,7 @@ use Rattle.bg_statements.specs.Defined.{Defined}
 use Rattle.bg_statements.specs.Statements.{with_statement, with_statements}
 use Rattle.bg_statements.proofs.Codes.{Reached, reached_more, reached_stops}
 use Rattle.bg_statements.proofs.Turns.{turn_next}
-use Rattle.bg_syntax.specs.declared.tree.models.SynStmtsItem.{SynStmtsItem}
+use Rattle.bg_trees.specs.declared.models.SynStmtsItem.{SynStmtsItem}
 use Rattle.bg_values.specs.Outcome.{◌>>=◌}
 use Rattle.bg_statements.proofs.definitions.Definitions.add_statements.Goals as goal
 

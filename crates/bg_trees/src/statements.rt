@@ -1,7 +1,7 @@
 //! Statements: controls, bigraphs, rules and parameters. Written by tools/grammar.py.
-use crate::tree::arithmetic::{SynMoreXItem, SynX};
-use crate::tree::expressions::SynE;
-use crate::tree::names::{SynFormals, SynNumber};
+use crate::arithmetic::{SynMoreXItem, SynX};
+use crate::expressions::SynE;
+use crate::names::{SynFormals, SynNumber};
 
 /// `Stmt = atomic Fun ctrl Control | fun AfterFun | ctrl Control | big Bigraph | react React | Param`
 #[derive(Drop)]

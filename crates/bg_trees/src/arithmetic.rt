@@ -1,5 +1,5 @@
 //! Arithmetic. Written by tools/grammar.py.
-use crate::tree::names::SynNumber;
+use crate::names::SynNumber;
 
 /// An item of `MoreX = "," X MoreX | none`
 #[derive(Drop)]

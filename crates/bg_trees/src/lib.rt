@@ -3,6 +3,8 @@
 //! A symbol with one alternative is a struct, whose fields are the parts in order. One with several is an enum, whose
 //! variants hold the parts. A symbol with the alternative `none` whose others end in the symbol itself is a vector of
 //! items. A token is its number, counted from 0. A part is boxed where its type leads back to the type that holds it.
+#![tactic(auto)]
+
 pub mod arithmetic;
 pub mod expressions;
 pub mod models;

@@ -1,7 +1,7 @@
 //! Models: statements, and then the block with parameters, the first bigraph, classes and predicates. Written by
 //! tools/grammar.py.
-use crate::tree::expressions::SynRef;
-use crate::tree::statements::{SynParam, SynStmt};
+use crate::expressions::SynRef;
+use crate::statements::{SynParam, SynStmt};
 
 /// `Model = Stmts Block`
 #[derive(Drop)]

@@ -1,6 +1,6 @@
 //! Expressions: bigraphs built of references, ions, links and products. Written by tools/grammar.py.
-use crate::tree::arithmetic::{SynMoreXItem, SynX};
-use crate::tree::names::{SynNameList, SynNames, SynNumber};
+use crate::arithmetic::{SynMoreXItem, SynX};
+use crate::names::{SynNameList, SynNames, SynNumber};
 
 /// `Ref = lower Args`
 #[derive(Drop)]
