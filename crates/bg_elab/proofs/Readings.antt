@@ -29,6 +29,7 @@ use Rattle.bg_text.proofs.TokenLaws.{refusal_inside}
 use Rattle.bg_text.proofs.Unique.{tokens_once}
 use Rattle.bg_values.specs.declared.refusal.Refusal.{Refusal}
 use Rattle.bg_elab.proofs.SaidModels.{same_tokens}
+use Rattle.bg_base.specs.Limits.{most_levels}
 
 -- ---- places
 
@@ -71,16 +72,16 @@ deep_same t u e = cc
 
 -- tokens that have a fault of the grammar have no tree
 faulty_tree : (bytes : List ℕ) (ts us : List Token) (tree : SynModel) → AreTokens bytes ts → AreTokens bytes us
-    → ((steps : List Step) → DerivesModel ts steps → IsShallow 256 steps → ⊥) → IsTreeOf us tree → ⊥
+    → ((steps : List Step) → DerivesModel ts steps → IsShallow most_levels steps → ⊥) → IsTreeOf us tree → ⊥
 faulty_tree bytes ts us tree cut other none is =
     none (model_steps tree 0) (subst (λ z. DerivesModel z (model_steps tree 0)) (tokens_once bytes us ts other cut) is.derivation) is.shallow
 
 same_fault : (bytes : List ℕ) (ts us : List Token) (first second : Fault) → AreTokens bytes ts → AreTokens bytes us
-    → IsOnlyFault grammar (symbol_number symbols.Model) 256 (kinds ts) first → IsOnlyFault grammar (symbol_number symbols.Model) 256 (kinds us) second
+    → IsOnlyFault grammar (symbol_number symbols.Model) most_levels (kinds ts) first → IsOnlyFault grammar (symbol_number symbols.Model) most_levels (kinds us) second
     → second ≡ first
 same_fault bytes ts us first second cut other f g =
     f.once second
-    (subst (λ z. IsFault grammar (symbol_number symbols.Model) 256 (kinds z) second) (tokens_once bytes us ts other cut) g.first)
+    (subst (λ z. IsFault grammar (symbol_number symbols.Model) most_levels (kinds z) second) (tokens_once bytes us ts other cut) g.first)
 
 told_same : (bytes : List ℕ) (ts us : List Token) (one other : SynModel) → AreTokens bytes ts → AreTokens bytes us → IsTreeOf ts one → IsTreeOf us other
     → told (text_of bytes ts) (elaborated (text_of bytes ts) one) ≡ told (text_of bytes us) (elaborated (text_of bytes us) other)

@@ -18,14 +18,15 @@ use Rattle.bg_syntax.specs.Models.{kinds, DerivesModel, IsTreeOf, IsSyntaxFault}
 use Rattle.bg_syntax.specs.Reading.{wants, Moves, Fails, fails_unexpected, fails_deep, fails_memory}
 use Rattle.bg_syntax.proofs.Fits.{plan_fits}
 use Rattle.bg_syntax.proofs.Readings.{kinds_from, kinds_end}
+use Rattle.bg_base.specs.Limits.{most_levels}
 
-unexpected_at : (ts : List Token) (t : ℕ) → StopsUnexpected grammar plan 256 0 (kinds ts) (wants 0 symbols.Model) t → IsSyntaxFault ts (Unexpected t)
+unexpected_at : (ts : List Token) (t : ℕ) → StopsUnexpected grammar plan most_levels 0 (kinds ts) (wants 0 symbols.Model) t → IsSyntaxFault ts (Unexpected t)
 unfolding plan
-unexpected_at ts t w = only_fault grammar 0 256 (kinds ts) (unexpected t) (is_unexpected (stopped_unexpected grammar plan plan_fits 256 (kinds ts) t w))
+unexpected_at ts t w = only_fault grammar 0 most_levels (kinds ts) (unexpected t) (is_unexpected (stopped_unexpected grammar plan plan_fits most_levels (kinds ts) t w))
 
-too_deep_at : (ts : List Token) (t : ℕ) → StopsDeep grammar plan 256 0 (kinds ts) (wants 0 symbols.Model) t → IsSyntaxFault ts (TooDeep t)
+too_deep_at : (ts : List Token) (t : ℕ) → StopsDeep grammar plan most_levels 0 (kinds ts) (wants 0 symbols.Model) t → IsSyntaxFault ts (TooDeep t)
 unfolding plan
-too_deep_at ts t w = only_fault grammar 0 256 (kinds ts) (too_deep t) (is_too_deep (stopped_deep grammar plan plan_fits 256 (kinds ts) t w))
+too_deep_at ts t w = only_fault grammar 0 most_levels (kinds ts) (too_deep t) (is_too_deep (stopped_deep grammar plan plan_fits most_levels (kinds ts) t w))
 
 pub first_fault : (ts : List Token) (f : SyntaxFault) → Fails ts 0 (wants 0 symbols.Model) f → IsSyntaxFault ts f
 first_fault ts f (fails_unexpected {t = t} s) = unexpected_at ts t (s [])
@@ -37,14 +38,14 @@ fault_more ts n ss a below = unexpected_at ts n (record {
   steps = ss;
   rest = _;
   left = [];
-  runs = subst (λ z. Runs grammar plan 256 0 (kinds ts) (wants 0 symbols.Model) ss n z []) (kinds_from ts n (record { kind = kinds_of_token.Lower; start = 0; end = 0 }) below) (a.runs []);
+  runs = subst (λ z. Runs grammar plan most_levels 0 (kinds ts) (wants 0 symbols.Model) ss n z []) (kinds_from ts n (record { kind = kinds_of_token.Lower; start = 0; end = 0 }) below) (a.runs []);
   stuck = stuck_done;
 })
 
-derived : (ts : List Token) (n : ℕ) (ss : List Step) → Moves ts 0 (wants 0 symbols.Model) ss n → length ts ≤ n → IsOnlyDerivation grammar 0 256 (kinds ts) ss
+derived : (ts : List Token) (n : ℕ) (ss : List Step) → Moves ts 0 (wants 0 symbols.Model) ss n → length ts ≤ n → IsOnlyDerivation grammar 0 most_levels (kinds ts) ss
 unfolding plan
-derived ts n ss a beyond = accepted_once grammar plan plan_fits 256 (kinds ts) ss
-    (record { token = n; runs = subst (λ z. Runs grammar plan 256 0 (kinds ts) (wants 0 symbols.Model) ss n z []) (kinds_end ts n beyond) (a.runs []) })
+derived ts n ss a beyond = accepted_once grammar plan plan_fits most_levels (kinds ts) ss
+    (record { token = n; runs = subst (λ z. Runs grammar plan most_levels 0 (kinds ts) (wants 0 symbols.Model) ss n z []) (kinds_end ts n beyond) (a.runs []) })
 
 pub tree_of : (ts : List Token) (n : ℕ) (tree : SynModel) → Moves ts 0 (wants 0 symbols.Model) (model_steps tree 0) n → length ts ≤ n → IsTreeOf ts tree
 tree_of ts n tree a beyond = let d = derived ts n (model_steps tree 0) a beyond in record { derivation = d.derivation; shallow = d.shallow }

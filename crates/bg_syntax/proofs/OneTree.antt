@@ -13,6 +13,7 @@ use Rattle.bg_syntax.specs.ModelsSteps.{model_steps}
 use Rattle.bg_syntax.specs.Models.{kinds, IsTreeOf, tree_of}
 use Rattle.bg_syntax.proofs.Fits.{plan_fits}
 use Rattle.bg_syntax.proofs.ModelsRows.{model_row}
+use Rattle.bg_base.specs.Limits.{most_levels}
 
 pub tree_by_grammar : (model : SynModel) → IsTree grammar (symbol_number symbols.Model) (tree_of model)
 tree_by_grammar model = (model_row model).by_grammar no_part
@@ -27,7 +28,7 @@ steps_tell depth one other e =
 only_steps : (tokens : List Token) (one other : SynModel) → IsTreeOf tokens one → IsTreeOf tokens other → model_steps other 0 ≡ model_steps one 0
 unfolding plan
 only_steps tokens one other a b =
-    (accepted_once grammar plan plan_fits 256 (kinds tokens) (model_steps one 0) (sentences_accepted grammar plan plan_fits 256 (kinds tokens) (model_steps one 0) a.derivation a.shallow)).once
+    (accepted_once grammar plan plan_fits most_levels (kinds tokens) (model_steps one 0) (sentences_accepted grammar plan plan_fits most_levels (kinds tokens) (model_steps one 0) a.derivation a.shallow)).once
     (model_steps other 0) b.derivation
 
 pub tokens_tell : (tokens : List Token) (one other : SynModel) → IsTreeOf tokens one → IsTreeOf tokens other → tree_of one ≡ tree_of other

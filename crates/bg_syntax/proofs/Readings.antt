@@ -20,6 +20,7 @@ use Rattle.bg_syntax.specs.Steps.{Steps, in_turn}
 use Rattle.bg_syntax.specs.Models.{kinds}
 use Rattle.bg_syntax.specs.Reading.{wants, wants_token, Moves, Loops, Fails, fails_unexpected, fails_deep, fails_memory, Chooses, Reads, ReadsItem}
 use Rattle.bg_syntax.proofs.Fits.{plan_fits}
+use Rattle.bg_base.specs.Limits.{most_levels}
 
 -- ---- the tokens' kinds from a place on
 
@@ -62,11 +63,11 @@ kinds_length (t ∷ ts) = ap suc (kinds_length ts)
 
 -- ---- the machine goes on after it has run
 
-stops_after : {n m t : ℕ} {ks ls : List ℕ} {es fs : List Expected} {ss : List Step} → Runs grammar plan 256 n ks es ss m ls fs → StopsUnexpected grammar plan 256 m ls fs t → StopsUnexpected grammar plan 256 n ks es t
-stops_after {ss} r w = record { steps = ss ++ w.steps; rest = w.rest; left = w.left; runs = run_on grammar plan plan_fits 256 r w.runs; stuck = w.stuck }
+stops_after : {n m t : ℕ} {ks ls : List ℕ} {es fs : List Expected} {ss : List Step} → Runs grammar plan most_levels n ks es ss m ls fs → StopsUnexpected grammar plan most_levels m ls fs t → StopsUnexpected grammar plan most_levels n ks es t
+stops_after {ss} r w = record { steps = ss ++ w.steps; rest = w.rest; left = w.left; runs = run_on grammar plan plan_fits most_levels r w.runs; stuck = w.stuck }
 
-deep_after : {n m t : ℕ} {ks ls : List ℕ} {es fs : List Expected} {ss : List Step} → Runs grammar plan 256 n ks es ss m ls fs → StopsDeep grammar plan 256 m ls fs t → StopsDeep grammar plan 256 n ks es t
-deep_after {ss} r w = record { steps = ss ++ w.steps; token = w.token; rest = w.rest; depth = w.depth; left = w.left; runs = run_on grammar plan plan_fits 256 r w.runs; deep = w.deep }
+deep_after : {n m t : ℕ} {ks ls : List ℕ} {es fs : List Expected} {ss : List Step} → Runs grammar plan most_levels n ks es ss m ls fs → StopsDeep grammar plan most_levels m ls fs t → StopsDeep grammar plan most_levels n ks es t
+deep_after {ss} r w = record { steps = ss ++ w.steps; token = w.token; rest = w.rest; depth = w.depth; left = w.left; runs = run_on grammar plan plan_fits most_levels r w.runs; deep = w.deep }
 
 -- ---- one token
 
@@ -77,7 +78,7 @@ stuck_here (x ∷ ks) k t depth es e ne = stuck_kind (λ q. ne (e ∙ q))
 pub fails_kind : (ts : List Token) (n k depth : ℕ) → n ≤ length ts → k ≡ look plan (drop n (kinds ts)) → (class : TokenKind) → (k ≡ kind_number class → ⊥) → Fails ts n (wants_token depth class) (Unexpected n)
 fails_kind ts n k depth within e class ne = fails_unexpected (λ es. record { steps = []; rest = drop n (kinds ts); left = expect depth (kind (kind_number class)) ∷ es; runs = stay; stuck = stuck_here (drop n (kinds ts)) k (kind_number class) depth es e ne })
 
-pub fails_too_deep : (ts : List Token) (n k depth : ℕ) (class : TokenKind) → k ≡ look plan (drop n (kinds ts)) → k < 45 → k ≡ kind_number class → 256 < depth → Fails ts n (wants_token depth class) (TooDeep n)
+pub fails_too_deep : (ts : List Token) (n k depth : ℕ) (class : TokenKind) → k ≡ look plan (drop n (kinds ts)) → k < 45 → k ≡ kind_number class → most_levels < depth → Fails ts n (wants_token depth class) (TooDeep n)
 fails_too_deep ts n k depth class e below same deep =
     let w = kinds_look (drop n (kinds ts)) (kind_number class) (sym e ∙ same) (let h = below in omega arith) in
     fails_deep (λ es. record {
@@ -86,20 +87,20 @@ fails_too_deep ts n k depth class e below same deep =
       rest = w.0;
       depth = depth;
       left = es;
-      runs = subst (λ z. Runs grammar plan 256 n z (expect depth (kind (kind_number class)) ∷ es) [] n (kind_number class ∷ w.0) (expect depth (kind (kind_number class)) ∷ es)) (sym w.1) stay;
+      runs = subst (λ z. Runs grammar plan most_levels n z (expect depth (kind (kind_number class)) ∷ es) [] n (kind_number class ∷ w.0) (expect depth (kind (kind_number class)) ∷ es)) (sym w.1) stay;
       deep = deep;
     })
 
-pub moves_kind : (ts : List Token) (n k depth : ℕ) (class : TokenKind) → k ≡ look plan (drop n (kinds ts)) → k < 45 → k ≡ kind_number class → depth ≤ 256
+pub moves_kind : (ts : List Token) (n k depth : ℕ) (class : TokenKind) → k ≡ look plan (drop n (kinds ts)) → k < 45 → k ≡ kind_number class → depth ≤ most_levels
     → Moves ts n (wants_token depth class) (taken (kind_number class) depth n ∷ []) (n + 1)
 moves_kind ts n k depth class e below same shallow =
     let w = kinds_look (drop n (kinds ts)) (kind_number class) (sym e ∙ same) (let h = below in omega arith) in
     let v = drop_more n (kinds ts) w.0 (kind_number class) w.1 in
     let next : suc n ≡ n + 1 = omega arith in
     record {
-      runs = λ es. subst (λ z. Runs grammar plan 256 n (drop n (kinds ts)) (expect depth (kind (kind_number class)) ∷ es) (taken (kind_number class) depth n ∷ []) z (drop z (kinds ts)) es) next
-          (subst (λ z. Runs grammar plan 256 n z (expect depth (kind (kind_number class)) ∷ es) (taken (kind_number class) depth n ∷ []) (suc n) (drop (suc n) (kinds ts)) es) (sym w.1)
-          (subst (λ z. Runs grammar plan 256 n (kind_number class ∷ w.0) (expect depth (kind (kind_number class)) ∷ es) (taken (kind_number class) depth n ∷ []) (suc n) z es) (sym v.0)
+      runs = λ es. subst (λ z. Runs grammar plan most_levels n (drop n (kinds ts)) (expect depth (kind (kind_number class)) ∷ es) (taken (kind_number class) depth n ∷ []) z (drop z (kinds ts)) es) next
+          (subst (λ z. Runs grammar plan most_levels n z (expect depth (kind (kind_number class)) ∷ es) (taken (kind_number class) depth n ∷ []) (suc n) (drop (suc n) (kinds ts)) es) (sym w.1)
+          (subst (λ z. Runs grammar plan most_levels n (kind_number class ∷ w.0) (expect depth (kind (kind_number class)) ∷ es) (taken (kind_number class) depth n ∷ []) (suc n) z es) (sym v.0)
           (step_kind shallow stay)));
       ahead = omega arith;
       within = let h = v.1 in let l = kinds_length ts in omega arith;
@@ -123,7 +124,7 @@ moves_none ts n within = record { runs = λ es. stay; ahead = omega arith; withi
 
 pub moves_next : {ts : List Token} {n m o : ℕ} {q : Expected} {w : List Expected} {ss us : List Step} → Moves ts n (q ∷ []) ss m → Moves ts m w us o → Moves ts n (q ∷ w) (ss ++ us) o
 moves_next {w} a b = record {
-  runs = λ es. run_on grammar plan plan_fits 256 (a.runs (w ++ es)) (b.runs es);
+  runs = λ es. run_on grammar plan plan_fits most_levels (a.runs (w ++ es)) (b.runs es);
   ahead = let h = a.ahead in let l = b.ahead in omega arith;
   within = b.within;
 }
@@ -153,8 +154,8 @@ fails_next {w} a (fails_deep s) = fails_deep (λ es. deep_after (a.runs (w ++ es
 fails_next a fails_memory = fails_memory
 
 stops_opened : {ts : List Token} {n j t : ℕ} {head : Symbol} (depth i : ℕ) → Chooses ts n head j → j ≡ i → (es : List Expected)
-    → StopsUnexpected grammar plan 256 n (drop n (kinds ts)) (under grammar depth (symbol_number head) (way (symbol_number head) i) ++ es) t
-    → StopsUnexpected grammar plan 256 n (drop n (kinds ts)) (wants depth head ++ es) t
+    → StopsUnexpected grammar plan most_levels n (drop n (kinds ts)) (under grammar depth (symbol_number head) (way (symbol_number head) i) ++ es) t
+    → StopsUnexpected grammar plan most_levels n (drop n (kinds ts)) (wants depth head ++ es) t
 stops_opened {j} {head} depth i c same es w = record {
   steps = opened (symbol_number head) i ∷ w.steps;
   rest = w.rest;
@@ -164,8 +165,8 @@ stops_opened {j} {head} depth i c same es w = record {
 }
 
 deep_opened : {ts : List Token} {n j t : ℕ} {head : Symbol} (depth i : ℕ) → Chooses ts n head j → j ≡ i → (es : List Expected)
-    → StopsDeep grammar plan 256 n (drop n (kinds ts)) (under grammar depth (symbol_number head) (way (symbol_number head) i) ++ es) t
-    → StopsDeep grammar plan 256 n (drop n (kinds ts)) (wants depth head ++ es) t
+    → StopsDeep grammar plan most_levels n (drop n (kinds ts)) (under grammar depth (symbol_number head) (way (symbol_number head) i) ++ es) t
+    → StopsDeep grammar plan most_levels n (drop n (kinds ts)) (wants depth head ++ es) t
 deep_opened {j} {head} depth i c same es w = record {
   steps = opened (symbol_number head) i ∷ w.steps;
   token = w.token;
@@ -237,7 +238,7 @@ pub loops_same : {ts : List Token} {n m depth : ℕ} {head : Symbol} {ss us : Li
 loops_same {ts} {n} {m} {depth} {head} e a = subst (λ z. Loops ts n depth head z m) (sym e) a
 
 loops_join : {ts : List Token} {n m o depth : ℕ} {head : Symbol} {ss us : List Step} → Loops ts n depth head ss m → Loops ts m depth head us o → Loops ts n depth head (ss ++ us) o
-loops_join a b = record { runs = λ es. run_on grammar plan plan_fits 256 (a.runs es) (b.runs es); ahead = let h = a.ahead in let l = b.ahead in omega arith; within = b.within }
+loops_join a b = record { runs = λ es. run_on grammar plan plan_fits most_levels (a.runs es) (b.runs es); ahead = let h = a.ahead in let l = b.ahead in omega arith; within = b.within }
 
 pub gathered_more : {X : Type 0} {item_steps : X → Steps} {ts : List Token} {n m o depth : ℕ} {head : Symbol} {items more : List X} (x : X) → Gathered item_steps ts n depth head items m → Loops ts m depth head (item_steps x depth) o
     → more ≡ items ++ (x ∷ []) → Gathered item_steps ts n depth head more o
@@ -248,7 +249,7 @@ gathered_more {item_steps = item_steps} {ts = ts} {n = n} {o = o} {depth = depth
 pub gathered_end : {X : Type 0} {item_steps : X → Steps} {ts : List Token} {n m o depth : ℕ} {head : Symbol} {items : List X} (end : Step) → Gathered item_steps ts n depth head items m → Moves ts m (wants depth head) (end ∷ []) o
     → Moves ts n (wants depth head) (in_turn end (map item_steps items) depth) o
 gathered_end {item_steps = item_steps} {depth = depth} {items = items} end g a =
-    moves_same (items_end end (map item_steps items) depth) (record { runs = λ es. run_on grammar plan plan_fits 256 (g.loops.runs es) (a.runs es); ahead = let h = g.loops.ahead in let l = a.ahead in omega arith; within = a.within })
+    moves_same (items_end end (map item_steps items) depth) (record { runs = λ es. run_on grammar plan plan_fits most_levels (g.loops.runs es) (a.runs es); ahead = let h = g.loops.ahead in let l = a.ahead in omega arith; within = a.within })
 
 pub gathered_fails : {X : Type 0} {item_steps : X → Steps} {ts : List Token} {n m depth : ℕ} {head : Symbol} {items : List X} {f : SyntaxFault} → Gathered item_steps ts n depth head items m → Fails ts m (wants depth head) f → Fails ts n (wants depth head) f
 gathered_fails g (fails_unexpected s) = fails_unexpected (λ es. stops_after (g.loops.runs es) (s es))
@@ -260,8 +261,8 @@ pub loops_open : {ts : List Token} {n m j : ℕ} {head : Symbol} {ss : List Step
     → under grammar depth (symbol_number head) (way (symbol_number head) i) ≡ parts ++ wants depth head → Loops ts n depth head (opened (symbol_number head) i ∷ ss) m
 loops_open {ts} {n} {m} {j} {head} {ss} {parts} depth i c same a e = record {
   runs = λ es. step_symbol (same_number _ j i c.entry same) (At-get_or (ways_of grammar (symbol_number head)) i [] (let h = c.known in omega arith))
-      (subst (λ z. Runs grammar plan 256 n (drop n (kinds ts)) (z ++ es) ss m (drop m (kinds ts)) (wants depth head ++ es)) (sym e)
-      (subst (λ z. Runs grammar plan 256 n (drop n (kinds ts)) z ss m (drop m (kinds ts)) (wants depth head ++ es)) (sym (append_assoc parts (wants depth head) es)) (a.runs (wants depth head ++ es))));
+      (subst (λ z. Runs grammar plan most_levels n (drop n (kinds ts)) (z ++ es) ss m (drop m (kinds ts)) (wants depth head ++ es)) (sym e)
+      (subst (λ z. Runs grammar plan most_levels n (drop n (kinds ts)) z ss m (drop m (kinds ts)) (wants depth head ++ es)) (sym (append_assoc parts (wants depth head) es)) (a.runs (wants depth head ++ es))));
   ahead = a.ahead;
   within = a.within;
 }
@@ -269,6 +270,6 @@ loops_open {ts} {n} {m} {j} {head} {ss} {parts} depth i c same a e = record {
 -- a part that derives no empty list takes a token
 pub solid_ahead : {ts : List Token} {n m : ℕ} {q : Expected} {ss : List Step} → Moves ts n (q ∷ []) ss m → is_solid model_solids q.part ≡ true → n < m
 solid_ahead {n} {m} {q} {ss} a e =
-    let taken = takes_token grammar model_solids solids_fit (run_sound grammar plan plan_fits 256 (a.runs []) finished) (or_left _ _ e) in
-    let count = run_count grammar plan plan_fits 256 (a.runs []) in
+    let taken = takes_token grammar model_solids solids_fit (run_sound grammar plan plan_fits most_levels (a.runs []) finished) (or_left _ _ e) in
+    let count = run_count grammar plan plan_fits most_levels (a.runs []) in
     let same = ap (λ z. length (kinds_of z)) (append-nil ss) in omega arith

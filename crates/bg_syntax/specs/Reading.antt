@@ -12,6 +12,7 @@ use Rattle.bg_syntax.specs.Numbers.{kind_number, symbol_number}
 use Rattle.bg_syntax.specs.Grammar.{grammar}
 use Rattle.bg_syntax.specs.Plan.{plan}
 use Rattle.bg_syntax.specs.Models.{kinds}
+use Rattle.bg_base.specs.Limits.{most_levels}
 
 -- a symbol that is expected, and a kind of token
 abbrev pub wants : ℕ → Symbol → List Expected
@@ -22,20 +23,20 @@ wants_token depth class = expect depth (kind (kind_number class)) ∷ []
 
 -- in front of any stack the machine reads these parts from token n to token m by these steps
 pub record Moves (tokens : List Token) (n : ℕ) (parts : List Expected) (steps : List Step) (m : ℕ) : Type 0 where
-  pub runs : (es : List Expected) → Runs grammar plan 256 n (drop n (kinds tokens)) (parts ++ es) steps m (drop m (kinds tokens)) es
+  pub runs : (es : List Expected) → Runs grammar plan most_levels n (drop n (kinds tokens)) (parts ++ es) steps m (drop m (kinds tokens)) es
   pub ahead : n ≤ m
   pub within : m ≤ length tokens
 
 -- it reads some items of a list and then expects the list again
 pub record Loops (tokens : List Token) (n depth : ℕ) (head : Symbol) (steps : List Step) (m : ℕ) : Type 0 where
-  pub runs : (es : List Expected) → Runs grammar plan 256 n (drop n (kinds tokens)) (wants depth head ++ es) steps m (drop m (kinds tokens)) (wants depth head ++ es)
+  pub runs : (es : List Expected) → Runs grammar plan most_levels n (drop n (kinds tokens)) (wants depth head ++ es) steps m (drop m (kinds tokens)) (wants depth head ++ es)
   pub ahead : n ≤ m
   pub within : m ≤ length tokens
 
 -- reading these parts it stops, or memory is wanting
 pub data Fails (tokens : List Token) (n : ℕ) (parts : List Expected) : SyntaxFault → Type 0 where
-  fails_unexpected : {t : ℕ} → ((es : List Expected) → StopsUnexpected grammar plan 256 n (drop n (kinds tokens)) (parts ++ es) t) → Fails tokens n parts (Unexpected t)
-  fails_deep : {t : ℕ} → ((es : List Expected) → StopsDeep grammar plan 256 n (drop n (kinds tokens)) (parts ++ es) t) → Fails tokens n parts (TooDeep t)
+  fails_unexpected : {t : ℕ} → ((es : List Expected) → StopsUnexpected grammar plan most_levels n (drop n (kinds tokens)) (parts ++ es) t) → Fails tokens n parts (Unexpected t)
+  fails_deep : {t : ℕ} → ((es : List Expected) → StopsDeep grammar plan most_levels n (drop n (kinds tokens)) (parts ++ es) t) → Fails tokens n parts (TooDeep t)
   fails_memory : Fails tokens n parts OutOfMemory
 
 -- the table's alternative for the symbol at token n

@@ -11,11 +11,9 @@ ghost use Rattle.bg_syntax.specs.Reading.{wants, wants_token, Moves, Fails, Choo
 use crate::fault::SyntaxFault;
 use crate::symbol::Symbol;
 use crate::table::ROWS;
+use bg_base::limits::MOST_LEVELS;
 use bg_text::{Token, TokenKind};
 use std::alloc::Global;
-
-/// The most symbols `K` and `U` that may stand above a token.
-const MOST_DEPTH: u32 = 256;
 
 /// What the reading functions share: the tokens, few enough to be numbered by 32 bits.
 #[derive(Drop)]
@@ -84,7 +82,7 @@ impl Reader<'_> {
         if here != number(kind) {
             return Err(SyntaxFault::Unexpected { token });
         }
-        if depth > MOST_DEPTH {
+        if depth > MOST_LEVELS {
             return Err(SyntaxFault::TooDeep { token });
         }
         *at += 1;

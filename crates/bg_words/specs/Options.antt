@@ -2,6 +2,7 @@
 use Rattle.std.specs.Prelude.{ℕ, List, [], ◌∷◌, Some, true, codes, fold}
 use Rattle.clap.specs.Words.{App, Rule, new_app, new_rule, with_rule}
 use Rattle.clap.specs.declared.builder.action.ArgAction.TheVariants.{Set, SetTrue}
+use Rattle.bg_base.specs.Limits.{most_steps}
 use Rattle.bg_words.specs.declared.numbers.Numbers.{Numbers}
 
 -- the numbers of `--most`
@@ -14,7 +15,7 @@ workers = record { least = 1; greatest = 64; default = 1 }
 
 -- the numbers of `--steps`
 abbrev pub steps : Numbers
-steps = record { least = 0; greatest = 100000; default = 1000 }
+steps = record { least = 0; greatest = most_steps; default = 1000 }
 
 -- the numbers of `--seed`
 abbrev pub seed : Numbers

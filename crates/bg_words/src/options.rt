@@ -4,6 +4,7 @@ ghost use Rattle.clap.specs.Words.{app_of, rule_of, with_rule};
 ghost use Rattle.bg_words.specs.Options as definition;
 
 use crate::numbers::Numbers;
+use bg_base::limits::MOST_STEPS;
 use clap::{Arg, ArgAction, Command};
 use std::alloc::{AllocError, Global};
 
@@ -24,7 +25,7 @@ pub(crate) const WORKERS: Numbers = Numbers {
 /// The numbers of `--steps`.
 pub(crate) const STEPS: Numbers = Numbers {
     least: 0,
-    greatest: 100_000,
+    greatest: MOST_STEPS as u64,
     default: 1_000,
 };
 
