@@ -10,3 +10,4 @@ pub mod Products
 pub mod Translation
 pub mod Faults
 pub mod Lookup
+pub mod Climbing

@@ -2,13 +2,14 @@
 //!
 //! - [`Ident`], [`Text`], [`Name`], [`Value`], [`Label`]: what things are called.
 //! - [`Place`], [`Link`], [`NodeRow`], [`InnerRow`], [`Big`]: a concrete bigraph, row by row.
-//! - [`find_node`], [`has_edge`], [`find_inner`], [`has_outer`]: look-up in a valid bigraph, by number or by name.
+//! - [`find_node`], [`find_node_at`], [`has_edge`], [`find_inner`], [`has_outer`]: look-up in a valid bigraph, by number or by name.
 //! - [`Signature`], [`Control`], [`Kind`]: the controls that nodes may have.
 //! - [`Map`], [`Step`], [`Entry`], [`Journal`]: steps of a run.
 #![tactic(auto)]
 
 mod big;
 mod check;
+mod climbing;
 mod history;
 mod labels;
 mod links;
@@ -19,10 +20,11 @@ mod text;
 
 pub use big::{Big, InnerRow, NodeRow};
 pub use check::{CheckFault, Part};
+pub use climbing::{Climbable, Found, marked_value, no_marks};
 pub use history::{Entry, Journal, Map, Step};
 pub use labels::{Label, Value};
 pub use links::PortLinks;
-pub use look_up::{find_inner, find_node, has_edge, has_outer};
+pub use look_up::{find_inner, find_node, find_node_at, has_edge, has_outer};
 pub use names::{Link, Name, Place};
 pub use signature::{Control, Kind, MOST_CONTROLS, MOST_PORTS, Signature, SignatureFault};
 pub use text::{Ident, Text, is_ident, is_text, is_text_byte, is_word_byte};

@@ -1,5 +1,5 @@
 use Rattle.bg_base.proofs.FaultLaws.{answered, valid_answer, malformed_answer}
-use Rattle.bg_base.specs.Faults.{IsAnswer, fault_of}
+use Rattle.bg_base.specs.Faults.{fault_of}
 use Rattle.bg_base.proofs.big.Big.check.Goals as goal
 
 pub returns-clause-answer : goal.returns-clause-answer
