@@ -167,21 +167,102 @@ def item_name(s):
     return f'{snake(s)}_item_steps' if is_list(s) else steps_name(s)
 
 
+def step_names(s):
+    """The words for the symbol's steps."""
+    return ([item_name(s)] if is_list(s) else []) + [steps_name(s)] + [behind_steps_name(s, start) for start in starts_behind(s)[::-1]]
+
+
 def below(s, depth='d'):
     return f'({depth} + 1)' if s in DEEPENS else depth
 
 
-def steps_term(s, i, way, names, read):
-    """The steps of alternative i; `read` gives the steps of a part that is a symbol."""
+def parts_term(s, way, names, read, last='[]'):
+    """The steps of parts, and then the last ones; `read` gives the steps of a part that is a symbol."""
     d = below(s)
-    last = '[]'
     for p, name in list(zip(way, names))[::-1]:
         if is_symbol(p):
             term = read(p, name, d)
             last = term if last == '[]' else f'({term} ++ {last})'
         else:
             last = f'(takes kinds.{KIND[p]} {d} {name} ∷ {last})'
-    return f'opens symbols.{s} {i} ∷ {last}'
+    return last
+
+
+def steps_term(s, i, way, names, read):
+    """The steps of alternative i."""
+    return f'opens symbols.{s} {i} ∷ {parts_term(s, way, names, read)}'
+
+
+# ---- the parts of a long alternative behind its first group
+
+def behind_name(s, start):
+    return f'{snake(s)}_behind{start}'
+
+
+def behind_steps_name(s, start):
+    return f'{behind_name(s, start)}_steps'
+
+
+def behind_type(s, start):
+    return f'{s}Behind{start}'
+
+
+def behind_steps(s, uses, read):
+    """The steps of these parts, the last group first."""
+    lines, last = [], '[]'
+    for start in starts_behind(s):
+        name = behind_type(s, start)
+        uses.add(f'Rattle.bg_syntax.specs.declared.read.{topic_of(s)}.{name}', name)
+        way = WAYS[s][long_way(s)][start:start + GROUP]
+        names = [f'x.part{start + j + 1}' for j, _ in enumerate(way)]
+        word = behind_steps_name(s, start)
+        term = parts_term(s, way, names, read, last)
+        term = term[1:-1] if term.startswith('(') else term
+        lines += ['', f'-- {s} behind its first {start} parts: {spelled(way)}{" .." if last != "[]" else ""}', f'unfoldable pub {word} : {name} → Steps', f'{word} x d = {term}']
+        last = f'{word} x.behind d'
+    return lines
+
+
+def behind_types(s):
+    lines = []
+    for start in starts_behind(s)[::-1]:
+        way = WAYS[s][long_way(s)][start:]
+        lines += ['', f'/// The parts of `{s}` behind its first {start}.', '#[derive(Drop)]', f'struct {behind_type(s, start)} {{']
+        lines += [f'    part{start + j + 1}: {type_of(s, p)},' for j, p in enumerate(way[:GROUP])]
+        if len(way) > GROUP:
+            lines.append(f'    behind: {behind_type(s, start + GROUP)},')
+        lines.append('}')
+    return lines
+
+
+def read_behind(s):
+    """The functions that read these parts."""
+    lines = []
+    for start in starts_behind(s)[::-1]:
+        i = long_way(s)
+        way = WAYS[s][i][start:]
+        contract = f'Reads (λ x. {behind_steps_name(s, start)} x depth) self.now.tokens.now at.old (wants_behind depth symbols.{s} {i} {start}) at.new result'
+        parts, values = read_parts(s, way[:GROUP], '        ', start)
+        if len(way) > GROUP:
+            parts.append(f'        let rest = self.{behind_name(s, start + GROUP)}(at, depth)?;')
+            values.append('behind: rest')
+        lines += [''] + read_head(s, behind_name(s, start), behind_type(s, start), contract, f'{s} behind its first {start} parts: {spelled(way)}') + parts
+        lines += [f'        Ok({behind_type(s, start)} {{ {", ".join(values)} }})', '    }']
+    return lines
+
+
+def split_behind(s, indent):
+    """Lines that read all these parts and take them out, and the names of the values."""
+    starts, values = starts_behind(s)[::-1], []
+    lines = [f'{indent}let rest = self.{behind_name(s, starts[0])}(at, depth)?;']
+    holder = 'rest'
+    for start in starts:
+        names = [f'part{start + j + 1}' for j, _ in enumerate(WAYS[s][long_way(s)][start:start + GROUP])]
+        values += names
+        fields = names + (['behind'] if start != starts[-1] else [])
+        lines.append(f'{indent}let {behind_type(s, start)} {{ {", ".join(fields)} }} = {holder};')
+        holder = 'behind'
+    return lines, values
 
 
 def variant_name(s, i):
@@ -259,6 +340,7 @@ def write_steps():
                 continue
             module, name = type_module(s)
             uses.add(module, name)
+            lines += behind_steps(s, uses, read)
             lines += ['', f'-- {rule(s)}', f'unfoldable pub {item_name(s)} : {name} → Steps']
             for pattern, i, w, names in cases(s):
                 lines.append(f'{item_name(s)} {pattern} d = {steps_term(s, i, w, names, read)}')
@@ -350,21 +432,21 @@ def reaches_deep(s):
 BELOW_K = ['N', 'N1', 'A', 'Ref']
 
 
-def read_head(s, name, result, contract):
-    lines = [f'    // {rule(s)}']
+def read_head(s, name, result, contract, about=None):
+    lines = [f'    // {about or rule(s)}']
     if s in CYCLE:
         lines.append(f'    #[cycle({cycle_name(s)})]')
-    lines += [f'    pub fn {name}(&self, at: &mut usize, depth: u32) -> Result<{result}, SyntaxFault>',
+    lines += [f'    {"" if about else "pub "}fn {name}(&self, at: &mut usize, depth: u32) -> Result<{result}, SyntaxFault>',
               '        requires inside { at.old ≤ length self.now.tokens.now }']
     if reaches_deep(s):
         lines.append(f'        requires shallow {{ depth ≤ at.old{" + 1" if s in BELOW_K else ""} }}')
     return lines + [f'        ensures {{ {contract} }}', '    {']
 
 
-def read_parts(s, way, indent):
+def read_parts(s, way, indent, start=0):
     """Lines that read the parts, and the names of the values."""
     lines, values = [], []
-    for i, p in enumerate(way):
+    for i, p in enumerate(way, start):
         name = f'part{i + 1}'
         if is_symbol(p):
             lines.append(f'{indent}let {name} = self.{snake(p)}(at, depth)?;')
@@ -389,7 +471,10 @@ def read_arms(s, type_name, ways, wrap):
     lines = ['        match way {']
     for i, w in enumerate(ways):
         label = '_' if i == len(ways) - 1 else str(i)
-        parts, values = read_parts(s, w, '                ')
+        parts, values = read_parts(s, w[:GROUP] if i == long_way(s) else w, '                ')
+        if i == long_way(s):
+            more, others = split_behind(s, '                ')
+            parts, values = parts + more, values + others
         value = wrap(value_of(type_name, [v for v in ways if v] if is_list(s) else ways, i, values) if w or not is_list(s) else None)
         if parts:
             lines += [f'            {label} => {{'] + parts + [f'                {value}', '            }']
@@ -409,7 +494,7 @@ def read_symbol(s):
     else:
         lines.append(f'        let way = self.choose(*at, Symbol::{s})?;')
         lines += deeper + read_arms(s, f'Syn{s}', WAYS[s], lambda v: f'Ok({v})')
-    return lines + ['    }']
+    return lines + ['    }'] + read_behind(s)
 
 
 def read_list(s):
@@ -428,17 +513,17 @@ def read_list(s):
 
 def write_readers():
     for topic, about, _ in TOPICS:
-        lines, names = ['', "impl Reader<'_> {"], []
+        lines, names = [line for s in symbols_of(topic) for line in behind_types(s)] + ['', "impl Reader<'_> {"], []
         for s in symbols_of(topic):
             lines += (read_list(s) if is_list(s) else read_symbol(s)) + ['']
             names.append(type_name(s))
         lines[-1] = '}'
-        words = [n for s in symbols_of(topic) for n in ([item_name(s), steps_name(s)] if is_list(s) else [steps_name(s)])]
+        words = [n for s in symbols_of(topic) for n in step_names(s)]
         head = ['ghost use Rattle.std.specs.Prelude.{◌+◌, ◌≤◌, [], ◌∷◌, length};',
                 'ghost use Rattle.bg_syntax.specs.declared.symbol.Symbol.TheVariants as symbols;',
                 'ghost use Rattle.bg_syntax.specs.Steps.{opens};',
                 f'ghost use Rattle.bg_syntax.specs.{topic.capitalize()}Steps.{{{", ".join(words)}}};',
-                'ghost use Rattle.bg_syntax.specs.Reading.{wants, Reads, ReadsItem};', '',
+                'ghost use Rattle.bg_syntax.specs.Reading.{wants, wants_behind, Reads, ReadsItem};', '',
                 'use crate::fault::SyntaxFault;', 'use crate::reader::Reader;', 'use crate::symbol::Symbol;',
                 'use bg_text::TokenKind;', f'use bg_trees::{topic}::{{{", ".join(sorted(names))}}};']
         rust(f'src/read/{topic}.rt', f'Reading. {about}', '\n'.join(head + lines))

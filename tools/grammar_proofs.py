@@ -29,7 +29,9 @@ class Arm:
     """The names of the facts in an arm, as the prover gives them."""
 
     def __init__(self, s, i, way, single, last):
-        self.s, self.i, self.way = s, i, way
+        self.s, self.i = s, i
+        self.rest = i == long_way(s)
+        self.way = way[:GROUP] if self.rest else way
         self.suffix = '' if single else ('-in_default' if last else f'-in-{i}')
         self.choice = 'c.in_ok-choose' if single else 'c.in_ok-way'
         self.chosen = f'{self.choice}.ensures'
@@ -43,6 +45,8 @@ class Arm:
 
     def moves(self):
         facts = [self.fact(j) for j in range(len(self.way))]
+        if self.rest:
+            facts.append(f'c.in_ok-rest{self.suffix}.ensures')
         if not facts:
             return '(moves_none _ _ c.requires.inside)'
         term = facts[-1]
@@ -51,13 +55,16 @@ class Arm:
         return term
 
     def fails(self, j):
-        term = f'(fails_here _ {self.fact(j, "err")})'
+        """That the arm fails at part j, or behind its own parts."""
+        term = f'(fails_here _ {self.fact(j, "err")})' if j < len(self.way) else f'c.in_err-rest{self.suffix}.ensures'
         for k in range(j - 1, -1, -1):
             term = f'(fails_next {self.fact(k)} {term})'
         return term
 
     def last(self):
         """The last `?` of the arm."""
+        if self.rest:
+            return 'rest'
         if not self.way:
             return None
         j = len(self.way) - 1
@@ -80,6 +87,9 @@ def arm_answers(s, arm, cycle, item):
         if is_boxed(s, p):
             name = f'in_err-box{j + 1}{arm.suffix}'
             lines += goal_lines(f'returns-{name}', grammar, f'{refuse} c.from_residual-{name}.ensures.1 fails_memory', cycle)
+    if arm.rest:
+        name = f'in_err-rest{arm.suffix}'
+        lines += goal_lines(f'returns-{name}', grammar, f'{arm.let}{refuse} c.from_residual-{name}.ensures.1 (fails_open _ {arm.i} {arm.chosen} {arm.same} {arm.fails(len(arm.way))})', cycle)
     return lines
 
 
@@ -104,10 +114,36 @@ def write_answers():
             proof_file(f'reader/Reader/{name}', 'Answers', home(s), loop_answers(s, None))
         else:
             proof_file(f'reader/Reader/{snake(s)}', 'Answers', home(s), symbol_answers(s, None))
+            for start in starts_behind(s):
+                proof_file(f'reader/Reader/{behind_name(s, start)}', 'Answers', home(s), behind_answers(s, start))
 
 
 def home(s):
-    return [(f'Rattle.bg_syntax.specs.{topic_of(s).capitalize()}Steps', [item_name(s), steps_name(s)] if is_list(s) else [steps_name(s)])]
+    return [(f'Rattle.bg_syntax.specs.{topic_of(s).capitalize()}Steps', step_names(s))]
+
+
+def behind_answers(s, start):
+    """The answers of the function that reads what stands behind the first parts of a long alternative."""
+    grammar = 'grammar model_ways model_deepens'
+    way = WAYS[s][long_way(s)][start:]
+    names = [f'part{start + j + 1}' for j, _ in enumerate(way[:GROUP])] + (['rest'] if len(way) > GROUP else [])
+
+    def fact(name, outcome):
+        read = '.read' if name != 'rest' and not is_symbol(way[names.index(name)]) else ''
+        return f'c.in_{outcome}-{name}.ensures{read}'
+
+    lines, before = [], []
+    for name in names:
+        term = fact(name, 'err') if name == 'rest' else f'(fails_here _ {fact(name, "err")})'
+        for passed in before[::-1]:
+            term = f'(fails_next {fact(passed, "ok")} {term})'
+        left = f'c.from_residual-in_err-{name}' if before else 'c.from_residual'
+        lines += goal_lines(f'returns-in_err-{name}', grammar, f'err_exit _ _ _ {left}.ensures.1 {term}', None)
+        before.append(name)
+    term = fact(names[-1], 'ok')
+    for name in names[-2::-1]:
+        term = f'(moves_next {fact(name, "ok")} {term})'
+    return lines + goal_lines('returns', f'{grammar} {behind_steps_name(s, start)}', term[1:-1] if len(names) > 1 else term, None)
 
 
 def made(s, i, arm, term):
@@ -120,9 +156,10 @@ def made(s, i, arm, term):
 
 
 def symbol_answers(s, cycle):
-    unfolding = 'grammar model_ways model_deepens' + ('' if s in CYCLE else f' {steps_name(s)}')
     lines = []
     for i, w in enumerate(WAYS[s]):
+        words = [] if s in CYCLE else step_names(s) if i == long_way(s) else [steps_name(s)]
+        unfolding = ' '.join(['grammar model_ways model_deepens'] + words)
         arm = Arm(s, i, w, len(WAYS[s]) == 1, i == len(WAYS[s]) - 1)
         lines += arm_answers(s, arm, cycle, False)
         lines += goal_lines(ok_name(arm), unfolding, arm.let + made(s, i, arm, f'moves_open _ {i} {arm.chosen} {arm.same} {arm.moves()}'), cycle)

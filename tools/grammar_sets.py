@@ -156,6 +156,29 @@ def in_cycle(s):
 CYCLE = {s: frozenset(t for t in SYMBOLS if in_cycle(t) and (t == s or (t in REACH[s] and s in REACH[t]))) for s in SYMBOLS if in_cycle(s)}
 
 
+# an alternative with more parts than this is read in groups: each `?` leads through the drops of what is held by then
+MOST_PARTS = 8
+GROUP = 5
+
+
+def groups(way):
+    """Where the groups of an alternative's parts begin."""
+    return list(range(0, len(way), GROUP)) if len(way) > MOST_PARTS else [0]
+
+
+def long_way(s):
+    """The number of the symbol's alternative that is read in groups, if it has one."""
+    found = [i for i, w in enumerate(WAYS[s]) if len(groups(w)) > 1]
+    assert not found or (len(found) == 1 and s not in CYCLE and s not in DEEPENS and not is_list(s)), s
+    return found[0] if found else None
+
+
+def starts_behind(s):
+    """Where the groups behind the first one begin, the last one first."""
+    i = long_way(s)
+    return [] if i is None else groups(WAYS[s][i])[:0:-1]
+
+
 def is_boxed(holder, part):
     return is_symbol(part) and holder in CYCLE and part in CYCLE[holder] and not is_list(part)
 

@@ -18,6 +18,8 @@ use Rattle.bg_trees.specs.declared.models.SynClasses.TheVariants as classes_ways
 use Rattle.bg_trees.specs.declared.models.SynPreds.{SynPreds}
 use Rattle.bg_trees.specs.declared.models.SynPreds.TheVariants as preds_ways
 use Rattle.bg_trees.specs.declared.models.SynBlock.{SynBlock}
+use Rattle.bg_syntax.specs.declared.read.models.BlockBehind10.{BlockBehind10}
+use Rattle.bg_syntax.specs.declared.read.models.BlockBehind5.{BlockBehind5}
 use Rattle.bg_trees.specs.declared.models.SynBlock.TheVariants as block_ways
 use Rattle.bg_trees.specs.declared.models.SynModel.{SynModel}
 
@@ -68,6 +70,14 @@ classes_steps (classes_ways.Way2) d = opens symbols.Classes 1 ∷ []
 unfoldable pub preds_steps : SynPreds → Steps
 preds_steps (preds_ways.Way1 part1 part2 part3 part4 part5 part6) d = opens symbols.Preds 0 ∷ (takes kinds.KwPreds d part1 ∷ (takes kinds.Equals d part2 ∷ (takes kinds.OpenBrace d part3 ∷ (refs_steps part4 d ++ (takes kinds.CloseBrace d part5 ∷ (takes kinds.Semicolon d part6 ∷ []))))))
 preds_steps (preds_ways.Way2) d = opens symbols.Preds 1 ∷ []
+
+-- Block behind its first 10 parts: "]" ";" Preds end
+unfoldable pub block_behind10_steps : BlockBehind10 → Steps
+block_behind10_steps x d = takes kinds.CloseSquare d x.part11 ∷ (takes kinds.Semicolon d x.part12 ∷ (preds_steps x.part13 d ++ (takes kinds.KwEnd d x.part14 ∷ [])))
+
+-- Block behind its first 5 parts: ";" rules "=" "[" Classes ..
+unfoldable pub block_behind5_steps : BlockBehind5 → Steps
+block_behind5_steps x d = takes kinds.Semicolon d x.part6 ∷ (takes kinds.KwRules d x.part7 ∷ (takes kinds.Equals d x.part8 ∷ (takes kinds.OpenSquare d x.part9 ∷ (classes_steps x.part10 d ++ block_behind10_steps x.behind d))))
 
 -- Block = begin brs Params init Ref ";" rules "=" "[" Classes "]" ";" Preds end | none
 unfoldable pub block_steps : SynBlock → Steps

@@ -2,7 +2,7 @@
 use Rattle.std.specs.Prelude.{◌≡◌, ℕ, suc, ◌<◌, ◌≤◌, List, [], ◌∷◌, ◌++◌, length, drop, Option, Some, None, Result, Ok, Err, slice_index_or}
 use Rattle.bg_text.specs.declared.token.Token.{Token}
 use Rattle.bg_text.specs.declared.token.TokenKind.{TokenKind}
-use Rattle.bg_grammar.specs.Grammar.{kind, symbol, Expected, expect, Step, ways_of}
+use Rattle.bg_grammar.specs.Grammar.{kind, symbol, Expected, expect, Step, ways_of, under}
 use Rattle.bg_grammar.specs.Plan.{row}
 use Rattle.bg_grammar.specs.Machine.{look, Runs, StopsUnexpected, StopsDeep}
 use Rattle.bg_syntax.specs.declared.fault.SyntaxFault.{SyntaxFault}
@@ -20,6 +20,10 @@ wants depth head = expect depth (symbol (symbol_number head)) ∷ []
 
 abbrev pub wants_token : ℕ → TokenKind → List Expected
 wants_token depth class = expect depth (kind (kind_number class)) ∷ []
+
+-- the parts of an alternative of a symbol behind the first n
+abbrev pub wants_behind : ℕ → Symbol → ℕ → ℕ → List Expected
+wants_behind depth head way n = under grammar depth (symbol_number head) (drop n (slice_index_or (ways_of grammar (symbol_number head)) way []))
 
 -- in front of any stack the machine reads these parts from token n to token m by these steps
 pub record Moves (tokens : List Token) (n : ℕ) (parts : List Expected) (steps : List Step) (m : ℕ) : Type 0 where

@@ -3,8 +3,8 @@
 ghost use Rattle.std.specs.Prelude.{◌≤◌, [], ◌∷◌, length};
 ghost use Rattle.bg_syntax.specs.declared.symbol.Symbol.TheVariants as symbols;
 ghost use Rattle.bg_syntax.specs.Steps.{opens};
-ghost use Rattle.bg_syntax.specs.ModelsSteps.{model_steps, stmts_item_steps, stmts_steps, block_steps, params_item_steps, params_steps, classes_steps, more_cl_item_steps, more_cl_steps, class_steps, preds_steps, refs_steps, more_ref_item_steps, more_ref_steps};
-ghost use Rattle.bg_syntax.specs.Reading.{wants, Reads, ReadsItem};
+ghost use Rattle.bg_syntax.specs.ModelsSteps.{model_steps, stmts_item_steps, stmts_steps, block_steps, block_behind5_steps, block_behind10_steps, params_item_steps, params_steps, classes_steps, more_cl_item_steps, more_cl_steps, class_steps, preds_steps, refs_steps, more_ref_item_steps, more_ref_steps};
+ghost use Rattle.bg_syntax.specs.Reading.{wants, wants_behind, Reads, ReadsItem};
 
 use crate::fault::SyntaxFault;
 use crate::reader::Reader;
@@ -14,6 +14,26 @@ use bg_trees::models::{
     SynBlock, SynClass, SynClasses, SynModel, SynMoreClItem, SynMoreRefItem, SynParamsItem,
     SynPreds, SynRefs, SynStmtsItem,
 };
+
+/// The parts of `Block` behind its first 5.
+#[derive(Drop)]
+struct BlockBehind5 {
+    part6: u32,
+    part7: u32,
+    part8: u32,
+    part9: u32,
+    part10: SynClasses,
+    behind: BlockBehind10,
+}
+
+/// The parts of `Block` behind its first 10.
+#[derive(Drop)]
+struct BlockBehind10 {
+    part11: u32,
+    part12: u32,
+    part13: SynPreds,
+    part14: u32,
+}
 
 impl Reader<'_> {
     // Model = Stmts Block
@@ -75,15 +95,21 @@ impl Reader<'_> {
                 let part3 = self.params(at, depth)?;
                 let part4 = self.take(at, depth, TokenKind::KwInit)?;
                 let part5 = self.reference(at, depth)?;
-                let part6 = self.take(at, depth, TokenKind::Semicolon)?;
-                let part7 = self.take(at, depth, TokenKind::KwRules)?;
-                let part8 = self.take(at, depth, TokenKind::Equals)?;
-                let part9 = self.take(at, depth, TokenKind::OpenSquare)?;
-                let part10 = self.classes(at, depth)?;
-                let part11 = self.take(at, depth, TokenKind::CloseSquare)?;
-                let part12 = self.take(at, depth, TokenKind::Semicolon)?;
-                let part13 = self.preds(at, depth)?;
-                let part14 = self.take(at, depth, TokenKind::KwEnd)?;
+                let rest = self.block_behind5(at, depth)?;
+                let BlockBehind5 {
+                    part6,
+                    part7,
+                    part8,
+                    part9,
+                    part10,
+                    behind,
+                } = rest;
+                let BlockBehind10 {
+                    part11,
+                    part12,
+                    part13,
+                    part14,
+                } = behind;
                 Ok(SynBlock::Way1(
                     part1, part2, part3, part4, part5, part6, part7, part8, part9, part10, part11,
                     part12, part13, part14,
@@ -91,6 +117,46 @@ impl Reader<'_> {
             }
             _ => Ok(SynBlock::Way2),
         }
+    }
+
+    // Block behind its first 5 parts: ";" rules "=" "[" Classes "]" ";" Preds end
+    fn block_behind5(&self, at: &mut usize, depth: u32) -> Result<BlockBehind5, SyntaxFault>
+        requires inside { at.old ≤ length self.now.tokens.now }
+        requires shallow { depth ≤ at.old }
+        ensures { Reads (λ x. block_behind5_steps x depth) self.now.tokens.now at.old (wants_behind depth symbols.Block 0 5) at.new result }
+    {
+        let part6 = self.take(at, depth, TokenKind::Semicolon)?;
+        let part7 = self.take(at, depth, TokenKind::KwRules)?;
+        let part8 = self.take(at, depth, TokenKind::Equals)?;
+        let part9 = self.take(at, depth, TokenKind::OpenSquare)?;
+        let part10 = self.classes(at, depth)?;
+        let rest = self.block_behind10(at, depth)?;
+        Ok(BlockBehind5 {
+            part6,
+            part7,
+            part8,
+            part9,
+            part10,
+            behind: rest,
+        })
+    }
+
+    // Block behind its first 10 parts: "]" ";" Preds end
+    fn block_behind10(&self, at: &mut usize, depth: u32) -> Result<BlockBehind10, SyntaxFault>
+        requires inside { at.old ≤ length self.now.tokens.now }
+        requires shallow { depth ≤ at.old }
+        ensures { Reads (λ x. block_behind10_steps x depth) self.now.tokens.now at.old (wants_behind depth symbols.Block 0 10) at.new result }
+    {
+        let part11 = self.take(at, depth, TokenKind::CloseSquare)?;
+        let part12 = self.take(at, depth, TokenKind::Semicolon)?;
+        let part13 = self.preds(at, depth)?;
+        let part14 = self.take(at, depth, TokenKind::KwEnd)?;
+        Ok(BlockBehind10 {
+            part11,
+            part12,
+            part13,
+            part14,
+        })
     }
 
     // Params = Param Params | none
