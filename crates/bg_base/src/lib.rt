@@ -2,7 +2,9 @@
 //!
 //! - [`Ident`], [`Text`], [`Name`], [`Value`], [`Label`]: what things are called.
 //! - [`Place`], [`Link`], [`NodeRow`], [`InnerRow`], [`Big`]: a concrete bigraph, row by row.
-//! - [`find_node`], [`find_node_at`], [`has_edge`], [`find_inner`], [`has_outer`]: look-up in a valid bigraph, by number or by name.
+//! - [`find_node`], [`find_node_at`], [`has_edge`], [`find_inner`], [`has_outer`]: look-up in a valid bigraph, by
+//!   number or by name.
+//! - [`Climbable`], [`Found`], [`marked_value`], [`no_marks`]: climbs that leave marks.
 //! - [`Signature`], [`Control`], [`Kind`]: the controls that nodes may have.
 //! - [`Map`], [`Step`], [`Entry`], [`Journal`]: steps of a run.
 #![tactic(auto)]
