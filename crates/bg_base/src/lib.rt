@@ -4,7 +4,7 @@
 //! - [`Place`], [`Link`], [`NodeRow`], [`InnerRow`], [`Big`]: a concrete bigraph, row by row.
 //! - [`find_node`], [`find_node_at`], [`has_edge`], [`find_inner`], [`has_outer`]: look-up in a valid bigraph, by
 //!   number or by name.
-//! - [`Climbable`], [`marked_value`], [`no_marks`]: climbs that leave marks.
+//! - [`Climbable`], [`Found`], [`marked_value`], [`no_marks`]: climbs that leave marks.
 //! - [`Signature`], [`Control`], [`Kind`]: the controls that nodes may have.
 //! - [`Map`], [`Step`], [`Entry`], [`Journal`]: steps of a run.
 //! - [`limits`]: how large things may be.

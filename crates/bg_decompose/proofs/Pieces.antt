@@ -1,13 +1,12 @@
 -- Lists that loops make piece by piece.
-use Rattle.std.proofs.Common.{◌≡◌, ℕ, zero, suc, ◌+◌, ◌<◌, Bool, true, false, Option, Some, None, is_some, cond, List, [], ◌∷◌, ◌++◌, length, map, take, get_or, refl, sym, ap, subst, ◌∙◌, arith, inl, inr, eqb, eqb-true, eq-eqb}
+use Rattle.std.proofs.Common.{◌≡◌, ℕ, suc, ◌+◌, ◌<◌, Bool, true, false, Option, Some, is_some, cond, List, [], ◌∷◌, ◌++◌, length, map, take, get_or, refl, sym, ap, subst, ◌∙◌, arith, inl, inr, eqb, eqb-true, eq-eqb}
 use Rattle.std.specs.Ordering.{nat_cmp, eq_by_cmp}
 use Rattle.std.specs.Cmp.{unsigned_tied}
 use Rattle.std.specs.BTreeMap.{BTreeMap, get}
 use Rattle.std.proofs.lemmas.List.{append_assoc, append-nil, map-append, length-map, length-take-le}
 use Rattle.std.proofs.Math.Seq.{take-suc}
-use Rattle.std.proofs.lemmas.Bool.{cases_eq}
-use Rattle.bg_lists.specs.Lists.{Mem, here, there, At, at_here, at_there}
-use Rattle.bg_lists.proofs.Members.{Mem-append_cases, Mem-cons_cases, Mem-same}
+use Rattle.bg_lists.specs.Lists.{Mem, At, at_here}
+use Rattle.bg_lists.proofs.Members.{Mem-append_cases, Mem-cons_cases}
 use Rattle.bg_lists.proofs.Places.{At-append_left, At-append_right, At-same}
 use Rattle.bg_base.specs.declared.names.Name.{Name}
 use Rattle.bg_base.specs.declared.names.Name.TheVariants.{Port}

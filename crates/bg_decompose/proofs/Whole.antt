@@ -1,11 +1,11 @@
 -- The parts that a split makes fit the host, so the host decomposes into them.
-use Rattle.std.proofs.Common.{◌≡◌, ℕ, zero, suc, ◌+◌, ◌<◌, ◌&&◌, not, Bool, true, false, Option, Some, None, unwrap_or, option_map, is_some, List, [], ◌∷◌, ◌++◌, map, length, filter, cond, refl, sym, ap, subst, ◌∙◌, inl, inr, arith}
+use Rattle.std.proofs.Common.{◌≡◌, ℕ, zero, suc, ◌+◌, ◌<◌, ◌&&◌, not, true, false, Option, Some, None, unwrap_or, option_map, is_some, List, [], ◌∷◌, ◌++◌, map, length, filter, refl, sym, ap, subst, ◌∙◌, inl, inr, arith}
 use Rattle.std.specs.Ordering.{nat_cmp}
 use Rattle.std.specs.BTreeMap.{BTreeMap, get}
 use Rattle.std.proofs.lemmas.Bool.{and_parts, not-true}
 use Rattle.std.proofs.lemmas.List.{length-map, map-append, map-id}
 use Rattle.bg_lists.specs.Lists.{Mem, here, there, At, at_here, at_there}
-use Rattle.bg_lists.proofs.Members.{Mem-same, Mem-unmap, Mem-unfilter, Mem-append_cases, Mem-cons_cases, map_agree, map-map}
+use Rattle.bg_lists.proofs.Members.{Mem-same, Mem-unmap, Mem-unfilter, Mem-append_cases, map_agree, map-map}
 use Rattle.bg_lists.proofs.Places.{At-one, At-same, At-from_Mem, Mem-from_At, At-below, At-map, At-unmap}
 use Rattle.bg_lists.proofs.Words.{is_some_find, found}
 use Rattle.bg_base.specs.declared.names.Name.{Name}
@@ -17,7 +17,7 @@ use Rattle.bg_base.specs.declared.names.Link.TheVariants.{Edge, Outer}
 use Rattle.bg_base.specs.declared.big.NodeRow.{NodeRow}
 use Rattle.bg_base.specs.declared.big.InnerRow.{InnerRow}
 use Rattle.bg_base.specs.declared.big.Big.{Big}
-use Rattle.bg_base.specs.Bigraph.{IsValid, IsGround, row_of}
+use Rattle.bg_base.specs.Bigraph.{IsValid}
 use Rattle.bg_base.specs.Composition.{inner_names}
 use Rattle.bg_base.specs.Elementary.{counted}
 use Rattle.bg_base.specs.Translation.{along, place_renamed}
@@ -27,7 +27,7 @@ use Rattle.bg_place.specs.Places.{same_place}
 use Rattle.bg_place.proofs.RowLaws.{same_place_from_test, same_place-itself}
 use Rattle.bg_algebra.proofs.CompositionLaws.{At-counted}
 use Rattle.bg_rules.specs.Solid.{IsPattern}
-use Rattle.bg_rules.specs.Decomposition.{port_names, names_of, Decomposes}
+use Rattle.bg_rules.specs.Decomposition.{port_names, names_of}
 use Rattle.bg_rules.specs.Instantiation.{is_among}
 use Rattle.bg_rules.specs.LocalConditions.{image_of, IsEdgeImage, MeetsLocally}
 use Rattle.bg_rules.proofs.Glued.{Glued}
@@ -40,9 +40,8 @@ use Rattle.bg_rules.proofs.Parameters as rule
 use Rattle.bg_rules.proofs.Contexts.{context_of, IsSiteOf, Carries, by_pattern, by_parameter, FitsHost}
 use Rattle.bg_rules.proofs.Contexts as above
 use Rattle.bg_rules.proofs.Construct.{glued_from_fits}
-use Rattle.bg_rules.proofs.Occurrences.{decomposed}
 use Rattle.bg_rules.proofs.LinkImages.{link_there}
-use Rattle.bg_decompose.specs.Marks.{is_covered, is_outside, is_inside}
+use Rattle.bg_decompose.specs.Marks.{is_outside, is_inside}
 use Rattle.bg_decompose.specs.Parts.{edge_in, image_edge, place_at, site_place, outer_row, port_rows, all_port_rows, IsSiteTable, cut_place, cut_row}
 use Rattle.bg_decompose.specs.Cuts.{edge_images, context, parameter, IsCut}
 use Rattle.bg_decompose.proofs.Covered.{covered_is}

@@ -1,8 +1,10 @@
 -- Which nodes of a host are images, or lie below one.
-use Rattle.std.specs.Prelude.{◌≡◌, ℕ, Bool, not, ◌&&◌, Option, Some, List, length, slice_get}
-use Rattle.bg_base.specs.declared.names.Place.TheVariants.{Node}
+use Rattle.std.specs.Prelude.{ℕ, Bool, false, not, ◌&&◌, Option, List, length}
+use Rattle.bg_base.specs.declared.names.Place.{Place}
+use Rattle.bg_base.specs.declared.names.Place.TheVariants.{Node, Region}
 use Rattle.bg_base.specs.declared.big.NodeRow.{NodeRow}
 use Rattle.bg_base.specs.declared.big.Big.{Big}
+use Rattle.bg_base.specs.Climbing.{AreMarks, node_at}
 use Rattle.bg_rules.specs.Climbs.{is_met}
 use Rattle.bg_rules.specs.Instantiation.{is_among}
 
@@ -18,8 +20,11 @@ is_outside host images row = not (is_covered host images row.id)
 abbrev pub is_inside : Big → List ℕ → NodeRow → Bool
 is_inside host images row = not (is_among row.id images) && is_covered host images row.id
 
--- for each row of the host a mark, which is right where it is set
-pub record AreMarked (host : Big) (images : List ℕ) (marks : List (Option Bool)) : Type 0 where
-  pub count : length marks ≡ length host.nodes
-  pub right : (at : ℕ) (row : NodeRow) (covered : Bool) → slice_get host.nodes at ≡ Some row → slice_get marks at ≡ Some (Some covered)
-      → is_covered host images row.id ≡ covered
+-- the place is covered: a node that is an image or lies below one
+abbrev pub lies_covered : Big → List ℕ → Place → Bool
+lies_covered host images (Node node) = is_covered host images node
+lies_covered host images (Region region) = false
+
+-- what is marked at a row is whether its node is covered
+abbrev pub AreMarked : Big → List ℕ → List (Option Bool) → Type 0
+AreMarked host images marks = AreMarks (λ at. is_covered host images (node_at host.nodes at)) marks

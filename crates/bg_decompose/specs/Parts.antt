@@ -14,7 +14,6 @@ use Rattle.bg_base.specs.declared.big.InnerRow.{InnerRow}
 use Rattle.bg_base.specs.declared.big.Big.{Big}
 use Rattle.bg_base.specs.Bigraph.{row_of}
 use Rattle.bg_base.specs.Elementary.{counted}
-use Rattle.bg_rules.specs.Decomposition.{port_names}
 use Rattle.bg_rules.specs.Images.{first_child, image_link}
 use Rattle.bg_rules.specs.Instantiation.{is_among}
 use Rattle.bg_rules.specs.LocalConditions.{image_of}

@@ -1,16 +1,17 @@
 //! Which nodes of a host are images of a pattern's nodes, or lie below one. Each node is climbed from until an image, a
 //! region or a row that is known, and the rows on the way are marked, so that none is climbed from twice.
-ghost use Rattle.std.specs.Prelude.{◌≡◌, true, length, filter, is_some, None, Some, IfOk, MatchOption};
-ghost use Rattle.std.specs.List.Sorted.{IsSorted, IsStrictlySortedBy};
+ghost use Rattle.std.specs.Prelude.{◌≡◌, true, filter, is_some, IfOk};
+ghost use Rattle.std.specs.List.Sorted.{IsSorted};
 ghost use Rattle.std.specs.Ordering.{nat_cmp};
-ghost use Rattle.bg_base.specs.Bigraph.{IsValid, node_cmp, row_of};
-ghost use Rattle.bg_base.specs.Lookup.{IsFirstRow, IsSortedCopy};
+ghost use Rattle.bg_base.specs.Bigraph.{IsValid, has_place, row_of};
+ghost use Rattle.bg_base.specs.Climbing.{node_at, depth};
+ghost use Rattle.bg_base.specs.Lookup.{IsSortedCopy};
 ghost use Rattle.bg_rules.specs.Instantiation.{is_among};
 ghost use Rattle.bg_decompose.specs.Marks as mark;
 ghost use Rattle.bg_decompose.specs.Marks.{AreMarked};
 
-use bg_base::{Big, NodeRow, Place};
-use bg_lists::{Duplicate, Mem, Rows, mark_at, set_mark};
+use bg_base::{Big, Climbable, Found, NodeRow, Place, find_node_at, marked_value, no_marks};
+use bg_lists::{Duplicate, Mem, Rows};
 use std::alloc::Global;
 
 /// The numbers in order.
@@ -30,70 +31,40 @@ pub(crate) fn has(sorted: &[u32], number: u32) -> bool
     sorted.binary_search(&number).is_ok()
 }
 
-/// The row of the node, and its position.
-fn row_at(rows: &[NodeRow], node: u32) -> Option<(usize, &NodeRow)>
-    requires ascending { IsStrictlySortedBy node_cmp rows.now }
-    ensures { MatchOption result (row_of rows.now node ≡ None) (λ found. IsFirstRow rows.now node found.0 found.1.now) }
-{
-    match rows.binary_search_by_key(&node, |row| row.id) {
-        Ok(at) => Some((at, &rows[at])),
-        Err(_) => None,
-    }
+/// A host, of whose nodes some are images, and others lie below one.
+#[derive(Drop)]
+struct Covered<'a> {
+    host: &'a Big,
+    images: &'a [u32],
 }
 
-/// Whether the node is an image or lies below one. Climbs until an image, a marked row or a region.
-fn lies_covered(host: &Big, images: &[u32], marks: &[Option<bool>], start: u32) -> bool
-    requires valid { IsValid host.now }
-    requires there { is_some (row_of host.now.nodes start) ≡ true }
-    requires sorted { IsSorted nat_cmp images.now }
-    requires marks { AreMarked host.now images.now marks.now }
-    ensures { result ≡ mark.is_covered host.now images.now start }
-{
-    let mut place = Place::Node(start);
-    let mut moves = host.nodes.as_slice().len();
-    while let Place::Node(node) = place {
-        if moves == 0 {
-            return false;
-        }
-        let Some((at, row)) = row_at(&host.nodes, node) else {
-            return false;
-        };
-        if has(images, node) {
-            return true;
-        }
-        if let Some(covered) = mark_at(marks, at) {
-            return covered;
-        }
-        moves -= 1;
-        place = row.parent;
-    }
-    false
-}
+impl<'a> Climbable for Covered<'a> {
+    type Foothold = Place;
 
-/// Marks the rows from the node upwards as it is known, as far as they are not yet marked; none from an image on.
-fn mark_path(host: &Big, images: &[u32], marks: &mut [Option<bool>], start: u32, covered: bool)
-    requires valid { IsValid host.now }
-    requires sorted { IsSorted nat_cmp images.now }
-    requires marks { AreMarked host.now images.now marks.old }
-    requires known { covered ≡ mark.is_covered host.now images.now start }
-    ensures { AreMarked host.now images.now marks.new }
-{
-    let mut place = Place::Node(start);
-    for _ in 0..host.nodes.as_slice().len() {
+    type Value = bool;
+
+    ghost is_foothold = { λ covered place. IsValid covered.host.now × IsSorted nat_cmp covered.images.now × (has_place covered.host.now place ≡ true) };
+
+    ghost value = { λ covered place. mark.lies_covered covered.host.now covered.images.now place };
+
+    ghost value_at = { λ covered at. mark.is_covered covered.host.now covered.images.now (node_at covered.host.now.nodes at) };
+
+    ghost height = { λ covered place. depth covered.host.now place };
+
+    fn find(&self, place: Place) -> Found<bool, Place> {
         let Place::Node(node) = place else {
-            return;
+            return Found::Value(false);
         };
-        if has(images, node) {
-            return;
+        if has(self.images, node) {
+            return Found::Value(true);
         }
-        let Some((at, row)) = row_at(&host.nodes, node) else {
-            return;
-        };
-        if mark_at(marks, at).is_some() {
-            return;
+        match find_node_at(&self.host.nodes, node) {
+            Some((at, row)) => Found::Row {
+                at,
+                above: row.parent,
+            },
+            None => Found::Value(false),
         }
-        set_mark(marks, at, covered);
-        place = row.parent;
     }
 }
 
@@ -106,20 +77,8 @@ fn is_covered(host: &Big, images: &[u32], marks: &mut [Option<bool>], node: u32)
     ensures value { result ≡ mark.is_covered host.now images.now node }
     ensures marks { AreMarked host.now images.now marks.new }
 {
-    let covered = lies_covered(host, images, marks, node);
-    mark_path(host, images, marks, node, covered);
-    covered
-}
-
-/// A mark for each row, of none of which anything is known.
-fn no_marks(alloc: Global, host: &Big, images: &[u32]) -> Mem<Vec<Option<bool>>>
-    ensures { IfOk result (λ marks. AreMarked host.now images.now marks.items) }
-{
-    let mut marks = Vec::new(alloc);
-    for _ in 0..host.nodes.len() {
-        marks.push(None)?;
-    }
-    Ok(marks)
+    let covered = Covered { host, images };
+    marked_value(&covered, marks, Place::Node(node))
 }
 
 /// The nodes that are no images and lie below none.
@@ -181,7 +140,7 @@ pub(crate) fn sides_of(alloc: Global, host: &Big, map: &[u32]) -> Mem<Sides>
     ensures inside { IfOk result (λ sides. sides.inside.items ≡ filter (mark.is_inside host.now map.now) host.now.nodes) }
 {
     let images = in_order(alloc, map)?;
-    let mut marks = no_marks(alloc, host, images.as_slice())?;
+    let mut marks = no_marks(alloc, host.nodes.as_slice().len())?;
     let inside = nodes_inside(alloc, host, images.as_slice(), &mut marks)?;
     let outside = nodes_outside(alloc, host, images.as_slice(), &mut marks)?;
     Ok(Sides { outside, inside })

@@ -1,15 +1,14 @@
 //! The parts of a parameter: its rows by the region that they lie under. Each node is climbed from until a region or a
 //! row whose region is known, and the rows on the way are marked with it, so that none is climbed from twice.
-ghost use Rattle.std.specs.Prelude.{◌≡◌, ◌<◌, true, map, is_some, None, Some, IfOk};
-ghost use Rattle.std.specs.List.Sorted.{IsStrictlySortedBy};
+ghost use Rattle.std.specs.Prelude.{◌≡◌, true, map, is_some, IfOk};
 ghost use Rattle.bg_base.specs.declared.names.Place.TheVariants.{Node};
-ghost use Rattle.bg_base.specs.Bigraph.{IsValid, node_cmp, row_of};
-ghost use Rattle.bg_base.specs.Lookup.{IsFirstRow};
+ghost use Rattle.bg_base.specs.Bigraph.{IsValid, has_place, row_of};
+ghost use Rattle.bg_base.specs.Climbing.{node_at, depth};
 ghost use Rattle.bg_rules.specs.Instantiation.{part};
-ghost use Rattle.bg_react.specs.Parts.{lies_under, depth, LeadsUp, AreMarked, AreMembers, member_region, member_row};
+ghost use Rattle.bg_react.specs.Parts.{lies_under, region_above, AreMarked, AreMembers, member_region, member_row};
 
-use bg_base::{Big, NodeRow, Place};
-use bg_lists::{Duplicate, Mem, mark_at, set_mark};
+use bg_base::{Big, Climbable, Found, NodeRow, Place, find_node_at, marked_value, no_marks};
+use bg_lists::{Duplicate, Mem};
 use std::alloc::Global;
 use std::marker::Model;
 
@@ -77,65 +76,36 @@ struct Member {
     row: NodeRow,
 }
 
-/// The row of the node, and its position.
-fn row_at(rows: &[NodeRow], node: u32) -> (usize, &NodeRow)
-    requires ascending { IsStrictlySortedBy node_cmp rows.now }
-    requires there { is_some (row_of rows.now node) ≡ true }
-    ensures { IsFirstRow rows.now node result.0 result.1.now }
-{
-    match rows.binary_search_by_key(&node, |row| row.id) {
-        Ok(at) => (at, &rows[at]),
-        Err(_) => unreachable!(),
-    }
+/// A parameter, whose places lie under regions.
+#[derive(Drop)]
+struct Under<'a> {
+    parameter: &'a Big,
 }
 
-/// Where a climb goes on from the node: to the region that it is known to lie under, else to its parent.
-fn next_up(parameter: &Big, marks: &[Option<u32>], node: u32) -> Place
-    requires valid { IsValid parameter.now }
-    requires there { is_some (row_of parameter.now.nodes node) ≡ true }
-    requires marks { AreMarked parameter.now marks.now }
-    ensures leads { LeadsUp parameter.now (Node node) result }
-    ensures nearer { depth parameter.now result < depth parameter.now (Node node) }
-{
-    let (at, row) = row_at(&parameter.nodes, node);
-    match mark_at(marks, at) {
-        Some(region) => Place::Region(region),
-        None => row.parent,
-    }
-}
+impl<'a> Climbable for Under<'a> {
+    type Foothold = Place;
 
-/// The region that the node lies under.
-fn region_above(parameter: &Big, marks: &[Option<u32>], node: u32) -> u32
-    requires valid { IsValid parameter.now }
-    requires there { is_some (row_of parameter.now.nodes node) ≡ true }
-    requires marks { AreMarked parameter.now marks.now }
-    ensures { lies_under parameter.now result (Node node) ≡ true }
-{
-    let mut place = Place::Node(node);
-    loop {
+    type Value = u32;
+
+    ghost is_foothold = { λ under place. IsValid under.parameter.now × (has_place under.parameter.now place ≡ true) };
+
+    ghost value = { λ under place. region_above under.parameter.now place };
+
+    ghost value_at = { λ under at. region_above under.parameter.now (Node (node_at under.parameter.now.nodes at)) };
+
+    ghost height = { λ under place. depth under.parameter.now place };
+
+    fn find(&self, place: Place) -> Found<u32, Place> {
         match place {
-            Place::Region(region) => return region,
-            Place::Node(lower) => place = next_up(parameter, marks, lower),
+            Place::Region(region) => Found::Value(region),
+            Place::Node(node) => match find_node_at(&self.parameter.nodes, node) {
+                Some((at, row)) => Found::Row {
+                    at,
+                    above: row.parent,
+                },
+                None => Found::Value(0),
+            },
         }
-    }
-}
-
-/// Marks the rows from the node upwards with the region that it lies under, as far as they are not yet marked.
-fn mark_path(parameter: &Big, marks: &mut [Option<u32>], node: u32, region: u32)
-    requires valid { IsValid parameter.now }
-    requires there { is_some (row_of parameter.now.nodes node) ≡ true }
-    requires marks { AreMarked parameter.now marks.old }
-    requires known { lies_under parameter.now region (Node node) ≡ true }
-    ensures { AreMarked parameter.now marks.new }
-{
-    let mut place = Place::Node(node);
-    while let Place::Node(lower) = place {
-        let (at, row) = row_at(&parameter.nodes, lower);
-        if mark_at(marks, at).is_some() {
-            return;
-        }
-        set_mark(marks, at, region);
-        place = row.parent;
     }
 }
 
@@ -147,20 +117,8 @@ fn region_of(parameter: &Big, marks: &mut [Option<u32>], node: u32) -> u32
     ensures under { lies_under parameter.now result (Node node) ≡ true }
     ensures marks { AreMarked parameter.now marks.new }
 {
-    let region = region_above(parameter, marks, node);
-    mark_path(parameter, marks, node, region);
-    region
-}
-
-/// A mark for each row, of none of which anything is known.
-fn no_marks(alloc: Global, parameter: &Big) -> Mem<Vec<Option<u32>>>
-    ensures { IfOk result (λ marks. AreMarked parameter.now marks.items) }
-{
-    let mut marks = Vec::new(alloc);
-    for _ in 0..parameter.nodes.len() {
-        marks.push(None)?;
-    }
-    Ok(marks)
+    let under = Under { parameter };
+    marked_value(&under, marks, Place::Node(node))
 }
 
 /// The rows of the parameter, each with the region that it lies under, by these marks.
@@ -186,7 +144,7 @@ fn members_of(alloc: Global, parameter: &Big) -> Mem<Vec<Member>>
     requires valid { IsValid parameter.now }
     ensures { IfOk result (λ members. AreMembers parameter.now parameter.now.nodes members.items) }
 {
-    let mut marks = no_marks(alloc, parameter)?;
+    let mut marks = no_marks(alloc, parameter.nodes.as_slice().len())?;
     let members = members_by(alloc, parameter, &mut marks)?;
     Ok(members)
 }

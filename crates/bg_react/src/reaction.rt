@@ -79,9 +79,28 @@ fn put_together(
         ..
     } = parts;
     let by_region = Parts::of(alloc, &parameter)?;
-    let found = counters_after(alloc, host, rule, &context, &by_region)?;
+    let after = host_after(alloc, host, rule, &context, &by_region)?;
+    Ok(after)
+}
+
+/// What the host of this context and this parameter becomes.
+fn host_after(
+    alloc: Global,
+    host: &Host,
+    rule: &Rule,
+    context: &Big,
+    parameter: &Parts<'_>,
+) -> Result<Host, ReactFault>
+    requires is_host { IsHost host.now }
+    requires is_rule { IsRule rule.now }
+    requires between { LiesBetween host.now.big rule.now.redex context.now parameter.now }
+    ensures value { IfOk result (λ after. after ≡ defined.host_after host.now rule.now context.now parameter.now) }
+    ensures within { IfOk result IsWithinLimits }
+    ensures full { IsErrOf result ReactFault.Full → IsWithinLimits (defined.host_after host.now rule.now context.now parameter.now) → ⊥ }
+{
+    let found = counters_after(alloc, host, rule, context, parameter)?;
     let counters = within_limits(found)?;
-    let big = big_after(alloc, host, rule, &context, &by_region)?;
+    let big = big_after(alloc, host, rule, context, parameter)?;
     let after = host_of(big, counters)?;
     Ok(after)
 }

@@ -1,4 +1,3 @@
-use Rattle.std.proofs.Common.{refl}
 use Rattle.bg_base.specs.Elementary.{counted}
 use Rattle.bg_algebra.proofs.Nested.{pushed_counted}
 use Rattle.bg_decompose.specs.Parts.{site_place}

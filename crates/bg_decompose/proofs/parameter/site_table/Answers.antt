@@ -1,8 +1,6 @@
-use Rattle.std.proofs.Common.{ℕ, refl, sym, ap, subst}
-use Rattle.std.specs.BTreeMap.{BTreeMap}
-use Rattle.bg_base.specs.declared.names.Place.TheVariants.{Node, Region}
+use Rattle.std.proofs.Common.{refl, sym, ap}
+use Rattle.bg_base.specs.declared.names.Place.TheVariants.{Node}
 use Rattle.bg_base.specs.Translation.{place_renamed}
-use Rattle.bg_decompose.specs.Parts.{IsSiteTable}
 use Rattle.bg_decompose.proofs.Pieces.{next_site, next_other}
 use Rattle.bg_decompose.proofs.parameter.site_table.Goals.{in-Node+in_ok-insert, in_default}
 use Rattle.bg_decompose.proofs.parameter.site_table.Goals as goal
