@@ -66,36 +66,36 @@ module _ (big : Big) (valid : IsValid big) (one : big.regions ≡ 1) where
       (λ place m. place_in_first place (All-member (λ (p : Place). IsTrue (has_place big p)) big.sites valid.sites_there m)) ∙ map-id big.sites in
       λ t. record big { nodes = nodes t; sites = sites t; regions = sym one t }
 
--- ---- the sites and the inner names of F, taken alone
+-- ---- the sites and the inner names of G, taken alone
 
-module _ (f : Big) where
-  place_agrees : (place : Place) → place_at f.sites place ≡ place_through f place
+module _ (g : Big) where
+  place_agrees : (place : Place) → place_at g.sites place ≡ place_through g place
   place_agrees (Node node) = refl
   place_agrees (Region region) = refl
 
-  link_agrees : (link : Link) → link_by f.inner link ≡ link_through f link
+  link_agrees : (link : Link) → link_by g.inner link ≡ link_through g link
   link_agrees (Edge edge) = refl
   link_agrees (Outer name) = refl
 
-  row_agrees : (row : NodeRow) → row_by f.inner (row_at f.sites row) ≡ row_through f row
+  row_agrees : (row : NodeRow) → row_by g.inner (row_at g.sites row) ≡ row_through g row
   row_agrees row =
       let place = place_agrees row.parent in
-      let links = map_agree (link_by f.inner) (link_through f) row.links (λ link m. link_agrees link) in
+      let links = map_agree (link_by g.inner) (link_through g) row.links (λ link m. link_agrees link) in
       λ t. record row { parent = place t; links = links t }
 
-  inner_agrees : (row : InnerRow) → inner_by f.inner row ≡ inner_through f row
+  inner_agrees : (row : InnerRow) → inner_by g.inner row ≡ inner_through g row
   inner_agrees row = let link = link_agrees row.link in λ t. record row { link = link t }
 
-  pub rows_agree : (rows : List NodeRow) → map (row_by f.inner) (map (row_at f.sites) rows) ≡ map (row_through f) rows
+  pub rows_agree : (rows : List NodeRow) → map (row_by g.inner) (map (row_at g.sites) rows) ≡ map (row_through g) rows
   rows_agree rows =
-      map-map (row_at f.sites) (row_by f.inner) rows
-      ∙ map_agree (λ row. row_by f.inner (row_at f.sites row)) (row_through f) rows (λ row m. row_agrees row)
+      map-map (row_at g.sites) (row_by g.inner) rows
+      ∙ map_agree (λ row. row_by g.inner (row_at g.sites row)) (row_through g) rows (λ row m. row_agrees row)
 
-  pub places_agree : (places : List Place) → map (place_at f.sites) places ≡ map (place_through f) places
-  places_agree places = map_agree (place_at f.sites) (place_through f) places (λ place m. place_agrees place)
+  pub places_agree : (places : List Place) → map (place_at g.sites) places ≡ map (place_through g) places
+  places_agree places = map_agree (place_at g.sites) (place_through g) places (λ place m. place_agrees place)
 
-  pub inner_rows_agree : (rows : List InnerRow) → map (inner_by f.inner) rows ≡ map (inner_through f) rows
-  inner_rows_agree rows = map_agree (inner_by f.inner) (inner_through f) rows (λ row m. inner_agrees row)
+  pub inner_rows_agree : (rows : List InnerRow) → map (inner_by g.inner) rows ≡ map (inner_through g) rows
+  inner_rows_agree rows = map_agree (inner_by g.inner) (inner_through g) rows (λ row m. inner_agrees row)
 
 -- ---- two bigraphs, the numbers of the second behind those of the first
 
@@ -134,14 +134,6 @@ module _ (f g : Big) (f_valid : IsValid f) (g_valid : IsValid g) (behind : follo
       ∙ ap (λ places. map place_in_one f.sites ++ places) (map-map (place_beside f.regions) place_in_one g.sites
       ∙ map_agree (λ place. place_in_one (place_beside f.regions place)) place_in_one g.sites (λ place m. place_in_one-beside f.regions place)) in
       λ t. record (appended 1 (in_one_region f) (in_one_region g)) { nodes = nodes t; edges = edges_in_order t; sites = sites t }
-
-  pub compose_behind : compose f g ≡ put_under f g
-  unfolding compose
-  compose_behind =
-      let nodes = nodes_in_order (row_through f) (λ x y less. less) (λ row. refl) ∙ ap (λ rs. f.nodes ++ rs) (sym (rows_agree f g.nodes)) in
-      let sites = sym (places_agree f g.sites) in
-      let inner = sym (inner_rows_agree f g.inner) in
-      λ t. record (put_under f g) { nodes = nodes t; edges = edges_in_order t; sites = sites t; inner = inner t }
 
   -- ---- nesting: the frame is F, with the names of G beside it
 
@@ -201,6 +193,18 @@ module _ (f g : Big) (f_valid : IsValid f) (g_valid : IsValid g) (behind : follo
         let sites = map_agree (place_through framed) (place_at f.sites) g.sites (λ place m. place_framed place) in
         let inner = map_agree (inner_through framed) (λ row. row) g.inner (λ row m. inner_framed row) ∙ map-id g.inner in
         λ t. record { nodes = nodes t; edges = edges t; sites = sites t; inner = inner t; regions = frame_regions t; outer = frame_outer t }
+
+-- ---- composition: the numbers of F behind those of G
+
+pub compose_behind : (g f : Big) → IsValid g → IsValid f → follows g f ≡ true → compose g f ≡ put_under g f
+unfolding compose
+compose_behind g f g_valid f_valid behind =
+    let nodes = nodes_in_order g f g_valid f_valid behind (row_through g) (λ x y less. less) (λ row. refl)
+    ∙ ap (λ rs. g.nodes ++ rs) (sym (rows_agree g f.nodes)) in
+    let edges = edges_in_order g f g_valid f_valid behind in
+    let sites = sym (places_agree g f.sites) in
+    let inner = sym (inner_rows_agree g f.inner) in
+    λ t. record (put_under g f) { nodes = nodes t; edges = edges t; sites = sites t; inner = inner t }
 
 -- ---- a name closed by an edge in front of all edges
 

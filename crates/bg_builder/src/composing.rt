@@ -38,12 +38,12 @@ impl Builder {
         ensures faces { IsErrOf result AlgebraFault.FacesDiffer ↔ ¬ composition.FacesAgree self right }
         ensures no_other { IfErr result (λ fault. Contains (AlgebraFault.FacesDiffer ∷ AlgebraFault.OutOfMemory ∷ []) fault) }
     {
-        let Builder { parts: f } = self;
-        let Builder { parts: g } = right;
-        if !faces_agree(&f, &g) {
+        let Builder { parts: g } = self;
+        let Builder { parts: f } = right;
+        if !faces_agree(&g, &f) {
             return Err(AlgebraFault::FacesDiffer);
         }
-        Ok(compose_whole(alloc, f, g)?)
+        Ok(compose_whole(alloc, g, f)?)
     }
 
     /// The nesting of `right` in this bigraph (Milner, chapter 3): `right` lies in the sites of this one, which has no
@@ -72,14 +72,14 @@ impl Builder {
 }
 
 /// The composition where it is defined.
-fn compose_whole(alloc: Global, f: Parts, g: Parts) -> Mem<Builder>
-    requires f_valid { IsValid (big_of f) }
+fn compose_whole(alloc: Global, g: Parts, f: Parts) -> Mem<Builder>
     requires g_valid { IsValid (big_of g) }
-    requires follows { numbers.follows (big_of f) (big_of g) ≡ true }
-    requires faces { composition.FacesAgree (big_of f) (big_of g) }
-    ensures { IfOk result (λ whole. whole ≡ composition.compose (big_of f) (big_of g)) }
+    requires f_valid { IsValid (big_of f) }
+    requires follows { numbers.follows (big_of g) (big_of f) ≡ true }
+    requires faces { composition.FacesAgree (big_of g) (big_of f) }
+    ensures { IfOk result (λ whole. whole ≡ composition.compose (big_of g) (big_of f)) }
 {
-    let parts = put_under(alloc, f, g)?;
+    let parts = put_under(alloc, g, f)?;
     let whole = Builder::from_parts(parts)?;
     Ok(whole)
 }
@@ -98,26 +98,31 @@ fn nest_whole(f: Parts, g: Parts) -> Mem<Builder>
     Ok(whole)
 }
 
-/// The rows of `g` after those of `f`, through the sites and the inner names of `f`.
-fn put_under(alloc: Global, f: Parts, mut g: Parts) -> Mem<Parts>
-    ensures { IfOk result (λ whole. big_of whole ≡ behind.put_under (big_of f) (big_of g)) }
+/// The rows of `f` after those of `g`, through the sites and the inner names of `g`.
+fn put_under(alloc: Global, g: Parts, f: Parts) -> Mem<Parts>
+    ensures { IfOk result (λ whole. big_of whole ≡ behind.put_under (big_of g) (big_of f)) }
 {
-    let inner = inner_list(alloc, f.inner)?;
-    put_rows(
-        alloc,
-        g.nodes.as_mut_slice(),
-        f.sites.as_slice(),
-        inner.as_slice(),
-    )?;
-    place_places(g.sites.as_mut_slice(), f.sites.as_slice());
+    let inner = inner_list(alloc, g.inner)?;
+    let lower = put_through(alloc, f, g.sites.as_slice(), inner.as_slice())?;
     Ok(Parts {
-        nodes: joined(f.nodes, g.nodes)?,
-        edges: joined(f.edges, g.edges)?,
-        sites: g.sites,
-        inner: inner_under(alloc, g.inner, inner.as_slice())?,
-        outer: f.outer,
-        regions: f.regions,
+        nodes: joined(g.nodes, lower.nodes)?,
+        edges: joined(g.edges, lower.edges)?,
+        sites: lower.sites,
+        inner: lower.inner,
+        outer: g.outer,
+        regions: g.regions,
     })
+}
+
+/// The bigraph with its places put into these sites, and tied by these inner names.
+fn put_through(alloc: Global, mut f: Parts, sites: &[Place], inner: &[InnerRow]) -> Mem<Parts>
+    requires { IsStrictlySortedBy inner_cmp inner.now }
+    ensures { IfOk result (λ lower. big_of lower ≡ behind.put_through sites.now inner.now (big_of f)) }
+{
+    put_rows(alloc, f.nodes.as_mut_slice(), sites, inner)?;
+    place_places(f.sites.as_mut_slice(), sites);
+    f.inner = inner_under(alloc, f.inner, inner)?;
+    Ok(f)
 }
 
 /// Puts the rows into these sites, and ties their ports by these inner names.

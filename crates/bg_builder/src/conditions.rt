@@ -24,19 +24,19 @@ pub(crate) fn outer_apart(f: &Parts, g: &Parts) -> bool
     tables::outer_apart(&f.outer, &g.outer)
 }
 
-/// Whether the outer face of `g` is the inner face of `f`.
-pub(crate) fn faces_agree(f: &Parts, g: &Parts) -> bool
-    ensures { IsTrue result ↔ FacesAgree (big_of f.now) (big_of g.now) }
+/// Whether the outer face of `f` is the inner face of `g`.
+pub(crate) fn faces_agree(g: &Parts, f: &Parts) -> bool
+    ensures { IsTrue result ↔ FacesAgree (big_of g.now) (big_of f.now) }
 {
-    widths_agree(f, g) && tables::names_agree(&g.outer, &f.inner)
+    widths_agree(g, f) && tables::names_agree(&f.outer, &g.inner)
 }
 
-/// Whether `g` has as many regions as `f` has sites.
-pub(crate) fn widths_agree(f: &Parts, g: &Parts) -> bool
-    ensures { IsTrue result ↔ (g.now.regions ≡ length f.now.sites.items) }
+/// Whether the lower bigraph has as many regions as the upper one has sites.
+pub(crate) fn widths_agree(upper: &Parts, lower: &Parts) -> bool
+    ensures { IsTrue result ↔ (lower.now.regions ≡ length upper.now.sites.items) }
 {
-    let regions = g.regions;
-    regions as usize == f.sites.len()
+    let regions = lower.regions;
+    regions as usize == upper.sites.len()
 }
 
 /// Whether there is no inner name.

@@ -63,8 +63,8 @@ joined f g whole from count more after last first second cases edge m =
 
 combined_edges : (kind : BinaryOperation) (at : ℕ) (f g whole : Big) → combined kind at f g ≡ Ok whole
     → (edge : ℕ) → Mem edge whole.edges → Mem edge f.edges ⊎ Mem edge g.edges
-combined_edges Composition at f g whole is edge m =
-    compose_edges f g edge (subst (λ (b : Big). Mem edge b.edges) (sym (ok_same (tested (faces_agree f g) (Ok (compose f g)) _ whole is))) m)
+combined_edges Composition at g f whole is edge m =
+    compose_edges g f edge (subst (λ (b : Big). Mem edge b.edges) (sym (ok_same (tested (faces_agree g f) (Ok (compose g f)) _ whole is))) m)
 combined_edges Tensor at f g whole is edge m =
     tensor_edges f g edge (subst (λ (b : Big). Mem edge b.edges) (sym (ok_same (untested (inner_meets f g || outer_meets f g) (Ok (tensor f g)) _ whole is))) m)
 combined_edges Parallel at f g whole is edge m =

@@ -29,9 +29,9 @@ pub merge_edges : (f g : Big) (edge : ℕ) → Mem edge (merge f g).edges → Me
 unfolding merge
 merge_edges f g edge m = parallel_edges f g edge m
 
-pub compose_edges : (f g : Big) (edge : ℕ) → Mem edge (compose f g).edges → Mem edge f.edges ⊎ Mem edge g.edges
+pub compose_edges : (g f : Big) (edge : ℕ) → Mem edge (compose g f).edges → Mem edge g.edges ⊎ Mem edge f.edges
 unfolding compose
-compose_edges f g edge m = in_sorted edge f.edges g.edges m
+compose_edges g f edge m = in_sorted edge g.edges f.edges m
 
 no_edge : (f : Big) (names : List Name) (edge : ℕ) → Mem edge (parallel (identity 0 names) f).edges → Mem edge f.edges
 unfolding parallel identity

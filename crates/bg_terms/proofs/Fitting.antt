@@ -164,12 +164,12 @@ single_fits signature control number node words is ports = by control.kind refl
 
 combined_fits : (signature : List Control) (kind : BinaryOperation) (at : ℕ) (f g whole : Big) → combined kind at f g ≡ Ok whole
     → IsValidUnder signature f → IsValidUnder signature g → SupportsApart f g → IsValidUnder signature whole
-combined_fits signature Composition at f g whole made f_fits g_fits apart = by _ (faces_agree f g) refl made
+combined_fits signature Composition at g f whole made g_fits f_fits apart = by _ (faces_agree g f) refl made
   where
-    by : (r : Refusal) (b : Bool) → faces_agree f g ≡ b → (if b then Ok (compose f g) else Err r) ≡ Ok whole → IsValidUnder signature whole
+    by : (r : Refusal) (b : Bool) → faces_agree g f ≡ b → (if b then Ok (compose g f) else Err r) ≡ Ok whole → IsValidUnder signature whole
     by r true e is =
         subst (IsValidUnder signature) (ok_same is)
-        (compose_valid_under f g (FacesAgree-from_test f g e) apart f_fits.valid g_fits.valid signature f_fits g_fits)
+        (compose_valid_under g f (FacesAgree-from_test g f e) apart g_fits.valid f_fits.valid signature g_fits f_fits)
     by r false e is = absurd cc
 combined_fits signature Tensor at f g whole made f_fits g_fits apart = by _ (inner_meets f g) (outer_meets f g) refl refl made
   where

@@ -105,8 +105,8 @@ wide_numbers at width big found is none =
 combined_numbers : (kind : BinaryOperation) (at : ℕ) (f g whole : Big) (from count more : ℕ) → combined kind at f g ≡ Ok whole
     → node_numbers f.nodes ≡ counted from count → node_numbers g.nodes ≡ counted (from + count) more
     → node_numbers whole.nodes ≡ counted from (count + more)
-combined_numbers Composition at f g whole from count more is first second =
-    ap (λ (b : Big). node_numbers b.nodes) (sym (ok_same (tested _ _ _ _ is))) ∙ compose_numbers f g from count more first second
+combined_numbers Composition at g f whole from count more is first second =
+    ap (λ (b : Big). node_numbers b.nodes) (sym (ok_same (tested _ _ _ _ is))) ∙ compose_numbers g f from count more first second
 combined_numbers Tensor at f g whole from count more is first second =
     ap (λ (b : Big). node_numbers b.nodes) (sym (ok_same (untested _ _ _ _ is))) ∙ tensor_numbers f g from count more first second
 combined_numbers Parallel at f g whole from count more is first second =

@@ -98,9 +98,9 @@ unfolding merge
 merge_controls f g from count more first second =
     controls_kept row_in_one (λ row. refl) (parallel f g).nodes ∙ parallel_controls f g from count more first second
 
-compose_controls : (f g : Big) (from count more : ℕ) → Follow f g (compose f g) from count more
+compose_controls : (g f : Big) (from count more : ℕ) → Follow g f (compose g f) from count more
 unfolding compose
-compose_controls f g from count more = joined (row_through f) (λ row. refl) (λ row. refl) f.nodes g.nodes from count more
+compose_controls g f from count more = joined (row_through g) (λ row. refl) (λ row. refl) g.nodes f.nodes from count more
 
 wider_controls : (f : Big) (names : List Name) (from count : ℕ) → node_numbers f.nodes ≡ counted from count
     → controls_in (parallel (identity 0 names) f).nodes ≡ controls_in f.nodes
@@ -126,8 +126,8 @@ closed_controls edge name big = by (is_some (outer_of big.outer name))
     by false = refl
 
 combined_controls : (kind : BinaryOperation) (at : ℕ) (f g whole : Big) (from count more : ℕ) → combined kind at f g ≡ Ok whole → Follow f g whole from count more
-combined_controls Composition at f g whole from count more is first second =
-    ap (λ (b : Big). controls_in b.nodes) (sym (ok_same (tested _ _ _ _ is))) ∙ compose_controls f g from count more first second
+combined_controls Composition at g f whole from count more is first second =
+    ap (λ (b : Big). controls_in b.nodes) (sym (ok_same (tested _ _ _ _ is))) ∙ compose_controls g f from count more first second
 combined_controls Tensor at f g whole from count more is first second =
     ap (λ (b : Big). controls_in b.nodes) (sym (ok_same (untested _ _ _ _ is))) ∙ tensor_controls f g from count more first second
 combined_controls Parallel at f g whole from count more is first second =

@@ -62,9 +62,9 @@ unfolding ion atom
 single_plain Normal control number names are = set_plain names are
 single_plain Atomic control number names are = set_plain names are
 
-compose_plain : (f g : Big) → HasPlain f → HasPlain (compose f g)
+compose_plain : (g f : Big) → HasPlain g → HasPlain (compose g f)
 unfolding compose
-compose_plain f g are = are
+compose_plain g f are = are
 
 tensor_plain : (f g : Big) → HasPlain f → HasPlain g → HasPlain (tensor f g)
 unfolding tensor
@@ -102,7 +102,7 @@ wide_plain : (at width : ℕ) (big found : Big) → wide at width big ≡ Ok fou
 wide_plain at width big found is are = subst HasPlain (ok_same (untested (nat_lt most_expression_places width) (Ok big) _ found is)) are
 
 combined_plain : (kind : BinaryOperation) (at : ℕ) (f g whole : Big) → combined kind at f g ≡ Ok whole → HasPlain f → HasPlain g → HasPlain whole
-combined_plain Composition at f g whole is are these = subst HasPlain (ok_same (tested _ _ _ _ is)) (compose_plain f g are)
+combined_plain Composition at g f whole is are these = subst HasPlain (ok_same (tested _ _ _ _ is)) (compose_plain g f are)
 combined_plain Tensor at f g whole is are these = subst HasPlain (ok_same (untested _ _ _ _ is)) (tensor_plain f g are these)
 combined_plain Parallel at f g whole is are these = subst HasPlain (ok_same (untested _ _ _ _ is)) (parallel_plain f g are these)
 combined_plain Merge at f g whole is are these = subst HasPlain (ok_same (untested _ _ _ _ is)) (merge_plain f g are these)

@@ -122,10 +122,10 @@ nests at is_atom f g whole made =
         record { no_inner = no_names f.inner (eqb-true (length f.inner) 0 ye); widths = eqb-true g.regions (length f.sites) ze; is = ok_same e }
 
 combined_valid : (kind : BinaryOperation) (at : ℕ) (f g whole : Big) → combined kind at f g ≡ Ok whole → IsValid f → IsValid g → SupportsApart f g → IsValid whole
-combined_valid Composition at f g whole made f_valid g_valid apart = by _ (faces_agree f g) refl made
+combined_valid Composition at g f whole made g_valid f_valid apart = by _ (faces_agree g f) refl made
   where
-    by : (r : Refusal) (b : Bool) → faces_agree f g ≡ b → (if b then Ok (compose f g) else Err r) ≡ Ok whole → IsValid whole
-    by r true e is = subst IsValid (ok_same is) (compose_valid f g (FacesAgree-from_test f g e) apart f_valid g_valid)
+    by : (r : Refusal) (b : Bool) → faces_agree g f ≡ b → (if b then Ok (compose g f) else Err r) ≡ Ok whole → IsValid whole
+    by r true e is = subst IsValid (ok_same is) (compose_valid g f (FacesAgree-from_test g f e) apart g_valid f_valid)
     by r false e is = absurd cc
 combined_valid Tensor at f g whole made f_valid g_valid apart = by _ (inner_meets f g) (outer_meets f g) refl refl made
   where

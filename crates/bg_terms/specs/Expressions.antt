@@ -27,5 +27,5 @@ pub data Expression : Type 0 where
   closure : ℕ → List ℕ → Expression → Expression
   -- `F.G`, and whether F is written as an atom
   nesting : ℕ → Bool → Expression → Expression → Expression
-  -- `F*G`, `F+G`, `F||G`, `F|G`
+  -- `G*F`, `F+G`, `F||G`, `F|G`
   binary : BinaryOperation → ℕ → Expression → Expression → Expression

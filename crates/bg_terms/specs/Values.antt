@@ -87,7 +87,7 @@ outer_meets f g = list_any (λ (name : Name). is_some (outer_of f.outer name)) g
 
 -- what a binary operation makes of two bigraphs, or its refusal at the operator
 abbrev pub combined : BinaryOperation → ℕ → Big → Big → Result Big Refusal
-combined Composition at f g = if faces_agree f g then Ok (compose f g) else refused FacesDiffer at
+combined Composition at g f = if faces_agree g f then Ok (compose g f) else refused FacesDiffer at
 combined Tensor at f g = if inner_meets f g || outer_meets f g then refused NamesMeet at else Ok (tensor f g)
 combined Parallel at f g = if inner_meets f g then refused InnerNamesMeet at else Ok (parallel f g)
 combined Merge at f g = if inner_meets f g then refused InnerNamesMeet at else Ok (merge f g)

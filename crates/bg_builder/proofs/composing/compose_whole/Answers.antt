@@ -9,13 +9,13 @@ use Rattle.bg_builder.proofs.composing.compose_whole.Goals as goal
 
 pub from_parts-requires : goal.from_parts-requires
 from_parts-requires c =
-    let f = big_of c.args.f in
     let g = big_of c.args.g in
-    let is : big_of c.in_ok-parts.parts ≡ compose f g = c.in_ok-parts.ensures ∙ sym (compose_behind f g c.requires.f_valid c.requires.g_valid c.requires.follows) in
-    record { valid = subst IsValid (sym is) (compose_valid f g c.requires.faces (apart f g c.requires.f_valid c.requires.g_valid c.requires.follows) c.requires.f_valid c.requires.g_valid) }
+    let f = big_of c.args.f in
+    let is : big_of c.in_ok-parts.parts ≡ compose g f = c.in_ok-parts.ensures ∙ sym (compose_behind g f c.requires.g_valid c.requires.f_valid c.requires.follows) in
+    record { valid = subst IsValid (sym is) (compose_valid g f c.requires.faces (apart g f c.requires.g_valid c.requires.f_valid c.requires.follows) c.requires.g_valid c.requires.f_valid) }
 
 pub returns : goal.returns
 returns c =
-    let f = big_of c.args.f in
     let g = big_of c.args.g in
-    c.in_ok-whole.ensures.same ∙ c.in_ok-parts.ensures ∙ sym (compose_behind f g c.requires.f_valid c.requires.g_valid c.requires.follows)
+    let f = big_of c.args.f in
+    c.in_ok-whole.ensures.same ∙ c.in_ok-parts.ensures ∙ sym (compose_behind g f c.requires.g_valid c.requires.f_valid c.requires.follows)
