@@ -29,8 +29,8 @@ names_meet_so f g never =
 pub names_meet_not : (f g : Big) → InnerApart f g → OuterApart f g → (inner_meets f g || outer_meets f g) ≡ false
 names_meet_not f g inner outer = or_from (inner_meets f g) (outer_meets f g) (inner_meets_not f g inner) (outer_meets_not f g outer)
 
-pub faces_agree_not : (f g : Big) → ¬ FacesAgree f g → faces_agree f g ≡ false
-faces_agree_not f g never = false_from_ne_true (faces_agree f g) (λ e. never (FacesAgree-from_test f g e))
+pub faces_agree_not : (g f : Big) → ¬ FacesAgree g f → faces_agree g f ≡ false
+faces_agree_not g f never = false_from_ne_true (faces_agree g f) (λ e. never (FacesAgree-from_test g f e))
 
-pub faces_agree_so : (f g : Big) → FacesAgree f g → faces_agree f g ≡ true
-faces_agree_so f g agree = test-FacesAgree f g agree
+pub faces_agree_so : (g f : Big) → FacesAgree g f → faces_agree g f ≡ true
+faces_agree_so g f agree = test-FacesAgree g f agree

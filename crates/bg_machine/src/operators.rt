@@ -1,6 +1,7 @@
 //! The operators of the model language on bigraphs.
-ghost use Rattle.std.specs.Prelude.{◌≡◌, ◌+◌, ◌<◌, ◌^◌, true};
+ghost use Rattle.std.specs.Prelude.{◌≡◌, ◌+◌, ◌<◌, ◌^◌, true, false};
 ghost use Rattle.bg_builder.specs.Numbers.{follows};
+ghost use Rattle.bg_machine.specs.Faults as faults;
 ghost use Rattle.bg_terms.specs.declared.shape.BinaryOperation.TheVariants as operations;
 ghost use Rattle.bg_terms.specs.Values as definition;
 ghost use Rattle.bg_values.specs.Outcome.{Gives};
@@ -33,62 +34,38 @@ pub(crate) fn combined(
     }
 }
 
-/// `F * G`
-#[tactic(auto, using(crate::proofs::Conditions::faces_agree_so, crate::proofs::Conditions::faces_agree_not))]
-fn composed(alloc: Global, at: u32, f: Builder, g: Builder) -> Result<Builder, Stop>
-    requires follows { follows f g ≡ true }
-    ensures { Gives result (definition.combined operations.Composition at f g) }
+/// `G * F`
+fn composed(alloc: Global, at: u32, g: Builder, f: Builder) -> Result<Builder, Stop>
+    requires follows { follows g f ≡ true }
+    ensures { Gives result (definition.combined operations.Composition at g f) }
 {
-    match f.compose(alloc, g) {
-        Ok(big) => Ok(big),
-        Err(AlgebraFault::FacesDiffer) => Err(Stop::refuse(Cause::FacesDiffer, at)),
-        Err(AlgebraFault::OutOfMemory) => Err(Stop::OutOfMemory),
-        Err(_) => unreachable!(),
-    }
+    told(at, g.compose(alloc, f))
 }
 
 /// `F + G`
-#[tactic(auto, using(crate::proofs::Conditions::names_meet_not, crate::proofs::Conditions::names_meet_so))]
 fn beside(at: u32, f: Builder, g: Builder) -> Result<Builder, Stop>
     requires follows { follows f g ≡ true }
     requires regions { f.regions + g.regions < 2 ^ 32 }
     ensures { Gives result (definition.combined operations.Tensor at f g) }
 {
-    match f.tensor(g) {
-        Ok(big) => Ok(big),
-        Err(AlgebraFault::NamesMeet) => Err(Stop::refuse(Cause::NamesMeet, at)),
-        Err(AlgebraFault::OutOfMemory) => Err(Stop::OutOfMemory),
-        Err(_) => unreachable!(),
-    }
+    told(at, f.tensor(g))
 }
 
 /// `F || G`
-#[tactic(auto, using(crate::proofs::Conditions::inner_meets_not, crate::proofs::Conditions::inner_meets_so))]
 fn in_parallel(at: u32, f: Builder, g: Builder) -> Result<Builder, Stop>
     requires follows { follows f g ≡ true }
     requires regions { f.regions + g.regions < 2 ^ 32 }
     ensures { Gives result (definition.combined operations.Parallel at f g) }
 {
-    match f.parallel(g) {
-        Ok(big) => Ok(big),
-        Err(AlgebraFault::InnerNamesMeet) => Err(Stop::refuse(Cause::InnerNamesMeet, at)),
-        Err(AlgebraFault::OutOfMemory) => Err(Stop::OutOfMemory),
-        Err(_) => unreachable!(),
-    }
+    told(at, f.parallel(g))
 }
 
 /// `F | G`
-#[tactic(auto, using(crate::proofs::Conditions::inner_meets_not, crate::proofs::Conditions::inner_meets_so))]
 fn merged(at: u32, f: Builder, g: Builder) -> Result<Builder, Stop>
     requires follows { follows f g ≡ true }
     ensures { Gives result (definition.combined operations.Merge at f g) }
 {
-    match f.merge(g) {
-        Ok(big) => Ok(big),
-        Err(AlgebraFault::InnerNamesMeet) => Err(Stop::refuse(Cause::InnerNamesMeet, at)),
-        Err(AlgebraFault::OutOfMemory) => Err(Stop::OutOfMemory),
-        Err(_) => unreachable!(),
-    }
+    told(at, f.merge(g))
 }
 
 /// `F.G`, the numbers of G behind those of F, or its refusal at the dot: 44 where F is written as an atom, then 17 and
@@ -100,11 +77,41 @@ pub(crate) fn nested(at: u32, is_atom: bool, f: Builder, g: Builder) -> Result<B
     if is_atom {
         return Err(Stop::refuse(Cause::AtomicHasChild, at));
     }
-    match f.nest(g) {
+    inside(at, f, g)
+}
+
+/// `F.G`, where F is not written as an atom.
+fn inside(at: u32, f: Builder, g: Builder) -> Result<Builder, Stop>
+    requires follows { follows f g ≡ true }
+    ensures { Gives result (definition.nested at false f g) }
+{
+    told(at, f.nest(g))
+}
+
+/// The bigraph that an operation gives, or what its operator, at that token, tells of the fault.
+fn told(at: u32, made: Result<Builder, AlgebraFault>) -> Result<Builder, Stop>
+    ensures { result ≡ faults.told at made }
+{
+    match made {
         Ok(big) => Ok(big),
-        Err(AlgebraFault::HasInnerNames) => Err(Stop::refuse(Cause::HasInnerNames, at)),
-        Err(AlgebraFault::WidthsDiffer) => Err(Stop::refuse(Cause::WidthsDiffer, at)),
-        Err(AlgebraFault::OutOfMemory) => Err(Stop::OutOfMemory),
-        Err(_) => unreachable!(),
+        Err(fault) => Err(stop_for(at, fault)),
     }
+}
+
+/// What an operator, at that token, tells of a fault of the algebra: the refusal by the cause of the same number, or
+/// want of memory. The operands of an operator share no node and no edge, and none of them closes a name: these two
+/// faults would be told by 31, as code of no expression is.
+fn stop_for(at: u32, fault: AlgebraFault) -> Stop
+    ensures { result ≡ faults.stop_for at fault }
+{
+    let cause = match fault {
+        AlgebraFault::FacesDiffer => Cause::FacesDiffer,
+        AlgebraFault::NamesMeet => Cause::NamesMeet,
+        AlgebraFault::InnerNamesMeet => Cause::InnerNamesMeet,
+        AlgebraFault::WidthsDiffer => Cause::WidthsDiffer,
+        AlgebraFault::HasInnerNames => Cause::HasInnerNames,
+        AlgebraFault::SupportMeets | AlgebraFault::NoSuchName => Cause::Unexpected,
+        AlgebraFault::OutOfMemory => return Stop::OutOfMemory,
+    };
+    Stop::refuse(cause, at)
 }
