@@ -12,9 +12,9 @@ use bg_terms::BinaryOperation;
 use bg_values::{Cause, Stop};
 use std::alloc::Global;
 
-/// What the operation makes of two bigraphs, the numbers of the second behind those of the first, or its refusal at the operator: 11
-/// for `*`, 13 for `+`, 14 for `||` and `|`. Costs time in proportion to the second one, up to a logarithm; and to the
-/// first one where `|` finds it with another number of regions than one.
+/// What the operation makes of two bigraphs, the numbers of the second behind those of the first, or its refusal at the
+/// operator: 11 for `*`, 13 for `+`, 14 for `||` and `|`. Costs time in proportion to the second one, up to a logarithm;
+/// and to the first one where `|` finds it with another number of regions than one.
 pub(crate) fn combined(
     alloc: Global,
     operation: BinaryOperation,
