@@ -19,10 +19,28 @@ pub fn lean(alloc: Global, big: &Big) -> Mem<Big>
     ensures valid { IfOk result IsValid }
     ensures fits { (signature : List Control) → IsValidUnder signature big.now → IfOk result (IsValidUnder signature) }
 {
+    let edges = edges_with_points(alloc, big)?;
+    let made = with_edges(alloc, big, edges)?;
+    Ok(made)
+}
+
+/// The edges of the bigraph that have a point.
+fn edges_with_points(alloc: Global, big: &Big) -> Mem<Rows<u32>>
+    requires valid { IsValid big.now }
+    ensures { IfOk result (λ made. made ≡ filter (λ edge. product.has_point big.now (Edge edge)) big.now.edges) }
+{
     let wiring = Wiring::of(alloc, big)?;
+    let made = used_edges(alloc, &wiring, big.edges.as_slice())?;
+    Ok(made)
+}
+
+/// The bigraph with these edges.
+fn with_edges(alloc: Global, big: &Big, edges: Rows<u32>) -> Mem<Big>
+    ensures { IfOk result (λ made. made ≡ record big.now { edges = edges }) }
+{
     Ok(Big {
         nodes: big.nodes.copy(alloc)?,
-        edges: used_edges(alloc, &wiring, big.edges.as_slice())?,
+        edges,
         sites: big.sites.copy(alloc)?,
         inner: big.inner.copy(alloc)?,
         regions: big.regions,
@@ -30,7 +48,7 @@ pub fn lean(alloc: Global, big: &Big) -> Mem<Big>
     })
 }
 
-/// The edges that have a point.
+/// Those of the edges that have a point, by the wiring.
 fn used_edges(alloc: Global, wiring: &Wiring, edges: &[u32]) -> Mem<Rows<u32>>
     ensures { IfOk result (λ made. made ≡ filter (λ edge. not (degree_of wiring.now (Edge edge) == 0)) edges.now) }
 {

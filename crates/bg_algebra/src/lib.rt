@@ -1,7 +1,7 @@
 //! The algebra of concrete bigraphs: how large bigraphs are made of small ones (Milner, chapters 2 and 3).
 //!
-//! - [`compose`]: composition, which puts one bigraph into the sites of another and joins their links;
-//!   [`compose_by_rows`] is the same by a plainer program. [`faces_agree`] and [`supports_apart`] are its conditions.
+//! - [`compose`]: composition, which puts one bigraph into the sites of another and joins their links.
+//!   [`faces_agree`] and [`supports_apart`] are its conditions.
 //! - [`tensor`], [`parallel`], [`merge`]: products. [`nest`]: nesting. [`close`]: a name made an edge.
 //! - [`lean`]: idle edges dropped. [`rename`]: nodes and edges numbered anew.
 //! - [`ion`], [`atom`], [`identity`], [`idle`], [`merger`], [`barren`], [`empty`]: elementary bigraphs.
@@ -9,7 +9,6 @@
 //! - [`AlgebraFault`]: why an operation gives no bigraph.
 #![tactic(auto)]
 
-mod by_rows;
 mod closing;
 mod composition;
 mod conditions;
@@ -23,7 +22,6 @@ mod products;
 mod regions;
 mod renumbering;
 
-pub use by_rows::compose_by_rows;
 pub use closing::close;
 pub use composition::compose;
 pub use conditions::{faces_agree, supports_apart};

@@ -9,7 +9,6 @@ ghost use Rattle.bg_base.specs.declared.signature.Control.{Control};
 ghost use Rattle.bg_base.specs.Bigraph.{IsValid, IsValidUnder, node_cmp};
 ghost use Rattle.bg_base.specs.Translation as translation;
 
-use crate::by_rows::sorted_nodes;
 use bg_base::{Big, InnerRow, Link, NodeRow, Place, PortLinks};
 use bg_lists::{Duplicate, Mem, Rows};
 use smallvec::SmallVec;
@@ -148,6 +147,15 @@ fn renamed_nodes(alloc: Global, big: &Big, nodes: &[u32], edges: &[u32]) -> Mem<
     let mut made = Vec::new(alloc);
     push_renamed(alloc, big, nodes, edges, &big.nodes, &mut made)?;
     sorted_nodes(made)
+}
+
+/// The rows by number, where their numbers differ. Takes no memory.
+fn sorted_nodes(mut rows: Vec<NodeRow>) -> Mem<Rows<NodeRow>>
+    requires apart { IsDistinct (eq_by_cmp node_cmp) rows.items }
+    ensures { IfOk result (λ sorted. sorted ≡ sort (before node_cmp) rows.items) }
+{
+    rows.sort_unstable_by_key(|row| row.id);
+    Rows::try_from_vec(rows)
 }
 
 /// The numbers, ascending.

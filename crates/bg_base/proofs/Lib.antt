@@ -3,6 +3,8 @@ pub mod SignatureLaws
 pub mod IndexLaws
 pub mod SearchLaws
 pub mod ClimbLaws
+pub mod MarkLaws
+pub mod Depths
 pub mod FaultLaws
 pub mod RowRules
 pub mod EqualityLaws

@@ -13,3 +13,4 @@ pub mod Translation
 pub mod Faults
 pub mod RowRules
 pub mod Lookup
+pub mod Climbing

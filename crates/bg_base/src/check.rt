@@ -1,5 +1,5 @@
 //! Whether a bigraph is valid under a signature.
-ghost use Rattle.std.specs.Prelude.{IsErrAnd, true, MatchOption, slice_set, ◌↔◌, ◌≡◌, ◌-◌, ◌^◌, ◌<◌, ◌≤◌, length, map, IfOk, OnOk, IsTrue, Some, None, slice_get, is_some, find};
+ghost use Rattle.std.specs.Prelude.{IsErrAnd, true, MatchOption, ◌↔◌, ◌≡◌, ◌-◌, ◌^◌, ◌<◌, ◌≤◌, length, map, IfOk, OnOk, IsTrue, Some, None, slice_get, is_some, find};
 ghost use Rattle.std.specs.Option.{option_copied};
 ghost use Rattle.std.specs.List.{list_all};
 ghost use Rattle.std.specs.Ordering.{nat_cmp};
@@ -7,10 +7,14 @@ ghost use Rattle.bg_base.specs.Order.{name_cmp};
 ghost use Rattle.bg_base.specs.Bigraph as rule;
 ghost use Rattle.bg_base.specs.Bigraph.{IsValidUnder};
 ghost use Rattle.bg_base.specs.Faults as fault;
-ghost use Rattle.bg_base.specs.Lookup.{IsFirstRow, IsIndex, IsLookup, IsSortedCopy, AreRooted};
+ghost use Rattle.bg_base.specs.Lookup.{IsFirstRow, IsIndex, IsLookup, IsSortedCopy, AreRooted, TellsRoot, has_root};
+ghost use Rattle.bg_base.specs.Climbing.{node_at};
 ghost use Rattle.bg_base.specs.Faults.{IsAnswer, IsMalformed};
 
-use crate::{Big, Control, InnerRow, Kind, Link, Name, NodeRow, Place, Signature};
+use crate::{
+    Big, Climbable, Control, Found, InnerRow, Kind, Link, Name, NodeRow, Place, Signature,
+    marked_value, no_marks,
+};
 use bg_lists::{Mem, OutOfMemory, copies};
 use std::alloc::{AllocError, AllocFailed, Global};
 use std::collections::BTreeMap;
@@ -328,82 +332,66 @@ fn row_at<'a>(big: &'a Big, lookup: &Lookup, node: u32) -> Option<(u32, &'a Node
     }
 }
 
-fn is_marked(marks: &[bool], at: u32) -> bool
-    ensures { IsTrue result ↔ (slice_get marks.now at ≡ Some true) }
-{
-    match marks.get(at as usize) {
-        Some(mark) => *mark,
-        None => false,
-    }
+/// The nodes of a bigraph, whose roots are looked for.
+#[derive(Drop)]
+struct Roots<'a> {
+    big: &'a Big,
+    lookup: &'a Lookup,
 }
 
-fn set_mark(marks: &mut [bool], at: u32)
-    ensures { marks.new ≡ slice_set marks.old at true }
-{
-    if (at as usize) < marks.len() {
-        marks[at as usize] = true;
-    }
+/// A place, and how many moves are left for the climb from it, since rows that are no bigraph may lead round.
+#[derive(Clone, Copy)]
+struct Foothold {
+    place: Place,
+    moves: u32,
 }
 
-/// Whether the node has a root. Climbs until a region, a marked row or a missing row; a marked row has a root.
-fn climbs(big: &Big, lookup: &Lookup, marks: &[bool], node: u32) -> bool
-    requires index { IsIndex lookup.now.nodes big.now.nodes }
-    requires marks { AreRooted big.now marks.now }
-    ensures { result ≡ rule.is_rooted big.now node }
-{
-    let mut place = Place::Node(node);
-    let mut moves = big.nodes.len();
-    while let Place::Node(lower) = place {
-        if moves == 0 {
-            return false;
-        }
-        let Some((at, row)) = row_at(big, lookup, lower) else {
-            return false;
+impl<'a> Climbable for Roots<'a> {
+    type Foothold = Foothold;
+
+    type Value = bool;
+
+    ghost is_foothold = { λ roots foothold. IsIndex roots.lookup.now.nodes roots.big.now.nodes × TellsRoot roots.big.now foothold.moves foothold.place };
+
+    ghost value = { λ roots foothold. has_root roots.big.now foothold.place };
+
+    ghost value_at = { λ roots at. rule.is_rooted roots.big.now (node_at roots.big.now.nodes at) };
+
+    ghost height = { λ roots foothold. foothold.moves };
+
+    fn find(&self, foothold: Foothold) -> Found<bool, Foothold> {
+        let Place::Node(node) = foothold.place else {
+            return Found::Value(has_place(self.big, self.lookup, foothold.place));
         };
-        if is_marked(marks, at) {
-            return true;
+        if foothold.moves == 0 {
+            return Found::Value(false);
         }
-        place = row.parent;
-        moves -= 1;
-    }
-    has_place(big, lookup, place)
-}
-
-/// Marks the rows from a node that has a root upwards, as far as they are not yet marked.
-fn mark_path(big: &Big, lookup: &Lookup, marks: &mut [bool], node: u32)
-    requires index { IsIndex lookup.now.nodes big.now.nodes }
-    requires marks { AreRooted big.now marks.old }
-    requires rooted { IsTrue (rule.is_rooted big.now node) }
-    ensures { AreRooted big.now marks.new }
-{
-    let mut place = Place::Node(node);
-    for _ in 0..big.nodes.len() {
-        let Place::Node(lower) = place else {
-            return;
-        };
-        let Some((at, row)) = row_at(big, lookup, lower) else {
-            return;
-        };
-        if is_marked(marks, at) {
-            return;
+        match row_at(self.big, self.lookup, node) {
+            Some((at, row)) => Found::Row {
+                at: at as usize,
+                above: Foothold {
+                    place: row.parent,
+                    moves: foothold.moves - 1,
+                },
+            },
+            None => Found::Value(false),
         }
-        set_mark(marks, at);
-        place = row.parent;
     }
 }
 
-/// Whether the node has a root; the rows on the way to it are marked then, so that none is climbed twice.
-fn is_rooted(big: &Big, lookup: &Lookup, marks: &mut [bool], node: u32) -> bool
+/// Whether the node has a root; the rows on the way are marked then, so that none is climbed from twice.
+fn is_rooted(big: &Big, lookup: &Lookup, marks: &mut [Option<bool>], node: u32) -> bool
     requires index { IsIndex lookup.now.nodes big.now.nodes }
     requires marks { AreRooted big.now marks.old }
     ensures value { result ≡ rule.is_rooted big.now node }
     ensures marks { AreRooted big.now marks.new }
 {
-    let found = climbs(big, lookup, marks, node);
-    if found {
-        mark_path(big, lookup, marks, node);
-    }
-    found
+    let roots = Roots { big, lookup };
+    let start = Foothold {
+        place: Place::Node(node),
+        moves: big.nodes.len(),
+    };
+    marked_value(&roots, marks, start)
 }
 
 /// Whether the control, the parent and the links of the node are there.
@@ -420,7 +408,7 @@ fn node_code(
     signature: &Signature,
     big: &Big,
     lookup: &Lookup,
-    marks: &mut [bool],
+    marks: &mut [Option<bool>],
     last: Option<u32>,
     row: &NodeRow,
 ) -> u8
@@ -449,7 +437,7 @@ fn first_node(
     signature: &Signature,
     big: &Big,
     lookup: &Lookup,
-    marks: &mut [bool],
+    marks: &mut [Option<bool>],
     rows: &[NodeRow],
 ) -> Option<(u32, u8)>
     requires lookup { IsLookup big.now lookup.now.nodes lookup.now.edges.items lookup.now.outer.items }
@@ -466,17 +454,6 @@ fn first_node(
         last = Some(row.id);
     }
     None
-}
-
-/// A mark for each row, none of them set.
-fn no_marks(alloc: Global, big: &Big) -> Mem<Vec<bool>>
-    ensures { IfOk result (λ marks. AreRooted big.now marks.items) }
-{
-    let mut marks = Vec::new(alloc);
-    for _ in 0..big.nodes.len() {
-        marks.push(false)?;
-    }
-    Ok(marks)
 }
 
 #[tactic(auto, unfolding(crate::specs::Faults::sites_fault))]
@@ -514,7 +491,7 @@ fn nodes_fault(
     signature: &Signature,
     big: &Big,
     lookup: &Lookup,
-    marks: &mut [bool],
+    marks: &mut [Option<bool>],
 ) -> Option<(u32, u8)>
     requires lookup { IsLookup big.now lookup.now.nodes lookup.now.edges.items lookup.now.outer.items }
     requires marks { AreRooted big.now marks.old }
@@ -530,7 +507,7 @@ fn judge(
     signature: &Signature,
     big: &Big,
     lookup: &Lookup,
-    marks: &mut [bool],
+    marks: &mut [Option<bool>],
 ) -> Option<(Part, u32, u8)>
     requires lookup { IsLookup big.now lookup.now.nodes lookup.now.edges.items lookup.now.outer.items }
     requires marks { AreRooted big.now marks.old }
@@ -578,7 +555,7 @@ impl Big {
         ensures malformed { IsErrAnd result IsMalformed → ¬ IsValidUnder signature.now self.now }
     {
         let lookup = lookup_of(alloc, self)?;
-        let mut marks = no_marks(alloc, self)?;
+        let mut marks = no_marks(alloc, self.nodes.as_slice().len())?;
         answer_of(judge(signature, self, &lookup, &mut marks))
     }
 }

@@ -2,7 +2,9 @@
 //!
 //! - [`Ident`], [`Text`], [`Name`], [`Value`], [`Label`]: what things are called.
 //! - [`Place`], [`Link`], [`NodeRow`], [`InnerRow`], [`Big`]: a concrete bigraph, row by row.
-//! - [`find_node`], [`has_edge`], [`find_inner`], [`has_outer`]: look-up in a valid bigraph, by number or by name.
+//! - [`find_node`], [`find_node_at`], [`has_edge`], [`find_inner`], [`has_outer`]: look-up in a valid bigraph, by
+//!   number or by name.
+//! - [`Climbable`], [`marked_value`], [`no_marks`]: climbs that leave marks.
 //! - [`Signature`], [`Control`], [`Kind`]: the controls that nodes may have.
 //! - [`Map`], [`Step`], [`Entry`], [`Journal`]: steps of a run.
 //! - [`limits`]: how large things may be.
@@ -10,6 +12,7 @@
 
 mod big;
 mod check;
+mod climbing;
 mod history;
 mod labels;
 mod laws;
@@ -22,13 +25,14 @@ mod text;
 
 pub use big::{Big, InnerRow, NodeRow};
 pub use check::{CheckFault, Part};
+pub use climbing::{Climbable, Found, marked_value, no_marks};
 pub use history::{Entry, Journal, Map, Step};
 pub use labels::{Label, Value};
 pub use laws::{
     equal_bigraphs_are_the_same, equal_signatures_are_the_same, named_rows_are_first_faults,
 };
 pub use links::PortLinks;
-pub use look_up::{find_inner, find_node, has_edge, has_outer};
+pub use look_up::{find_inner, find_node, find_node_at, has_edge, has_outer};
 pub use names::{Link, Name, Place};
 pub use signature::{Control, Kind, Signature, SignatureFault};
 pub use text::{Ident, Text, is_ident, is_text, is_text_byte, is_word_byte};

@@ -1,8 +1,9 @@
 //! Look-up in the rows of a valid bigraph, by binary search.
-ghost use Rattle.std.specs.Prelude.{◌≡◌, is_some, option_copied};
+ghost use Rattle.std.specs.Prelude.{◌≡◌, None, MatchOption, is_some, option_copied};
 ghost use Rattle.std.specs.List.Sorted.{IsStrictlySortedBy};
 ghost use Rattle.std.specs.Ordering.{nat_cmp};
 ghost use Rattle.bg_base.specs.Bigraph.{node_cmp, inner_cmp, row_of, edge_of, inner_of, outer_of};
+ghost use Rattle.bg_base.specs.Lookup.{IsFirstRow};
 ghost use Rattle.bg_base.specs.Order.{name_cmp};
 
 use crate::{InnerRow, Name, NodeRow};
@@ -13,8 +14,20 @@ pub fn find_node(rows: &[NodeRow], node: u32) -> Option<&NodeRow>
     requires ascending { IsStrictlySortedBy node_cmp rows.now }
     ensures { option_copied result ≡ row_of rows.now node }
 {
+    match find_node_at(rows, node) {
+        Some((_, row)) => Some(row),
+        None => None,
+    }
+}
+
+/// The row of the node and its position, in rows that ascend by number, or `None` where no row has that number.
+/// Takes no memory; logarithmic in the number of rows.
+pub fn find_node_at(rows: &[NodeRow], node: u32) -> Option<(usize, &NodeRow)>
+    requires ascending { IsStrictlySortedBy node_cmp rows.now }
+    ensures { MatchOption result (row_of rows.now node ≡ None) (λ found. IsFirstRow rows.now node found.0 found.1.now) }
+{
     match rows.binary_search_by_key(&node, |row| row.id) {
-        Ok(at) => Some(&rows[at]),
+        Ok(at) => Some((at, &rows[at])),
         Err(_) => None,
     }
 }

@@ -1,5 +1,5 @@
 -- How the forest keeps its rows.
-use Rattle.std.specs.Prelude.{◌≡◌, ℕ, suc, ◌+◌, ◌*◌, ◌<◌, Bool, false, Option, Some, List, length, map, filter, slice_get}
+use Rattle.std.specs.Prelude.{◌≡◌, ℕ, suc, ◌+◌, ◌*◌, ◌<◌, Bool, false, Some, unwrap_or, option_map, List, length, map, filter, slice_get}
 use Rattle.std.specs.List.Sorted.{IsStrictlySortedBy, IsNonDecreasingBy}
 use Rattle.std.specs.Ordering.{nat_cmp, on}
 use Rattle.std.specs.declared.cmp.Ordering.{Ordering}
@@ -50,11 +50,9 @@ abbrev pub lies_in : List ParentRow → ℕ → Place → Bool
 lies_in rows upper (Node node) = is_within rows upper node
 lies_in rows upper (Region region) = false
 
--- a mark for each row: whether it is known to lie in the node, or not to
-pub record AreMarked (rows : List ParentRow) (upper : ℕ) (marks : List (Option Bool)) : Type 0 where
-  pub count : length marks ≡ length rows
-  pub right : (at : ℕ) (row : ParentRow) (inside : Bool) → slice_get rows at ≡ Some row → slice_get marks at ≡ Some (Some inside)
-      → is_within rows upper row.node ≡ inside
+-- the node whose row stands there is that node, or lies in it
+abbrev pub lies_at : List ParentRow → ℕ → ℕ → Bool
+lies_at rows upper at = is_within rows upper (unwrap_or (option_map number_of (slice_get rows at)) 0)
 
 -- what a forest keeps at hand for its places
 pub record IsForest (places : Places) (children sites : List ParentRow) : Type 0 where

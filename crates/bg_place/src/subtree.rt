@@ -1,14 +1,15 @@
-//! The nodes that lie in a node. Each is climbed from until a region or a row that is known, and the rows on the way
-//! are marked, so that none is climbed from twice.
+//! The nodes that lie in a node. Each is climbed from until that node, a region or a row that is known, and the rows on
+//! the way are marked, so that none is climbed from twice.
 ghost use Rattle.std.specs.Prelude.{◌≡◌, ◌<◌, length, map, filter, None, Some, MatchOption, IfOk};
 ghost use Rattle.std.specs.List.Sorted.{IsStrictlySortedBy};
 ghost use Rattle.bg_place.specs.Places as defined;
-ghost use Rattle.bg_place.specs.Rows.{parent_cmp, AreMarked, IsRowOf, IsSettled};
+ghost use Rattle.bg_base.specs.Climbing.{AreMarks};
+ghost use Rattle.bg_place.specs.Rows.{parent_cmp, IsRowOf, IsSettled, lies_in, lies_at};
 
 use crate::ParentRow;
 use crate::graph::position;
-use bg_base::Place;
-use bg_lists::{Mem, mark_at, set_mark};
+use bg_base::{Climbable, Found, Place, marked_value, no_marks};
+use bg_lists::Mem;
 use std::alloc::Global;
 
 /// The row of the node, and its position.
@@ -22,85 +23,41 @@ fn row_at(rows: &[ParentRow], node: u32) -> Option<(usize, ParentRow)>
     }
 }
 
-/// Whether `lower` is `upper` or lies in it. Climbs until `upper`, a marked row or a region.
-fn lies_within(rows: &[ParentRow], marks: &[Option<bool>], upper: u32, lower: u32) -> bool
-    requires ascending { IsStrictlySortedBy parent_cmp rows.now }
-    requires settled { IsSettled rows.now }
-    requires some { 0 < length rows.now }
-    requires marks { AreMarked rows.now upper marks.now }
-    ensures { result ≡ defined.is_within rows.now upper lower }
-{
-    let mut place = Place::Node(lower);
-    let mut moves = rows.len();
-    while let Place::Node(node) = place {
-        if moves == 0 {
-            return false;
-        }
-        if node == upper {
-            return true;
-        }
-        let Some((at, row)) = row_at(rows, node) else {
-            return false;
-        };
-        if let Some(inside) = mark_at(marks, at) {
-            return inside;
-        }
-        moves -= 1;
-        place = row.parent;
-    }
-    false
+/// Rows, of which some lie in the node `upper`.
+#[derive(Drop)]
+struct Within<'a> {
+    rows: &'a [ParentRow],
+    upper: u32,
 }
 
-/// Marks the rows from `lower` upwards as `lower` is known, as far as they are not yet marked; none from `upper` on.
-fn mark_path(rows: &[ParentRow], marks: &mut [Option<bool>], upper: u32, lower: u32, inside: bool)
-    requires ascending { IsStrictlySortedBy parent_cmp rows.now }
-    requires settled { IsSettled rows.now }
-    requires marks { AreMarked rows.now upper marks.old }
-    requires known { inside ≡ defined.is_within rows.now upper lower }
-    ensures { AreMarked rows.now upper marks.new }
-{
-    let mut place = Place::Node(lower);
-    for _ in 0..rows.len() {
+impl<'a> Climbable for Within<'a> {
+    type Foothold = Place;
+
+    type Value = bool;
+
+    ghost is_foothold = { λ within _. IsStrictlySortedBy parent_cmp within.rows.now × IsSettled within.rows.now };
+
+    ghost value = { λ within place. lies_in within.rows.now within.upper place };
+
+    ghost value_at = { λ within at. lies_at within.rows.now within.upper at };
+
+    ghost height = { λ within place. length (defined.climb within.rows.now (length within.rows.now) place) };
+
+    fn find(&self, place: Place) -> Found<bool, Place> {
         let Place::Node(node) = place else {
-            return;
+            return Found::Value(false);
         };
-        if node == upper {
-            return;
+        if node == self.upper {
+            return Found::Value(true);
         }
-        let Some((at, row)) = row_at(rows, node) else {
-            return;
-        };
-        if mark_at(marks, at).is_some() {
-            return;
+        match row_at(self.rows, node) {
+            Some((at, row)) => Found::Row {
+                at,
+                above: row.parent,
+            },
+            None => Found::Value(false),
         }
-        set_mark(marks, at, inside);
-        place = row.parent;
     }
-}
-
-/// Whether `lower` is `upper` or lies in it; the rows on the way are marked then.
-fn finds_within(rows: &[ParentRow], marks: &mut [Option<bool>], upper: u32, lower: u32) -> bool
-    requires ascending { IsStrictlySortedBy parent_cmp rows.now }
-    requires settled { IsSettled rows.now }
-    requires some { 0 < length rows.now }
-    requires marks { AreMarked rows.now upper marks.old }
-    ensures value { result ≡ defined.is_within rows.now upper lower }
-    ensures marks { AreMarked rows.now upper marks.new }
-{
-    let inside = lies_within(rows, marks, upper, lower);
-    mark_path(rows, marks, upper, lower, inside);
-    inside
-}
-
-/// A mark for each row, of none of which anything is known.
-fn no_marks(alloc: Global, rows: &[ParentRow], upper: u32) -> Mem<Vec<Option<bool>>>
-    ensures { IfOk result (λ marks. AreMarked rows.now upper marks.items) }
-{
-    let mut marks = Vec::new(alloc);
-    for _ in 0..rows.len() {
-        marks.push(None)?;
-    }
-    Ok(marks)
 }
 
 /// The node and all that lie in it, by these marks.
@@ -112,12 +69,13 @@ fn collect_within(
 ) -> Mem<Vec<u32>>
     requires ascending { IsStrictlySortedBy parent_cmp rows.now }
     requires settled { IsSettled rows.now }
-    requires marks { AreMarked rows.now node marks.old }
+    requires marks { AreMarks (lies_at rows.now node) marks.old }
     ensures { IfOk result (λ nodes. nodes.items ≡ map defined.number_of (filter (λ row. defined.is_within rows.now node row.node) rows.now)) }
 {
+    let within = Within { rows, upper: node };
     let mut nodes = Vec::new(alloc);
     for row in rows {
-        if finds_within(rows, marks, node, row.node) {
+        if marked_value(&within, marks, Place::Node(row.node)) {
             nodes.push(row.node)?;
         }
     }
@@ -130,7 +88,7 @@ pub fn nodes_within(alloc: Global, rows: &[ParentRow], node: u32) -> Mem<Vec<u32
     requires settled { IsSettled rows.now }
     ensures { IfOk result (λ nodes. nodes.items ≡ map defined.number_of (filter (λ row. defined.is_within rows.now node row.node) rows.now)) }
 {
-    let mut marks = no_marks(alloc, rows, node)?;
+    let mut marks = no_marks(alloc, rows.len())?;
     let nodes = collect_within(alloc, rows, &mut marks, node)?;
     Ok(nodes)
 }

@@ -3,9 +3,7 @@ ghost use Rattle.std.specs.Prelude.{◌≡◌, ◌↔◌, ◌<◌, true, IsTrue,
 ghost use Rattle.bg_base.specs.Bigraph.{IsValid};
 
 use crate::made::{Ended, big_of, expect_listing, plain_name, told};
-use bg_algebra::{
-    AlgebraFault, compose, compose_by_rows, merge, nest, parallel, supports_apart, tensor,
-};
+use bg_algebra::{AlgebraFault, compose, merge, nest, parallel, tensor};
 use bg_base::Big;
 use bg_builder::Builder;
 use std::alloc::Global;
@@ -243,16 +241,6 @@ fn bigraphs_are_put_together_in_place(rt: HostRuntime) -> Result<(), Ended> {
         assert!(rt; told.as_slice() == text.as_bytes(), "{op:?} {text}");
     }
     Ok(())
-}
-
-#[test]
-fn a_plainer_program_composes_alike(rt: HostRuntime) -> Result<(), Ended> {
-    let g = big_of(rt.alloc(), ROOM)?;
-    let f = big_of(rt.alloc(), AGENT)?;
-    assert!(rt; supports_apart(&g, &f));
-    let whole = compose_by_rows(rt.alloc(), &g, &f)?;
-    let text = "bigraph 1\nsites 0\ninner 0\nouter 0\nedges 0\nnodes 2\n0 A r0\n1 B n0\n";
-    expect_listing(&rt, rt.alloc(), &whole, text)
 }
 
 /// The name x is closed in place, by edge 3.

@@ -3,7 +3,7 @@ use Rattle.std.proofs.lemmas.List.Sorted.{answers_always}
 use Rattle.bg_lists.proofs.Sorts.{sorted_by}
 use Rattle.bg_base.specs.declared.big.NodeRow.{NodeRow}
 use Rattle.bg_base.proofs.LookUps.{node_cmp_total}
-use Rattle.bg_algebra.proofs.by_rows.sorted_nodes.Goals as goal
+use Rattle.bg_algebra.proofs.renumbering.sorted_nodes.Goals as goal
 
 pub returns : goal.returns
 returns c =
