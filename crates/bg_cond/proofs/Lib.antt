@@ -7,6 +7,7 @@ pub mod Occurring
 pub mod SideLaws
 pub mod SortedImages
 pub mod ListLaws
+pub mod NoteLaws
 pub mod HostConditions
 pub mod FirstSteps
 pub mod Seeking

@@ -43,7 +43,7 @@ lost_among rows node e =
 -- ---- a sorted copy opens the same edges
 
 module _ (xs ys : List ℕ) (copy : IsSortedCopy nat_cmp xs ys) where
-  same_among : (number : ℕ) → is_among number ys ≡ is_among number xs
+  pub same_among : (number : ℕ) → is_among number ys ≡ is_among number xs
   same_among number = sym (list_any-IsPermutation (λ other. other == number) xs ys copy.same)
 
   opened_same : (link : Link) → opened ys link ≡ opened xs link

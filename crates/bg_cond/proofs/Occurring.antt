@@ -13,7 +13,8 @@ use Rattle.bg_rules.specs.Reaction.{HostState}
 use Rattle.bg_rules.specs.Solid.{IsPattern}
 use Rattle.bg_rules.specs.Decomposition.{Decomposes, Occurs}
 use Rattle.bg_rules.specs.LocalConditions.{MeetsLocally}
-use Rattle.bg_rules.proofs.Glued.{Glued, lifted}
+use Rattle.bg_rules.specs.Parting.{lifted}
+use Rattle.bg_rules.proofs.Glued.{Glued}
 use Rattle.bg_rules.proofs.Occurrences.{glued_of, occurs_locally, locally_occurs}
 use Rattle.bg_cond.specs.Pieces.{hole_control, piece, holes, parameter_piece, context_piece}
 use Rattle.bg_cond.proofs.Shown.{IsPiece, local_in_host, local_in_piece, maps_among}

@@ -64,10 +64,10 @@ module _ (host : HostState) (rules : List RuleParts) (step : Step) (is_host : Is
   -- ---- a step that is not enabled
 
   no_rule_none : length rules ≤ step.rule → IsNoOccurrence host rules step → ⊥
-  no_rule_none no none = let below = At-below none.there in omega (arith, no, below)
+  no_rule_none few none = let below = At-below none.there in omega (arith, few, below)
 
   no_rule_failing : {number : ℕ} → length rules ≤ step.rule → IsFirstFailing host rules step number → ⊥
-  no_rule_failing no failing = let below = At-below failing.there in omega (arith, no, below)
+  no_rule_failing few failing = let below = At-below failing.there in omega (arith, few, below)
 
   none_failing : {number : ℕ} → IsNoOccurrence host rules step → IsFirstFailing host rules step number → ⊥
   none_failing none failing =

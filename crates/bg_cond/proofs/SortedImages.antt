@@ -1,28 +1,34 @@
 -- Conditions asked beside the images in order say the same as beside the occurrence.
-use Rattle.std.proofs.Common.{◌≡◌, ℕ, ◌<◌, not, ◌&&◌, Bool, true, Option, Some, None, List, length, All, MatchOption, IsTrue, nat_cmp, refl, sym, ap, subst, ◌∙◌}
+use Rattle.std.proofs.Common.{◌≡◌, ℕ, zero, suc, ◌<◌, not, ◌&&◌, ◌||◌, Bool, true, false, unwrap_or, option_map, Option, Some, None, List, length, All, MatchOption, IsTrue, nat_cmp, refl, sym, ap, subst, ◌∙◌}
 use Rattle.std.specs.List.{list_all}
 use Rattle.bg_lists.specs.Lists.{Mem, At}
 use Rattle.bg_lists.proofs.Words.{All-member, All-from_members}
-use Rattle.bg_base.specs.declared.names.Place.TheVariants.{Node}
+use Rattle.bg_base.specs.declared.names.Place.{Place}
+use Rattle.bg_base.specs.declared.names.Place.TheVariants.{Node, Region}
+use Rattle.bg_base.specs.declared.big.NodeRow.{NodeRow}
 use Rattle.bg_base.specs.declared.big.Big.{Big}
+use Rattle.bg_base.specs.Bigraph.{row_of}
 use Rattle.bg_base.specs.Lookup.{IsSortedCopy}
 use Rattle.bg_rules.specs.declared.condition.Side.{Side}
 use Rattle.bg_rules.specs.declared.condition.Side.TheVariants.{Ctx, Param}
 use Rattle.bg_rules.specs.declared.condition.Condition.{Condition}
 use Rattle.bg_rules.specs.Climbs.{is_met}
-use Rattle.bg_decompose.specs.Marks.{is_covered}
-use Rattle.bg_decompose.proofs.Covered.{among_same, covered_same}
 use Rattle.bg_cond.specs.Sides.{lies_on, OccursOn, HoldsInHost}
 use Rattle.bg_cond.specs.Verdicts.{IsFirstUnmet}
+use Rattle.bg_cond.proofs.Made.{same_among}
 
 module _ (host : Big) (map images : List ℕ) (copy : IsSortedCopy nat_cmp map images) where
-  met_sorted : (node : ℕ) → is_met host.nodes images (length host.nodes) (Node node) ≡ is_met host.nodes map (length host.nodes) (Node node)
-  unfolding is_covered
-  met_sorted node = covered_same host map images (among_same map images copy.same) node
+  met_sorted : (moves : ℕ) (place : Place) → is_met host.nodes images moves place ≡ is_met host.nodes map moves place
+  unfolding is_met
+  met_sorted zero place = refl
+  met_sorted (suc moves) (Region region) = refl
+  met_sorted (suc moves) (Node node) =
+      λ t. same_among map images copy node t
+      || unwrap_or (option_map (λ (row : NodeRow). met_sorted moves row.parent t) (row_of host.nodes node)) false
 
   lies_sorted : (side : Side) (node : ℕ) → lies_on side host images node ≡ lies_on side host map node
-  lies_sorted Ctx node = λ t. not (met_sorted node t)
-  lies_sorted Param node = λ t. not (among_same map images copy.same node t) && met_sorted node t
+  lies_sorted Ctx node = λ t. not (met_sorted (length host.nodes) (Node node) t)
+  lies_sorted Param node = λ t. not (same_among map images copy node t) && met_sorted (length host.nodes) (Node node) t
 
   all_lie_sorted : (side : Side) (nodes : List ℕ) → list_all (lies_on side host images) nodes ≡ list_all (lies_on side host map) nodes
   all_lie_sorted side nodes = λ t. list_all (λ node. lies_sorted side node t) nodes

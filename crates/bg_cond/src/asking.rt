@@ -3,14 +3,14 @@ ghost use Rattle.std.specs.Prelude.{◌≡◌, ◌↔◌, IfOk, IsTrue};
 ghost use Rattle.bg_base.specs.Bigraph.{IsGround};
 ghost use Rattle.bg_rules.specs.Decomposition.{Occurs};
 ghost use Rattle.bg_rules.specs.declared.condition.Side.TheVariants.{Ctx, Param};
-ghost use Rattle.bg_cond.specs.Conditions.{HoldsIn, IsEnabled, HoldsAt};
+ghost use Rattle.bg_cond.specs.Conditions.{OccursSomewhere, HoldsIn, IsEnabled, HoldsAt};
 
 use crate::listed::occurs_somewhere;
 use crate::pieces::{context_piece, param_piece};
 use bg_base::Big;
 use bg_lists::Mem;
 use bg_match::HostIndex;
-use bg_rules::{Condition, Host, Rule, Side};
+use bg_rules::{Condition, Host, Pattern, Rule, Side};
 use std::alloc::Global;
 
 /// Whether the rule is enabled at nodes where its redex occurs: whether the pattern of each positive condition occurs in
@@ -81,7 +81,16 @@ fn holds_in(alloc: Global, piece: &Big, condition: &Condition) -> Mem<bool>
     requires ground { IsGround piece.now }
     ensures { IfOk result (λ answer. IsTrue answer ↔ HoldsIn piece.now condition.now) }
 {
-    let indexed = HostIndex::of(alloc, piece)?;
-    let occurs = occurs_somewhere(alloc, &indexed, &condition.pattern)?;
+    let occurs = occurs_in(alloc, piece, &condition.pattern)?;
     Ok(occurs == condition.positive)
+}
+
+/// Whether the pattern occurs in the piece.
+fn occurs_in(alloc: Global, piece: &Big, pattern: &Pattern) -> Mem<bool>
+    requires ground { IsGround piece.now }
+    ensures { IfOk result (λ answer. IsTrue answer ↔ OccursSomewhere piece.now pattern.now) }
+{
+    let indexed = HostIndex::of(alloc, piece)?;
+    let occurs = occurs_somewhere(alloc, &indexed, pattern)?;
+    Ok(occurs)
 }

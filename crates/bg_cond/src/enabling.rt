@@ -6,9 +6,8 @@ ghost use Rattle.bg_cond.specs.Lists.{AreListsOf};
 ghost use Rattle.bg_cond.specs.Sides.{LooksForNodes};
 
 use crate::holding::all_hold;
-use crate::listed::lists_for;
-use bg_base::Map;
-use bg_lists::{Mem, Rows};
+use crate::listed::{Listed, lists_for};
+use bg_lists::Mem;
 use bg_match::HostIndex;
 use bg_rules::{Host, Rule};
 use std::alloc::Global;
@@ -19,7 +18,7 @@ pub(crate) fn is_enabled_at<'a>(
     indexed: &HostIndex<'a>,
     host: &Host,
     rule: &'a Rule,
-    lists: &[Option<Rows<Map>>],
+    lists: &[Option<Listed>],
     map: &[u32],
 ) -> Mem<bool>
     requires indexed { indexed.now ≡ host.now.big }

@@ -3,14 +3,13 @@ ghost use Rattle.std.specs.Prelude.{◌≡◌, ◌↔◌, ◌<◌, ◌^◌, leng
 ghost use Rattle.std.specs.List.{All};
 ghost use Rattle.std.specs.List.Sorted.{IsSorted};
 ghost use Rattle.std.specs.Ordering.{nat_cmp};
-ghost use Rattle.bg_rules.specs.Occurrences.{AreOccurrences};
-ghost use Rattle.bg_cond.specs.Lists.{IsListOf, AreListsOf};
+ghost use Rattle.bg_cond.specs.Lists.{IsListOf, IsListingOf, AreListsOf};
 ghost use Rattle.bg_cond.specs.Sides.{OccursOn, HoldsInHost};
 ghost use Rattle.bg_cond.specs.Verdicts.{IsFirstUnmet};
 
+use crate::listed::Listed;
 use crate::sides::{in_order, lie_on, one_lies_on};
-use bg_base::Map;
-use bg_lists::{Mem, Rows};
+use bg_lists::Mem;
 use bg_match::HostIndex;
 use bg_rules::{Condition, Pattern, Side};
 use std::alloc::Global;
@@ -22,7 +21,7 @@ pub(crate) fn all_hold<'a>(
     indexed: &HostIndex<'a>,
     map: &[u32],
     conditions: &'a [Condition],
-    lists: &[Option<Rows<Map>>],
+    lists: &[Option<Listed>],
 ) -> Mem<bool>
     requires lists { AreListsOf indexed.now conditions.now lists.now }
     ensures { IfOk result (λ answer. IsTrue answer ↔ All (HoldsInHost indexed.now map.now) conditions.now) }
@@ -41,7 +40,7 @@ fn all_hold_beside<'a>(
     indexed: &HostIndex<'a>,
     images: &[u32],
     conditions: &'a [Condition],
-    lists: &[Option<Rows<Map>>],
+    lists: &[Option<Listed>],
 ) -> Mem<bool>
     requires sorted { IsSorted nat_cmp images.now }
     requires lists { AreListsOf indexed.now conditions.now lists.now }
@@ -61,47 +60,47 @@ fn holds_by<'a>(
     indexed: &HostIndex<'a>,
     images: &[u32],
     condition: &'a Condition,
-    list: &Option<Rows<Map>>,
+    list: &Option<Listed>,
 ) -> Mem<bool>
     requires sorted { IsSorted nat_cmp images.now }
-    requires list { IsListOf indexed.now condition.now.pattern list.now }
+    requires list { IsListOf indexed.now condition.now list.now }
     ensures { IfOk result (λ answer. IsTrue answer ↔ HoldsInHost indexed.now images.now condition.now) }
 {
     match list {
-        Some(maps) => Ok(holds_in_list(indexed, images, condition, maps)),
+        Some(listed) => Ok(holds_in_list(indexed, images, condition, listed)),
         None => holds(alloc, indexed, images, condition),
     }
 }
 
-/// Whether the condition holds at these images, where these are the occurrences of its pattern.
+/// Whether the condition holds at these images, where its list is made.
 fn holds_in_list<'a>(
     indexed: &HostIndex<'a>,
     images: &[u32],
     condition: &Condition,
-    maps: &[Map],
+    listed: &Listed,
 ) -> bool
     requires sorted { IsSorted nat_cmp images.now }
-    requires all { AreOccurrences indexed.now condition.now.pattern maps.now }
+    requires list { IsListingOf indexed.now condition.now listed.now }
     ensures { IsTrue result ↔ HoldsInHost indexed.now images.now condition.now }
 {
-    let occurs = is_on_side(indexed, condition.side, images, &condition.pattern, maps);
+    let occurs = is_on_side(indexed, images, condition, listed);
     occurs == condition.positive
 }
 
-/// Whether one of these occurrences of the pattern lies on that side of the images.
+/// Whether one of the listed occurrences of the condition's pattern lies on the condition's side of the images.
 fn is_on_side<'a>(
     indexed: &HostIndex<'a>,
-    side: Side,
     images: &[u32],
-    pattern: &Pattern,
-    maps: &[Map],
+    condition: &Condition,
+    listed: &Listed,
 ) -> bool
     requires sorted { IsSorted nat_cmp images.now }
-    requires all { AreOccurrences indexed.now pattern.now maps.now }
-    ensures { IsTrue result ↔ OccursOn side indexed.now images.now pattern.now }
+    requires list { IsListingOf indexed.now condition.now listed.now }
+    ensures { IsTrue result ↔ OccursOn condition.now.side indexed.now images.now condition.now.pattern }
 {
     let host = indexed.host();
-    one_lies_on(side, host, images, maps)
+    let _pattern = condition.pattern.big();
+    one_lies_on(condition.side, host, images, listed)
 }
 
 /// Whether the condition holds at these images.

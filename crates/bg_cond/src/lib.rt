@@ -12,6 +12,7 @@ mod judging;
 pub mod laws;
 mod legal;
 mod listed;
+mod notes;
 mod piece;
 mod pieces;
 mod sides;
