@@ -1,5 +1,5 @@
 -- A condition asked of a piece that was made is asked of the decomposition.
-use Rattle.std.proofs.Common.{◌≡◌, ℕ, Bool, true, false, List, All, IsTrue, sym, ap, subst, ◌∙◌}
+use Rattle.std.proofs.Common.{◌≡◌, ℕ, Bool, List, All, IsTrue, sym, subst}
 use Rattle.bg_lists.specs.Lists.{Mem}
 use Rattle.bg_lists.proofs.Words.{All-member, All-from_members}
 use Rattle.bg_base.specs.declared.big.Big.{Big}

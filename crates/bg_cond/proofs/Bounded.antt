@@ -1,33 +1,26 @@
 -- A piece is a ground bigraph: it is valid whatever part of the host it is made of, where that part is valid and its
 -- nodes are nodes of the host.
-use Rattle.std.proofs.Common.{◌≡◌, ℕ, ◌<◌, true, List, [], ◌++◌, unwrap_or, option_map, map, filter, nat_cmp, Less, All, IsTrue, refl, sym, ap, subst, ◌∙◌, ◌⊎◌, inl, inr}
+use Rattle.std.proofs.Common.{◌≡◌, true, List, [], ◌++◌, unwrap_or, option_map, nat_cmp, Less, refl, sym, ap, subst, inl, inr}
 use Rattle.std.specs.List.{list_all}
 use Rattle.std.specs.List.Sorted.{IsStrictlySortedBy}
-use Rattle.std.proofs.lemmas.Bool.{cases_Bool}
 use Rattle.bg_lists.specs.Lists.{Mem}
 use Rattle.bg_lists.specs.Orders.{Ascending}
-use Rattle.bg_lists.proofs.Members.{Mem-same, Mem-map, Mem-unmap, Mem-append_left, Mem-append_right, Mem-append_cases, Mem-filter}
-use Rattle.bg_lists.proofs.Ascents.{Ascending-append, Ascending-filter, Ascending-map, Ascending-from_sorted, sorted_from_Ascending}
-use Rattle.bg_lists.proofs.Words.{All-member, list_any-from_member, list_all-from_members}
-use Rattle.bg_base.specs.declared.names.Name.{Name}
-use Rattle.bg_base.specs.declared.names.Name.TheVariants.{Plain, Port, Opened}
+use Rattle.bg_lists.proofs.Members.{Mem-map, Mem-unmap, Mem-append_left, Mem-append_cases}
+use Rattle.bg_lists.proofs.Ascents.{Ascending-append, Ascending-map, Ascending-from_sorted, sorted_from_Ascending}
+use Rattle.bg_lists.proofs.Words.{list_all-from_members}
 use Rattle.bg_base.specs.declared.names.Place.{Place}
-use Rattle.bg_base.specs.declared.names.Place.TheVariants.{Node, Region}
 use Rattle.bg_base.specs.declared.names.Link.{Link}
 use Rattle.bg_base.specs.declared.names.Link.TheVariants.{Edge, Outer}
 use Rattle.bg_base.specs.declared.big.NodeRow.{NodeRow}
 use Rattle.bg_base.specs.declared.big.Big.{Big}
 use Rattle.bg_base.specs.Order.{name_cmp}
-use Rattle.bg_base.specs.Bigraph.{IsValid, IsGround, node_cmp, row_of, has_place, has_link}
+use Rattle.bg_base.specs.Bigraph.{IsValid, IsGround, node_cmp, has_place, has_link}
 use Rattle.bg_base.specs.Translation.{node_numbers}
-use Rattle.bg_base.proofs.LookUps.{has_row, has_edge, has_outer, row_of-member, row_from_row_of}
+use Rattle.bg_base.proofs.LookUps.{has_edge, has_outer, row_of-member, row_from_row_of}
 use Rattle.bg_base.proofs.Climbs.{Climb, at_region, at_node, Climb-from_place}
-use Rattle.bg_algebra.specs.Frame.{is_plain}
 use Rattle.bg_algebra.proofs.Parts.{IsSound, valid_from_rows}
-use Rattle.bg_rules.specs.Images.{is_tied}
-use Rattle.bg_rules.proofs.LinkImages.{tied_from}
 use Rattle.bg_rules.proofs.Parameters.{place_of_climb}
-use Rattle.bg_rules.proofs.Patterns.{parent_there, link_there, edge_there, name_there}
+use Rattle.bg_rules.proofs.Patterns.{parent_there}
 use Rattle.std.proofs.lemmas.Cmp.{nat_cmp_total}
 use Rattle.std.proofs.lemmas.Map.Lookups.{exact_unsigned}
 use Rattle.bg_base.proofs.NameLaws.{same_name}

@@ -1,7 +1,7 @@
 -- The first class, rule by rule.
 use Rattle.std.proofs.Common.{◌≡◌, ℕ, ◌+◌, ◌<◌, ◌≤◌, true, false, ltb-true, lt-ltb, Option, None, Some, MatchOption, List, length, get_or, All, refl, sym, ap, subst, ◌∙◌, arith, inl, inr, ◌⊎◌}
 use Rattle.std.proofs.lemmas.Bool.{cases_lt, false≢true}
-use Rattle.bg_lists.specs.Lists.{Mem, At}
+use Rattle.bg_lists.specs.Lists.{At}
 use Rattle.bg_lists.proofs.Places.{At-one, At-below, At-from_Mem}
 use Rattle.bg_lists.proofs.Words.{All-member, All-from_members}
 use Rattle.bg_base.specs.declared.big.NodeRow.{NodeRow}
@@ -11,11 +11,11 @@ use Rattle.bg_rules.specs.Rules.{RuleParts}
 use Rattle.bg_rules.specs.Solid.{IsPattern}
 use Rattle.bg_base.specs.Bigraph.{IsValidUnder}
 use Rattle.bg_rules.specs.Systems.{SystemParts, IsSystem, IsRuleUnder}
-use Rattle.bg_cond.specs.Conditions.{IsEnabled, IsEnabledSomewhere}
+use Rattle.bg_cond.specs.Conditions.{IsEnabledSomewhere}
 use Rattle.bg_cond.specs.Found.{is_higher, IsHigherOf, kept, raised}
 use Rattle.bg_cond.specs.Pieces.{hole_control}
 use Rattle.bg_cond.specs.Sides.{IsSought, LooksForNodes}
-use Rattle.bg_cond.specs.Steps.{IsEnabledStep, IsHighest, IsFirstClass, IsQuiet}
+use Rattle.bg_cond.specs.Steps.{IsFirstClass, IsQuiet}
 use Rattle.bg_cond.proofs.Upto.{item_at}
 
 -- ---- the rules of a system look for nodes

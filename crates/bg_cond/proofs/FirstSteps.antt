@@ -1,5 +1,5 @@
 -- The first so many of some steps, as they are found one after the other.
-use Rattle.std.proofs.Common.{◌≡◌, ℕ, suc, ◌+◌, ◌<◌, ◌≤◌, List, [], ◌∷◌, ◌++◌, length, nat_cmp, Less, Equal, refl, sym, ap, subst, ◌∙◌, ◌⊎◌, inl, inr, arith, Ordering}
+use Rattle.std.proofs.Common.{◌≡◌, ℕ, ◌+◌, ◌<◌, List, [], ◌∷◌, ◌++◌, length, nat_cmp, Less, refl, sym, ap, subst, ◌∙◌, ◌⊎◌, inl, inr, arith, Ordering}
 use Rattle.std.specs.Ordering.{ordering_then}
 use Rattle.std.specs.Cmp.Lexicographic.{slice_cmp}
 use Rattle.std.proofs.lemmas.Cmp.{tied_itself, nat_cmp_total}
@@ -7,10 +7,10 @@ use Rattle.std.proofs.lemmas.Bool.{cases_lt}
 use Rattle.std.proofs.lemmas.List.{append_assoc}
 use Rattle.bg_lists.specs.Lists.{Mem, here, there, At}
 use Rattle.bg_lists.specs.Orders.{Ascending, asc_nil, asc_cons}
-use Rattle.bg_lists.proofs.Comparisons.{nat_cmp-lt, Less-not_itself}
-use Rattle.bg_lists.proofs.Members.{Mem-same, Mem-append_left, Mem-append_right, Mem-append_cases, Mem-cons_cases}
+use Rattle.bg_lists.proofs.Comparisons.{nat_cmp-lt}
+use Rattle.bg_lists.proofs.Members.{Mem-append_left, Mem-append_right, Mem-append_cases, Mem-cons_cases}
 use Rattle.bg_lists.proofs.Places.{At-one, At-below, Mem-from_At, length-append_one}
-use Rattle.bg_lists.proofs.Ascents.{Ascending-append, Ascending-head, Ascending-tail}
+use Rattle.bg_lists.proofs.Ascents.{Ascending-append}
 use Rattle.bg_base.specs.declared.big.Big.{Big}
 use Rattle.bg_base.specs.declared.history.Step.{Step}
 use Rattle.bg_rules.specs.Decomposition.{Occurs}

@@ -1,6 +1,5 @@
 -- Conditions asked of the pieces, and of the whole host: they say the same of a pattern without holes.
-use Rattle.std.proofs.Common.{◌≡◌, ℕ, ◌<◌, Bool, true, false, List, length, All, IsTrue, refl, sym, ap, subst, ◌∙◌, ◌⊎◌, inl, inr, arith}
-use Rattle.std.specs.List.{list_all}
+use Rattle.std.proofs.Common.{◌≡◌, ℕ, ◌<◌, Bool, List, All, IsTrue, sym, subst, ◌∙◌, arith}
 use Rattle.bg_lists.specs.Lists.{Mem}
 use Rattle.bg_lists.proofs.Members.{Mem-same}
 use Rattle.bg_lists.proofs.Words.{All-member, All-from_members, list_all-member, list_all-from_members}
@@ -18,7 +17,7 @@ use Rattle.bg_rules.specs.Decomposition.{Decomposes, Occurs}
 use Rattle.bg_rules.proofs.Glued.{Glued}
 use Rattle.bg_rules.proofs.Occurrences.{glued_of, occurs_locally}
 use Rattle.bg_rules.proofs.Patterns.{image_row, number_mem}
-use Rattle.bg_cond.specs.Pieces.{hole_control, parameter_piece, context_piece}
+use Rattle.bg_cond.specs.Pieces.{hole_control}
 use Rattle.bg_cond.specs.Conditions.{OccursSomewhere, piece_on, Holds, IsEnabled}
 use Rattle.bg_cond.specs.Sides.{lies_on, OccursOn, HoldsInHost, IsSought, LooksForNodes}
 use Rattle.bg_cond.proofs.Occurring.{parameter_occurs, occurs_in_parameter, context_occurs, occurs_in_context}

@@ -1,19 +1,18 @@
 -- The verdict on a step.
-use Rattle.std.proofs.Common.{◌≡◌, ℕ, ◌<◌, ◌≤◌, List, [], ◌∷◌, length, All, refl, sym, ap, subst, ◌∙◌, arith, inl, inr}
+use Rattle.std.proofs.Common.{◌≡◌, ℕ, ◌<◌, List, [], ◌∷◌, All, refl, sym, subst, arith, inl, inr}
 use Rattle.std.proofs.lemmas.Bool.{cases_lt}
 use Rattle.bg_lists.specs.Lists.{Mem, here, At}
-use Rattle.bg_lists.proofs.Places.{At-one, Mem-from_At}
+use Rattle.bg_lists.proofs.Places.{Mem-from_At}
 use Rattle.bg_lists.proofs.Words.{All-member}
 use Rattle.bg_base.specs.declared.big.Big.{Big}
 use Rattle.bg_base.specs.declared.history.Step.{Step}
 use Rattle.bg_rules.specs.declared.condition.Condition.{Condition}
-use Rattle.bg_rules.specs.Decomposition.{Decomposes, Occurs}
+use Rattle.bg_rules.specs.Decomposition.{Occurs}
 use Rattle.bg_rules.specs.Hosts.{IsHost}
 use Rattle.bg_rules.specs.Reaction.{HostState}
 use Rattle.bg_rules.specs.Rules.{RuleParts}
-use Rattle.bg_cond.specs.Conditions.{Holds, IsEnabled}
 use Rattle.bg_cond.specs.Sides.{HoldsInHost, IsSought, LooksForNodes}
-use Rattle.bg_cond.specs.Steps.{IsEnabledStep, IsHighest, IsFirstClass, IsQuiet, IsLegal, AreFirst, AreFirstLegal}
+use Rattle.bg_cond.specs.Steps.{IsEnabledStep, IsHighest, IsFirstClass, IsQuiet, IsLegal, AreFirstLegal}
 use Rattle.bg_cond.specs.declared.verdict.Verdict.{Verdict}
 use Rattle.bg_cond.specs.Verdicts.{IsNoOccurrence, IsFirstFailing, IsHigher, IsFirstUnmet, IsJudged, verdict_of}
 use Rattle.bg_cond.proofs.HostConditions.{holds_in_host, holds_in_pieces, enabled_from_host}

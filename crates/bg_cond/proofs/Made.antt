@@ -1,10 +1,9 @@
 -- How a piece is made.
-use Rattle.std.proofs.Common.{◌≡◌, ℕ, zero, suc, ◌+◌, ◌<◌, ◌≤◌, ◌==◌, Bool, true, false, Option, Some, None, is_some, is_ok, Result, List, [], ◌∷◌, ◌++◌, length, get_or, drop, map, nat_cmp, IsPermutation, if◌then◌else◌, refl, sym, ap, subst, ◌∙◌, arith}
+use Rattle.std.proofs.Common.{◌≡◌, ℕ, ◌+◌, ◌<◌, ◌==◌, true, false, Some, None, is_some, is_ok, Result, List, [], ◌∷◌, ◌++◌, length, get_or, drop, map, nat_cmp, if◌then◌else◌, refl, sym, ap, subst, ◌∙◌, arith}
 use Rattle.std.specs.List.Sorted.{IsSorted, IsSearchInRange, IsBinarySearchResult}
 use Rattle.std.proofs.lemmas.List.{append_assoc, append-nil, drop_more}
 use Rattle.std.proofs.lemmas.List.Sorted.{list_any-IsPermutation, IsPermutation-refl}
 use Rattle.bg_lists.specs.Lists.{Mem}
-use Rattle.bg_lists.proofs.Members.{Mem-map, Mem-unmap}
 use Rattle.bg_lists.proofs.Words.{found_any}
 use Rattle.bg_base.specs.declared.names.Name.TheVariants.{Opened}
 use Rattle.bg_base.specs.declared.names.Place.{Place}
@@ -14,12 +13,12 @@ use Rattle.bg_base.specs.declared.big.NodeRow.{NodeRow}
 use Rattle.bg_base.specs.Bigraph.{row_of}
 use Rattle.bg_base.specs.Lookup.{IsSortedCopy}
 use Rattle.bg_base.specs.Translation.{node_numbers}
-use Rattle.bg_base.proofs.LookUps.{row_from_row_of, row_from_has, has_row}
+use Rattle.bg_base.proofs.LookUps.{row_from_row_of, has_row}
 use Rattle.bg_base.proofs.SearchLaws.{edge_searched}
 use Rattle.bg_rules.specs.Instantiation.{is_among}
 use Rattle.bg_rules.proofs.Patterns.{number_mem, number_row}
 use Rattle.bg_rules.proofs.Upwards.{is_among-member, is_among-none}
-use Rattle.bg_cond.specs.Pieces.{hole_control, holes, opened, links_at, piece_row, edges_outside}
+use Rattle.bg_cond.specs.Pieces.{hole_control, holes, opened, links_at, piece_row}
 
 -- ---- searches
 

@@ -1,22 +1,19 @@
 -- The law of pieces: a pattern occurs in a piece exactly where it occurs in the host at nodes of the piece.
-use Rattle.std.proofs.Common.{◌≡◌, ℕ, ◌<◌, List, [], All, IsTrue}
+use Rattle.std.proofs.Common.{◌≡◌, ℕ, ◌<◌, List, []}
 use Rattle.bg_lists.specs.Lists.{Mem}
 use Rattle.bg_lists.proofs.Words.{All-member}
-use Rattle.bg_base.specs.declared.names.Name.{Name}
 use Rattle.bg_base.specs.declared.big.NodeRow.{NodeRow}
 use Rattle.bg_base.specs.declared.big.Big.{Big}
 use Rattle.bg_base.specs.Bigraph.{IsGround}
 use Rattle.bg_base.specs.Translation.{node_numbers}
-use Rattle.bg_algebra.specs.Frame.{is_plain}
 use Rattle.bg_rules.specs.Hosts.{IsHost}
 use Rattle.bg_rules.specs.Reaction.{HostState}
 use Rattle.bg_rules.specs.Solid.{IsPattern}
 use Rattle.bg_rules.specs.Decomposition.{Decomposes, Occurs}
-use Rattle.bg_rules.specs.LocalConditions.{MeetsLocally}
 use Rattle.bg_rules.specs.Parting.{lifted}
 use Rattle.bg_rules.proofs.Glued.{Glued}
 use Rattle.bg_rules.proofs.Occurrences.{glued_of, occurs_locally, locally_occurs}
-use Rattle.bg_cond.specs.Pieces.{hole_control, piece, holes, parameter_piece, context_piece}
+use Rattle.bg_cond.specs.Pieces.{hole_control, holes, parameter_piece, context_piece}
 use Rattle.bg_cond.proofs.Shown.{IsPiece, local_in_host, local_in_piece, maps_among}
 use Rattle.bg_cond.proofs.Bounded.{piece_ground}
 use Rattle.bg_cond.proofs.PiecesOf.{context_part, context_is_piece, parameter_part, parameter_is_piece}

@@ -1,7 +1,7 @@
 -- No two verdicts are right of one step at one host.
-use Rattle.std.proofs.Common.{◌≡◌, ℕ, ◌<◌, ◌≤◌, List, [], ◌∷◌, length, All, refl, sym, ap, subst, ◌∙◌, arith, inl, inr}
+use Rattle.std.proofs.Common.{◌≡◌, ℕ, ◌<◌, ◌≤◌, List, [], ◌∷◌, length, All, refl, sym, ap, subst, arith, inl, inr}
 use Rattle.std.proofs.lemmas.Bool.{cases_lt}
-use Rattle.bg_lists.specs.Lists.{Mem, At}
+use Rattle.bg_lists.specs.Lists.{At}
 use Rattle.bg_lists.proofs.Places.{At-one, At-below, Mem-from_At}
 use Rattle.bg_lists.proofs.Words.{All-member}
 use Rattle.bg_base.specs.declared.big.Big.{Big}
@@ -13,7 +13,7 @@ use Rattle.bg_rules.specs.Reaction.{HostState}
 use Rattle.bg_rules.specs.Rules.{RuleParts, IsRule}
 use Rattle.bg_rules.proofs.Occurrences.{one_decomposition}
 use Rattle.bg_cond.specs.Conditions.{Holds, IsEnabled}
-use Rattle.bg_cond.specs.Steps.{IsEnabledStep, IsLegal, AreFirstLegal}
+use Rattle.bg_cond.specs.Steps.{IsEnabledStep, IsLegal}
 use Rattle.bg_cond.specs.declared.verdict.Verdict.{Verdict}
 use Rattle.bg_cond.specs.declared.verdict.Verdict.TheVariants.{Legal, NoRule, NotEmbedding, ConditionFails, HigherClass}
 use Rattle.bg_cond.specs.Verdicts.{IsNoOccurrence, IsFirstFailing, IsHigher, IsJudged}

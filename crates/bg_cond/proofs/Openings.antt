@@ -1,28 +1,22 @@
 -- The links of a piece: an edge is opened exactly where a port outside of the piece has it, and no two links of the host
 -- become one.
-use Rattle.std.proofs.Common.{◌≡◌, ℕ, ◌&&◌, not, Bool, true, false, List, [], ◌∷◌, ◌++◌, map, filter, nat_cmp, Less, IsTrue, All, refl, sym, ap, subst, ◌∙◌, ◌⊎◌, inl, inr}
-use Rattle.std.specs.List.{list_any}
-use Rattle.std.specs.List.Sorted.{IsStrictlySortedBy}
-use Rattle.std.proofs.lemmas.Bool.{cases_Bool, cond-true, cond-false, and_parts, and_from, not_from_false, not-true, false≢true, false_from_ne_true}
+use Rattle.std.proofs.Common.{◌≡◌, ℕ, not, true, false, List, [], ◌∷◌, filter, IsTrue, All, refl, sym, ap, subst, ◌∙◌, inl, inr}
+use Rattle.std.proofs.lemmas.Bool.{cases_Bool, cond-true, cond-false, not_from_false, not-true}
 use Rattle.bg_lists.specs.Lists.{Mem, here, there, At}
-use Rattle.bg_lists.specs.Orders.{Ascending}
-use Rattle.bg_lists.proofs.Members.{Mem-same, Mem-map, Mem-unmap, Mem-append_left, Mem-append_right, Mem-append_cases, Mem-filter, Mem-unfilter}
+use Rattle.bg_lists.proofs.Members.{Mem-append_left, Mem-append_right, Mem-append_cases, Mem-filter, Mem-unfilter}
 use Rattle.bg_lists.proofs.Places.{Mem-from_At, At-from_Mem}
-use Rattle.bg_lists.proofs.Ascents.{Ascending-append, Ascending-filter, Ascending-map, Ascending-from_sorted, sorted_from_Ascending}
-use Rattle.bg_lists.proofs.Words.{All-member, list_any-from_member, member_from_list_any}
+use Rattle.bg_lists.proofs.Words.{All-member}
 use Rattle.bg_base.specs.declared.names.Name.{Name}
-use Rattle.bg_base.specs.declared.names.Name.TheVariants.{Plain, Port, Opened}
+use Rattle.bg_base.specs.declared.names.Name.TheVariants.{Opened}
 use Rattle.bg_base.specs.declared.names.Link.{Link}
 use Rattle.bg_base.specs.declared.names.Link.TheVariants.{Edge, Outer}
 use Rattle.bg_base.specs.declared.big.NodeRow.{NodeRow}
 use Rattle.bg_base.specs.declared.big.Big.{Big}
-use Rattle.bg_base.specs.Order.{name_cmp}
-use Rattle.bg_base.specs.Bigraph.{IsValid, has_link}
-use Rattle.bg_base.proofs.LookUps.{has_edge, has_outer}
+use Rattle.bg_base.specs.Bigraph.{IsValid}
 use Rattle.bg_algebra.specs.Frame.{is_plain}
 use Rattle.bg_rules.specs.Instantiation.{is_among}
-use Rattle.bg_rules.proofs.Patterns.{link_there, edge_there, name_there}
-use Rattle.bg_rules.proofs.Upwards.{is_among-member, is_among-none, among_cases, not_among}
+use Rattle.bg_rules.proofs.Patterns.{link_there, name_there}
+use Rattle.bg_rules.proofs.Upwards.{is_among-none, among_cases, not_among}
 use Rattle.bg_cond.specs.Pieces.{edges_in, names_in, tied_edges, tied_names, edges_outside, opened}
 
 plain_not_opened : {name : Name} {edge : ℕ} → is_plain name ≡ true → name ≡ Opened edge → ⊥

@@ -1,5 +1,5 @@
 -- A run has one end.
-use Rattle.std.proofs.Common.{◌≡◌, List, [], ◌∷◌, All, sym, subst, ◌∙◌}
+use Rattle.std.proofs.Common.{◌≡◌, List, All, sym, subst, ◌∙◌}
 use Rattle.bg_lists.proofs.Places.{At-one, Mem-from_At}
 use Rattle.bg_lists.proofs.Words.{All-member}
 use Rattle.bg_base.specs.declared.history.Entry.{Entry}

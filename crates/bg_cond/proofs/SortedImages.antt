@@ -1,7 +1,6 @@
 -- Conditions asked beside the images in order say the same as beside the occurrence.
-use Rattle.std.proofs.Common.{◌≡◌, ℕ, zero, suc, ◌<◌, not, ◌&&◌, ◌||◌, Bool, true, false, unwrap_or, option_map, Option, Some, None, List, length, All, MatchOption, IsTrue, nat_cmp, refl, sym, ap, subst, ◌∙◌}
+use Rattle.std.proofs.Common.{◌≡◌, ℕ, zero, suc, not, ◌&&◌, ◌||◌, Bool, false, unwrap_or, option_map, Option, Some, None, List, length, All, MatchOption, IsTrue, nat_cmp, refl, sym, ◌∙◌}
 use Rattle.std.specs.List.{list_all}
-use Rattle.bg_lists.specs.Lists.{Mem, At}
 use Rattle.bg_lists.proofs.Words.{All-member, All-from_members}
 use Rattle.bg_base.specs.declared.names.Place.{Place}
 use Rattle.bg_base.specs.declared.names.Place.TheVariants.{Node, Region}

@@ -1,5 +1,5 @@
 -- Which steps are legal, and runs.
-use Rattle.std.specs.Prelude.{◌≡◌, ℕ, ◌≤◌, ◌⊎◌, Option, None, Some, List, [], ◌∷◌, length}
+use Rattle.std.specs.Prelude.{◌≡◌, ℕ, ◌≤◌, ◌⊎◌, List, [], ◌∷◌, length}
 use Rattle.std.specs.Ordering.{nat_cmp, ordering_then}
 use Rattle.std.specs.Cmp.Lexicographic.{slice_cmp}
 use Rattle.std.specs.declared.cmp.Ordering.{Ordering}
@@ -11,7 +11,6 @@ use Rattle.bg_base.specs.declared.history.Entry.{Entry}
 use Rattle.bg_rules.specs.Limits.{IsWithinLimits}
 use Rattle.bg_rules.specs.Reaction.{HostState, Reacts}
 use Rattle.bg_rules.specs.Rules.{RuleParts}
-use Rattle.bg_rules.specs.Systems.{SystemParts}
 use Rattle.bg_cond.specs.Conditions.{IsEnabled}
 
 -- no rule of a higher class, that is of a class with a lower number, is enabled anywhere

@@ -1,6 +1,6 @@
-use Rattle.std.proofs.Common.{◌≡◌, true, IsTrue, rules, refl, ap, sym, ◌∙◌}
+use Rattle.std.proofs.Common.{IsTrue, rules, refl}
 use Rattle.bg_cond.specs.Sides.{HoldsInHost}
-use Rattle.bg_cond.proofs.Upto.{upto_none, upto_next, upto_all}
+use Rattle.bg_cond.proofs.Upto.{upto_next, upto_all}
 use Rattle.bg_cond.proofs.ListLaws.{list_there}
 use Rattle.bg_cond.proofs.holding.all_hold_beside.Goals as goal
 

@@ -1,4 +1,4 @@
-use Rattle.std.proofs.Common.{ℕ, List, nat_cmp, sym, subst}
+use Rattle.std.proofs.Common.{nat_cmp, sym, subst}
 use Rattle.bg_base.specs.Lookup.{IsSortedCopy}
 use Rattle.bg_cond.proofs.SortedImages.{found_from_sorted}
 use Rattle.bg_cond.proofs.holding.first_unmet.Goals as goal

@@ -1,4 +1,4 @@
-use Rattle.std.proofs.Common.{ℕ, List, subst}
+use Rattle.std.proofs.Common.{subst}
 use Rattle.bg_cond.specs.Lists.{IsNotedFor}
 use Rattle.bg_cond.proofs.NoteLaws.{all_next, all_end}
 use Rattle.bg_cond.proofs.notes.notes_for.Goals as goal
