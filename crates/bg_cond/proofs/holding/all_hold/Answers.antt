@@ -1,0 +1,10 @@
+use Rattle.std.proofs.Common.{nat_cmp, sym, subst}
+use Rattle.bg_base.specs.Lookup.{IsSortedCopy}
+use Rattle.bg_cond.proofs.SortedImages.{answer_from_sorted}
+use Rattle.bg_cond.proofs.holding.all_hold.Goals as goal
+
+pub returns : goal.returns
+returns c =
+    answer_from_sorted c.args.indexed.now c.args.map.now c.as_slice.result.now
+    (subst (λ images. IsSortedCopy nat_cmp c.args.map.now images) (sym c.as_slice.ensures.value) c.in_ok-images.ensures) c.args.conditions.now
+    c.in_ok-hold.hold c.in_ok-hold.ensures

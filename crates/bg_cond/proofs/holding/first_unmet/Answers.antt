@@ -1,0 +1,10 @@
+use Rattle.std.proofs.Common.{nat_cmp, sym, subst}
+use Rattle.bg_base.specs.Lookup.{IsSortedCopy}
+use Rattle.bg_cond.proofs.SortedImages.{found_from_sorted}
+use Rattle.bg_cond.proofs.holding.first_unmet.Goals as goal
+
+pub returns : goal.returns
+returns c =
+    found_from_sorted c.args.indexed.now c.args.map.now c.as_slice.result.now
+    (subst (λ images. IsSortedCopy nat_cmp c.args.map.now images) (sym c.as_slice.ensures.value) c.in_ok-images.ensures) c.args.conditions.now
+    c.in_ok-found.found c.in_ok-found.ensures

@@ -1,0 +1,14 @@
+use Rattle.std.proofs.Common.{subst}
+use Rattle.bg_cond.specs.Lists.{IsNotedFor}
+use Rattle.bg_cond.proofs.NoteLaws.{all_next, all_end}
+use Rattle.bg_cond.proofs.notes.notes_for.Goals as goal
+
+pub loop-number-preserved : goal.loop-number-preserved
+loop-number-preserved c =
+    all_next c.args.host.now c.args.maps.now c.loop-number.notes c.note_map.new.notes c.loop-number.number c.index-maps-number.result
+    c.loop-number-test.true c.index-maps-number.is
+    (subst (λ map. IsNotedFor c.args.host.now c.loop-number.notes c.note_map.new.notes map) c.as_slice.ensures.same c.in_ok-note_map.ensures)
+    c.loop-number.invariant
+
+pub returns : goal.returns
+returns c = all_end c.args.host.now c.args.maps.now c.loop-number.notes c.loop-number.number c.loop-number-test.false c.loop-number.invariant
