@@ -14,9 +14,7 @@ use crate::lines::{Row, number_line};
 use crate::names::{inner, link, name, place};
 use crate::number::number;
 use bg_base::limits::MOST_PORTS;
-use bg_base::{
-    Control, InnerRow, Kind, Label, Link, Name, NodeRow, Place, PortLinks, Signature,
-};
+use bg_base::{Control, InnerRow, Kind, Label, Link, Name, NodeRow, Place, PortLinks, Signature};
 use smallvec::SmallVec;
 use std::alloc::Global;
 
