@@ -21,3 +21,5 @@ pub mod Judged
 pub mod OneList
 pub mod OneVerdict
 pub mod Runs
+pub mod DrawnRuns
+pub mod Taking

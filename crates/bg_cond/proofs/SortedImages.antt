@@ -12,6 +12,7 @@ use Rattle.bg_rules.specs.declared.condition.Side.{Side}
 use Rattle.bg_rules.specs.declared.condition.Side.TheVariants.{Ctx, Param}
 use Rattle.bg_rules.specs.declared.condition.Condition.{Condition}
 use Rattle.bg_rules.specs.Climbs.{is_met}
+use Rattle.bg_decompose.specs.Marks.{is_covered}
 use Rattle.bg_cond.specs.Sides.{lies_on, OccursOn, HoldsInHost}
 use Rattle.bg_cond.specs.Verdicts.{IsFirstUnmet}
 use Rattle.bg_cond.proofs.Made.{same_among}
@@ -26,6 +27,7 @@ module _ (host : Big) (map images : List ℕ) (copy : IsSortedCopy nat_cmp map i
       || unwrap_or (option_map (λ (row : NodeRow). met_sorted moves row.parent t) (row_of host.nodes node)) false
 
   lies_sorted : (side : Side) (node : ℕ) → lies_on side host images node ≡ lies_on side host map node
+  unfolding is_covered
   lies_sorted Ctx node = λ t. not (met_sorted (length host.nodes) (Node node) t)
   lies_sorted Param node = λ t. not (same_among map images copy node t) && met_sorted (length host.nodes) (Node node) t
 

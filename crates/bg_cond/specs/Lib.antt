@@ -5,3 +5,5 @@ pub mod Lists
 pub mod Steps
 pub mod Found
 pub mod Verdicts
+pub mod Picks
+pub mod Drawn

@@ -8,7 +8,7 @@ use Rattle.bg_lists.specs.Lists.{Mem, At}
 use Rattle.bg_lists.specs.Orders.{Ascending}
 use Rattle.bg_base.specs.declared.history.Step.{Step}
 use Rattle.bg_base.specs.declared.history.Entry.{Entry}
-use Rattle.bg_rules.specs.Limits.{IsWithinLimits}
+use Rattle.bg_rules.specs.Limits.{IsWithinLimits, PassesALimit}
 use Rattle.bg_rules.specs.Reaction.{HostState, Reacts}
 use Rattle.bg_rules.specs.Rules.{RuleParts}
 use Rattle.bg_cond.specs.Conditions.{IsEnabled}
@@ -63,11 +63,33 @@ pub record AreLegal (host : HostState) (rules : List RuleParts) (steps : List St
   pub legal : (step : Step) → Mem step steps → IsLegal host rules step
   pub all : (step : Step) → IsLegal host rules step → Mem step steps
 
+-- no step is legal
+pub record HasNoStep (host : HostState) (rules : List RuleParts) : Type 0 where
+  pub none : (step : Step) → IsLegal host rules step → ⊥
+
+-- ---- runs
+
+-- the step leads from the host to the next: its rule reacts so at its nodes, and the result passes no limit
+pub record LeadsTo (host : HostState) (rules : List RuleParts) (step : Step) (next : HostState) : Type 0 where
+  pub rule : RuleParts
+  pub there : At rule step.rule rules
+  pub reacts : Reacts host rule step.map next
+  pub within : IsWithinLimits next
+
+-- the step is legal, and its result passes a limit
+pub record IsTooLarge (host : HostState) (rules : List RuleParts) (step : Step) : Type 0 where
+  pub rule : RuleParts
+  pub there : At rule step.rule rules
+  pub legal : IsLegal host rules step
+  pub passes : PassesALimit host rule step.map
+
+-- the step of an entry
+abbrev pub step_of : Entry → Step
+step_of entry = record { rule = entry.rule; map = entry.map }
+
 -- from the host on the entries are a run of the system, and the host after them is that one: each step is legal at the
--- host before it, and no result passes a limit
+-- host before it, and leads to the host after it
 pub data IsRun (rules : List RuleParts) : HostState → List Entry → HostState → Type 0 where
   ended : {host after : HostState} → after ≡ host → IsRun rules host [] after
-  stepped : {host next after : HostState} {entry : Entry} {entries : List Entry} {rule : RuleParts}
-      → IsLegal host rules (record { rule = entry.rule; map = entry.map }) → At rule entry.rule rules
-      → Reacts host rule entry.map next → IsWithinLimits next → IsRun rules next entries after
-      → IsRun rules host (entry ∷ entries) after
+  stepped : {host next after : HostState} {entry : Entry} {entries : List Entry} → IsLegal host rules (step_of entry)
+      → LeadsTo host rules (step_of entry) next → IsRun rules next entries after → IsRun rules host (entry ∷ entries) after

@@ -1,23 +1,27 @@
 //! The laws of pieces, conditions, legal steps and runs. A call does nothing.
-ghost use Rattle.std.specs.Prelude.{◌≡◌, ◌↔◌, ℕ, List, take, All};
+ghost use Rattle.std.specs.Prelude.{◌≡◌, ◌↔◌, ℕ, ◌≤◌, List, length, take, All};
 ghost use Rattle.bg_lists.specs.Lists.{Mem};
 ghost use Rattle.bg_base.specs.declared.big.NodeRow.{NodeRow};
 ghost use Rattle.bg_base.specs.declared.big.Big.{Big};
 ghost use Rattle.bg_base.specs.declared.history.Entry.{Entry};
 ghost use Rattle.bg_base.specs.declared.history.Step.{Step};
-ghost use Rattle.bg_base.specs.Bigraph.{IsGround};
+ghost use Rattle.bg_base.specs.Bigraph.{IsGround, IsValidUnder};
 ghost use Rattle.bg_base.specs.Translation.{node_numbers};
 ghost use Rattle.bg_rules.specs.Decomposition.{Decomposes, Occurs};
 ghost use Rattle.bg_rules.specs.Hosts.{IsHost};
 ghost use Rattle.bg_rules.specs.Reaction.{HostState};
 ghost use Rattle.bg_rules.specs.Rules.{RuleParts, IsRule};
 ghost use Rattle.bg_rules.specs.Solid.{IsPattern};
+ghost use Rattle.bg_rules.specs.Systems.{SystemParts, IsSystem};
 ghost use Rattle.bg_cond.specs.Conditions.{IsEnabled};
+ghost use Rattle.bg_cond.specs.Drawn.{Draws, IsEndOf};
 ghost use Rattle.bg_cond.specs.Pieces.{hole_control, parameter_piece, context_piece};
 ghost use Rattle.bg_cond.specs.Sides.{HoldsInHost, LooksForNodes};
-ghost use Rattle.bg_cond.specs.Steps.{AreFirstLegal, AreLegal, IsRun};
+ghost use Rattle.bg_cond.specs.Steps.{AreFirstLegal, AreLegal, HasNoStep, IsQuiet, IsRun};
 ghost use Rattle.bg_cond.specs.Verdicts.{IsJudged};
+ghost use Rattle.bg_cond.specs.declared.ending.End.{End as EndOf};
 ghost use Rattle.bg_cond.specs.declared.verdict.Verdict.{Verdict as VerdictOf};
+ghost use Rattle.rand_pcg.specs.Lcg.{Lcg};
 
 /// Both pieces are ground bigraphs.
 pub fn pieces_are_ground()
@@ -68,4 +72,35 @@ pub fn runs_have_one_end()
         → IsRun rules host entries after → IsRun rules host entries other → after ≡ other }
     ensures host { (rules : List RuleParts) (host after : HostState) (entries : List Entry) → All IsRule rules → IsHost host
         → IsRun rules host entries after → IsHost after }
+{}
+
+/// A run of a system leads to a host that is valid under the signature of the system.
+pub fn runs_keep_the_signature()
+    ensures { (system : SystemParts) (entries : List Entry) (after : HostState) → IsSystem system
+        → IsRun system.rules system.init entries after → IsValidUnder system.signature after.big }
+{}
+
+/// No step is legal exactly where no rule is enabled anywhere.
+pub fn quiet_hosts_have_no_step()
+    ensures { (host : HostState) (rules : List RuleParts) → (IsQuiet host rules ↔ HasNoStep host rules) }
+{}
+
+/// For each number of entries, host and state of the generator at most one run is drawn: one journal, one end, one last
+/// host.
+pub fn runs_are_drawn_once()
+    ensures { (rules : List RuleParts) (worker room : ℕ) (host after other_after : HostState) (state : Lcg) (entries others : List Entry) (end other : EndOf)
+        → All IsRule rules → IsHost host → Draws rules worker room host state entries end after
+        → Draws rules worker room host state others other other_after → (entries ≡ others) × (end ≡ other) × (after ≡ other_after) }
+{}
+
+/// What is drawn is a run, of at most so many entries, each of that worker, and its end is right.
+pub fn drawn_runs_are_runs()
+    ensures run { (rules : List RuleParts) (worker room : ℕ) (host after : HostState) (state : Lcg) (entries : List Entry) (end : EndOf)
+        → Draws rules worker room host state entries end after → IsRun rules host entries after }
+    ensures few { (rules : List RuleParts) (worker room : ℕ) (host after : HostState) (state : Lcg) (entries : List Entry) (end : EndOf)
+        → Draws rules worker room host state entries end after → length entries ≤ room }
+    ensures own { (rules : List RuleParts) (worker room : ℕ) (host after : HostState) (state : Lcg) (entries : List Entry) (end : EndOf)
+        → Draws rules worker room host state entries end after → All (λ (entry : Entry). entry.worker ≡ worker) entries }
+    ensures end { (rules : List RuleParts) (worker room : ℕ) (host after : HostState) (state : Lcg) (entries : List Entry) (end : EndOf)
+        → Draws rules worker room host state entries end after → IsEndOf rules room entries after end }
 {}

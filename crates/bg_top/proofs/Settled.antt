@@ -5,16 +5,18 @@ use Rattle.bg_answers.specs.Promise.{IsRightAnswer, IsSettled}
 use Rattle.bg_top.specs.Right.{promise_with, promise_of, IsReply}
 use Rattle.bg_words.specs.declared.asking.Request.{Request}
 use Rattle.bg_words.specs.declared.command.Command.{Command}
-use Rattle.bg_words.specs.declared.command.Command.TheVariants.{Compose, Check, Show, Match}
+use Rattle.bg_words.specs.declared.command.Command.TheVariants.{Compose, Check, Show, Match, Run}
 use Rattle.command_compose.proofs.Settled.{compose_settled}
 use Rattle.command_match.proofs.OneAnswer.{match_settled, one_right}
 use Rattle.command_models.proofs.Settled.{check_settled, show_settled}
+use Rattle.command_run.proofs.Settled.{run_settled}
 
 settled_with : (request : Request) (command : Command) → IsSettled (promise_with request command)
 settled_with request Compose = compose_settled
 settled_with request Check = check_settled
 settled_with request Show = show_settled
 settled_with request Match = match_settled request.most request.explain
+settled_with request Run = run_settled request.steps request.workers request.seed
 
 pub settled : (request : Request) → IsSettled (promise_of request)
 settled request = settled_with request request.command

@@ -10,10 +10,11 @@ use Rattle.bg_answers.specs.declared.status.Status.TheVariants.{Done, TooMany}
 use Rattle.bg_top.specs.Ended.{SomeAnswer, Writes}
 use Rattle.bg_words.specs.declared.asking.Request.{Request}
 use Rattle.bg_words.specs.declared.command.Command.{Command}
-use Rattle.bg_words.specs.declared.command.Command.TheVariants.{Compose, Check, Show, Match}
+use Rattle.bg_words.specs.declared.command.Command.TheVariants.{Compose, Check, Show, Match, Run}
 use Rattle.command_compose.specs.Compose.{compose_promise}
 use Rattle.command_match.specs.Match.{match_promise}
 use Rattle.command_models.specs.Models.{check_promise, show_promise}
+use Rattle.command_run.specs.Run.{run_promise}
 
 -- what the command promises, for the options of the request
 abbrev pub promise_with : Request → Command → Promise
@@ -21,6 +22,7 @@ promise_with request Compose = compose_promise
 promise_with request Check = check_promise
 promise_with request Show = show_promise
 promise_with request Match = match_promise request.most request.explain
+promise_with request Run = run_promise request.steps request.workers request.seed
 
 -- what the command of the request promises
 abbrev pub promise_of : Request → Promise

@@ -7,6 +7,7 @@ ghost use Rattle.bg_top.specs.Ended.{Ended, ComesWhere};
 ghost use Rattle.bg_top.specs.Numbers.{failed_read, failed_write, out_of_memory, most_bytes};
 ghost use Rattle.bg_top.specs.Right.{IsReply, IsRight, IsAnsweredWith, AsksOf, Answers, IsRefused, IsTooMuch, IsTaken, EndsWith};
 ghost use Rattle.bg_top.specs.Words.{asked};
+ghost use Rattle.bg_words.specs.Words.{IsInRange};
 
 use bg_answers::{Reply, Status};
 use bg_io::{ReadAllFault, Sink, SinkFault, Source, read_all, write_all};
@@ -15,6 +16,7 @@ use bg_words::{Command, Request, WordsFault, request};
 use command_compose::answer_compose;
 use command_match::answer_match;
 use command_models::{answer_check, answer_show};
+use command_run::answer_run;
 use std::alloc::Global;
 
 /// The most bytes of an input; a longer one is refused.
@@ -118,7 +120,8 @@ fn run<S: Source, K: Sink>(alloc: Global, words: &[String], source: &mut S, sink
 
 /// Makes the answer to a request and its input, and writes it.
 fn answer<K: Sink>(alloc: Global, request: Request, input: &[u8], sink: &mut K) -> u8
-    requires { length input.now ≤ most_bytes }
+    requires in_range { IsInRange request }
+    requires few { length input.now ≤ most_bytes }
     ensures ended { Ended (IsReply request input.now) result
         ⊥ (Rose (K.faults sink.old) (K.faults sink.new)) (K.is_flushed sink.new) (K.held sink.old) (K.held sink.new) }
     ensures sink_faults { result ≢ failed_write → K.faults sink.new ≡ K.faults sink.old }
@@ -131,7 +134,8 @@ fn answer<K: Sink>(alloc: Global, request: Request, input: &[u8], sink: &mut K) 
 
 /// The answer to a request and its input.
 fn reply_to(alloc: Global, request: Request, input: &[u8]) -> Mem<Reply>
-    requires { length input.now ≤ most_bytes }
+    requires in_range { IsInRange request }
+    requires few { length input.now ≤ most_bytes }
     ensures { IfOk result (λ reply. IsReply request input.now (answer_of reply)) }
 {
     match request.command {
@@ -139,6 +143,7 @@ fn reply_to(alloc: Global, request: Request, input: &[u8]) -> Mem<Reply>
         Command::Check => answer_check(alloc, input),
         Command::Show => answer_show(alloc, input),
         Command::Match => answer_match(alloc, input, request.most, request.explain),
+        Command::Run => answer_run(alloc, input, request.steps, request.seed),
     }
 }
 

@@ -1,1 +1,2 @@
 pub mod OddWords
+mod Ranges

@@ -1,13 +1,14 @@
 -- What the words of the command line ask for.
-use Rattle.std.specs.Prelude.{ℕ, Bool, false, List, Option, None, Some, if◌then◌else◌, codes, option_and_then}
+use Rattle.std.specs.Prelude.{◌≡◌, ℕ, ◌≤◌, Bool, true, false, List, Option, None, Some, if◌then◌else◌, codes, option_and_then}
 use Rattle.std.specs.Option.{option_map_or}
 use Rattle.std.specs.Str.{bytes_eq}
 use Rattle.clap.specs.Walk.{is_empty}
 use Rattle.clap.specs.Words.{Row, fault_of, first_of, matches_of}
+use Rattle.bg_base.specs.Limits.{most_steps}
 use Rattle.bg_words.specs.declared.asking.Request.{Request}
 use Rattle.bg_words.specs.declared.command.Command.{Command}
 use Rattle.bg_words.specs.declared.numbers.Numbers.{Numbers}
-use Rattle.bg_words.specs.Commands.{command_of}
+use Rattle.bg_words.specs.Commands.{command_of, is_built_for}
 use Rattle.bg_words.specs.Numbers.{number_of}
 use Rattle.bg_words.specs.Options as option
 use Rattle.bg_words.specs.Options.{the_app}
@@ -34,6 +35,10 @@ number_in rows name numbers = number_or_default numbers (first_of name rows)
 abbrev pub is_set : List Row → List ℕ → Bool
 is_set rows name = option_map_or (λ text. bytes_eq text (codes "true")) (first_of name rows) false
 
+-- the request, where its command is built for so many workers
+abbrev pub built_only : Request → Option Request
+built_only request = if is_built_for request.command request.workers then Some request else None
+
 -- what is asked for, where clap takes the words and finds this in them
 unfoldable pub request_in : List Row → Option Request
 request_in rows = do
@@ -43,7 +48,7 @@ request_in rows = do
   steps ← number_in rows (codes "steps") option.steps
   seed ← number_in rows (codes "seed") option.seed
   size ← number_in rows (codes "size") option.size
-  Some (record {
+  built_only (record {
     command = command;
     most = most;
     workers = workers;
@@ -56,3 +61,8 @@ request_in rows = do
 -- what the words ask for, of which the first is the name of the program; nothing where they are refused
 unfoldable pub asked : List (List ℕ) → Option Request
 asked words = if is_empty (fault_of the_app words) then request_in (matches_of the_app words) else None
+
+-- what holds of each request: a run has not too many steps, and its command is built for so many workers
+pub record IsInRange (request : Request) : Type 0 where
+  pub few_steps : request.steps ≤ most_steps
+  pub built : is_built_for request.command request.workers ≡ true

@@ -13,6 +13,8 @@ pub enum Command {
     Show,
     /// `match`: where the rules of a model occur.
     Match,
+    /// `run`: a run of the system that a model is.
+    Run,
 }
 
 /// The command with that name, where there is one.
@@ -24,6 +26,17 @@ pub(crate) fn command_of(name: &str) -> Option<Command>
         "check" => Some(Command::Check),
         "show" => Some(Command::Show),
         "match" => Some(Command::Match),
+        "run" => Some(Command::Run),
         _ => None,
+    }
+}
+
+/// Whether the command is built for so many workers: `run` is for one.
+pub(crate) fn is_built_for(command: Command, workers: u32) -> bool
+    ensures { result ≡ definition.is_built_for command workers }
+{
+    match command {
+        Command::Run => workers == 1,
+        Command::Compose | Command::Check | Command::Show | Command::Match => true,
     }
 }

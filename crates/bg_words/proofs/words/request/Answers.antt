@@ -9,7 +9,8 @@ use Rattle.bg_words.specs.declared.asking.Request.{Request}
 use Rattle.bg_words.specs.declared.fault.WordsFault.{WordsFault}
 use Rattle.bg_words.specs.declared.fault.WordsFault.TheVariants.{Refused}
 use Rattle.bg_words.specs.Options.{the_app}
-use Rattle.bg_words.specs.Words.{asked, request_in}
+use Rattle.bg_words.specs.Words.{asked, request_in, IsInRange}
+use Rattle.bg_words.proofs.Ranges.{request_in_range}
 use Rattle.bg_words.proofs.words.request.Goals as goal
 
 -- words that clap refuses ask for nothing
@@ -57,3 +58,11 @@ pub returns-clause-refused : goal.returns-clause-refused
 returns-clause-refused c = λ refused.
     let is = taken_words _ c.in_ok-matches.ensures.taken ∙ ap request_in (sym c.in_ok-matches.ensures.matches) ∙ sym c.request_in.ensures in
     refused_there _ _ is (sym c.ok_or.ensures.value ∙ refused)
+
+in_range : (words : List (List ℕ)) (result : Result Request WordsFault) → IfOk result (λ request. asked words ≡ Some request)
+    → IfOk result (λ request. IsInRange request)
+in_range words (Ok request) is = request_in_range words is
+in_range words (Err fault) is = tt
+
+pub returns-clause-in_range : goal.returns-clause-in_range
+returns-clause-in_range c = in_range (map string_bytes c.args.words.now) c.ok_or.result (returns-clause-given c)

@@ -1,0 +1,3 @@
+mod Picking
+mod Reference
+mod Turning

@@ -1,0 +1,71 @@
+-- What is drawn one turn after another is one run.
+use Rattle.std.proofs.Common.{◌≡◌, ℕ, zero, suc, ◌<◌, ◌≤◌, List, [], ◌∷◌, ◌++◌, length, refl, sym, ap, subst, ◌∙◌, arith}
+use Rattle.std.proofs.lemmas.List.{append_assoc, append-nil}
+use Rattle.bg_base.specs.Limits.{most_steps}
+use Rattle.bg_base.specs.declared.history.Entry.{Entry}
+use Rattle.bg_cond.proofs.DrawnRuns.{drawn_few}
+use Rattle.bg_cond.specs.Drawn.{entry_of, Draws, limit, quiet, full, drawn}
+use Rattle.bg_cond.specs.Picks.{next_state}
+use Rattle.bg_cond.specs.declared.ending.End.{End}
+use Rattle.bg_cond.specs.declared.ending.End.TheVariants.{Quiet, Limit, Full}
+use Rattle.bg_rules.specs.Reaction.{HostState}
+use Rattle.bg_rules.specs.Rules.{RuleParts}
+use Rattle.bg_workers.specs.Turns.{GoesOn, IsStop, Stops, Continues}
+use Rattle.bg_workers.specs.declared.drawing.DrawnRun.{DrawnRun}
+use Rattle.rand_pcg.specs.Lcg.{Lcg}
+
+module _ (rules : List RuleParts) (worker : ℕ) where
+  stop_drawn : (room : ℕ) (host next : HostState) (state : Lcg) (end : End) → next ≡ host → IsStop rules host state end
+      → Draws rules worker (suc room) host state [] end next
+  stop_drawn room host next state Limit e stop = absurd stop
+  stop_drawn room host next state Quiet e stop = quiet stop e
+  stop_drawn room host next state (Full step) e stop = full stop.0 stop.1 e
+
+module _ (rules : List RuleParts) (worker most : ℕ) (first : HostState) (seed : Lcg) where
+  pub starts : (host : HostState) (state : Lcg) → host ≡ first → state ≡ seed → Continues rules worker most first seed most host state []
+  starts host state e f = record {
+    continues = λ rest end after more_drawn. subst (λ (s : Lcg). Draws rules worker most first s rest end after) f
+        (subst (λ (h : HostState). Draws rules worker most h state rest end after) e more_drawn);
+  }
+
+  pub goes_on : (room left : ℕ) (host next : HostState) (state later : Lcg) (entries more : List Entry) → room ≡ suc left
+      → Continues rules worker most first seed room host state entries → GoesOn rules worker host state entries next later more
+      → Continues rules worker most first seed left next later more
+  goes_on room left host next state later entries more e so_far turn = record {
+    continues = λ rest end after more_drawn.
+        let here : Draws rules worker left next (next_state state) rest end after
+        = subst (λ (s : Lcg). Draws rules worker left next s rest end after) turn.later_is more_drawn in
+        let whole = so_far.continues (entry_of worker turn.step ∷ rest) end after
+        (subst (λ (n : ℕ). Draws rules worker n host state (entry_of worker turn.step ∷ rest) end after) (sym e) (drawn turn.pick turn.leads refl here)) in
+        subst (λ (xs : List Entry). Draws rules worker most first seed xs end after)
+        (sym (ap (λ (xs : List Entry). xs ++ rest) turn.appended ∙ append_assoc entries (entry_of worker turn.step ∷ []) rest)) whole;
+  }
+
+  pub stops : (room : ℕ) (host next : HostState) (state : Lcg) (entries more journal : List Entry) (end : End) → 0 < room
+      → Continues rules worker most first seed room host state entries → Stops rules host state entries next more end → journal ≡ more
+      → Draws rules worker most first seed journal end next
+  stops zero host next state entries more journal end less so_far turn e = elim less [ ]
+  stops (suc room) host next state entries more journal end less so_far turn e =
+      let stopped : (end : End) → IsStop rules host state end → Draws rules worker (suc room) host state [] end next = λ end stop. stop_drawn rules worker room host next state end turn.host_is stop in
+      subst (λ (xs : List Entry). Draws rules worker most first seed xs end next) (append-nil entries ∙ sym (e ∙ turn.same))
+      (so_far.continues [] end next (stopped end turn.stop))
+
+  pub spent : (room : ℕ) (host : HostState) (state : Lcg) (entries journal : List Entry) → room ≡ 0
+      → Continues rules worker most first seed room host state entries → journal ≡ entries → Draws rules worker most first seed journal Limit host
+  spent room host state entries journal e so_far f =
+      subst (λ (xs : List Entry). Draws rules worker most first seed xs Limit host) (append-nil entries ∙ sym f)
+      (so_far.continues [] Limit host (subst (λ (n : ℕ). Draws rules worker n host state [] Limit host) (sym e) (limit refl)))
+
+-- ---- the run that is made
+
+pub few_drawn : {rules : List RuleParts} {most : ℕ} {first : HostState} {seed : Lcg} {entries : List Entry} {end : End} {host : HostState}
+    → Draws rules 0 most first seed entries end host → most ≤ most_steps → length entries ≤ most_steps
+few_drawn {rules} d few = let as_many = drawn_few rules 0 d in omega (arith, as_many, few)
+
+pub run_drawn : (rules : List RuleParts) (most : ℕ) (first : HostState) (seed : Lcg) {entries : List Entry} {end : End} {host : HostState} (run : DrawnRun)
+    → Draws rules 0 most first seed entries end host → run.journal ≡ entries → run.end ≡ end → run.host ≡ host
+    → Draws rules 0 most first seed run.journal run.end run.host
+run_drawn rules most first seed {entries} {end} {host} run d journal_is end_is host_is =
+    subst (λ (h : HostState). Draws rules 0 most first seed run.journal run.end h) (sym host_is)
+    (subst (λ (e : End). Draws rules 0 most first seed run.journal e host) (sym end_is)
+    (subst (λ (xs : List Entry). Draws rules 0 most first seed xs end host) (sym journal_is) d))

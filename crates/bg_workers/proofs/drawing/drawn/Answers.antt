@@ -1,0 +1,52 @@
+use Rattle.std.proofs.Common.{◌≡◌, ◌<◌, ◌-◌, ℕ, suc, arith, refl}
+use Rattle.bg_cond.specs.Picks.{seeded}
+use Rattle.bg_cond.specs.Drawn.{Draws}
+use Rattle.bg_cond.specs.declared.ending.End.TheVariants.{Limit}
+use Rattle.bg_workers.proofs.Turning.{starts, goes_on, stops, spent, few_drawn, run_drawn}
+use Rattle.bg_workers.proofs.drawing.drawn.Goals as goal
+
+pub ended-requires : goal.ended-requires
+ended-requires c = few_drawn (stopped c) c.requires
+  where
+    stopped c =
+        stops c.args.system.now.rules 0 c.args.most c.args.system.now.init (seeded c.args.seed 0) c.loop-room.room c.loop-room.host c.draw_one.new.host
+        c.loop-room.picker c.loop-room.entries.items c.draw_one.new.entries.items c.draw_one.new.entries.items c.in-Some.end c.loop-room-test.true
+        c.loop-room.invariant (rw c.in-Some.is at c.in_ok-end.ensures) refl
+
+pub returns-in-Some : goal.returns-in-Some
+returns-in-Some c =
+    let rules = c.args.system.now.rules in
+    let first = c.args.system.now.init in
+    let seed = seeded c.args.seed 0 in
+    run_drawn rules c.args.most first seed c.ended.result
+    (stops rules 0 c.args.most first seed c.loop-room.room c.loop-room.host c.draw_one.new.host c.loop-room.picker c.loop-room.entries.items
+    c.draw_one.new.entries.items c.draw_one.new.entries.items c.in-Some.end c.loop-room-test.true c.loop-room.invariant
+    (rw c.in-Some.is at c.in_ok-end.ensures) refl)
+    c.ended.ensures.journal c.ended.ensures.end c.ended.ensures.host
+
+pub loop-room-preserved : goal.loop-room-preserved
+loop-room-preserved c =
+    let more = c.loop-room-test.true in
+    let next : c.loop-room.room ≡ suc (c.loop-room.room - 1) = omega (arith, more) in
+    goes_on c.args.system.now.rules 0 c.args.most c.args.system.now.init (seeded c.args.seed 0) c.loop-room.room (c.loop-room.room - 1) c.loop-room.host
+    c.draw_one.new.host c.loop-room.picker c.draw_one.new.picker c.loop-room.entries.items c.draw_one.new.entries.items next c.loop-room.invariant
+    (rw c.in_default.is at c.in_ok-end.ensures)
+
+pub ended-2-requires : goal.ended-2-requires
+ended-2-requires c =
+    let no_more = c.loop-room-test.false in
+    let none : c.loop-room.room ≡ 0 = omega (arith, no_more) in
+    few_drawn (spent c.args.system.now.rules 0 c.args.most c.args.system.now.init (seeded c.args.seed 0) c.loop-room.room c.loop-room.host c.loop-room.picker
+    c.loop-room.entries.items c.loop-room.entries.items none c.loop-room.invariant refl) c.requires
+
+pub returns : goal.returns
+returns c =
+    let rules = c.args.system.now.rules in
+    let first = c.args.system.now.init in
+    let seed = seeded c.args.seed 0 in
+    let no_more = c.loop-room-test.false in
+    let none : c.loop-room.room ≡ 0 = omega (arith, no_more) in
+    run_drawn rules c.args.most first seed c.ended-2.result
+    (spent rules 0 c.args.most first seed c.loop-room.room c.loop-room.host c.loop-room.picker c.loop-room.entries.items c.loop-room.entries.items none
+    c.loop-room.invariant refl)
+    c.ended-2.ensures.journal c.ended-2.ensures.end c.ended-2.ensures.host

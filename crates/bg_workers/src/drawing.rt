@@ -1,0 +1,120 @@
+//! Drawing a run on the calling thread.
+ghost use Rattle.std.specs.Prelude.{◌≡◌, ◌≤◌, ◌++◌, ◌∷◌, [], length, IfOk, OnOk, MatchOption};
+ghost use Rattle.bg_base.specs.Bigraph.{IsValidUnder};
+ghost use Rattle.bg_base.specs.Limits.{most_steps};
+ghost use Rattle.bg_cond.specs.Drawn.{Draws, IsPick};
+ghost use Rattle.bg_cond.specs.Picks.{seeded, next_state};
+ghost use Rattle.bg_cond.specs.Steps.{HasNoStep, IsRun};
+ghost use Rattle.bg_workers.specs.Turns.{Turns};
+
+use crate::picker::Picker;
+use bg_base::{Entry, Journal, Step};
+use bg_cond::{End, steps, take_step};
+use bg_lists::{Duplicate, Mem, OutOfMemory, Rows};
+use bg_rules::{Host, ReactFault, System};
+use std::alloc::Global;
+
+/// As many legal steps, from the first on, may be picked.
+const MOST_CANDIDATES: u32 = 4_096;
+
+/// A run that came to its end.
+#[derive(Debug, Drop)]
+pub struct DrawnRun {
+    /// Each entry has the worker 0.
+    pub journal: Journal,
+    pub end: End,
+    /// The host after all entries.
+    pub host: Host,
+}
+
+/// The run of the system that the seed draws, of at most so many entries, all of worker 0: at each host the first 4,096
+/// legal steps are the candidates, and the next word of the generator, modulo their number, is the place of the one that
+/// is taken. Each turn costs what [`steps`] and [`take_step`] cost.
+pub fn draw(alloc: Global, system: &System, most: u32, seed: u64) -> Mem<DrawnRun>
+    requires { most ≤ most_steps }
+    ensures drawn { IfOk result (λ run. Draws system.now.rules 0 most system.now.init (seeded seed 0) run.journal run.end run.host) }
+    ensures run { IfOk result (λ run. IsRun system.now.rules system.now.init run.journal run.host) }
+    ensures fits { IfOk result (λ run. IsValidUnder system.now.signature run.host.big) }
+{
+    let _signature = system.signature();
+    let run = drawn(alloc, system, most, seed)?;
+    Ok(run)
+}
+
+/// The run that the seed draws.
+fn drawn(alloc: Global, system: &System, most: u32, seed: u64) -> Mem<DrawnRun>
+    requires { most ≤ most_steps }
+    ensures { IfOk result (λ run. Draws system.now.rules 0 most system.now.init (seeded seed 0) run.journal run.end run.host) }
+{
+    let mut host = system.init().copy(alloc)?;
+    let mut picker = Picker::new(seed, 0);
+    let mut entries = Vec::new(alloc);
+    let mut room = most;
+    while room > 0 {
+        if let Some(end) = draw_one(alloc, system, 0, &mut host, &mut picker, &mut entries)? {
+            return Ok(ended(entries, end, host));
+        }
+        room -= 1;
+    }
+    Ok(ended(entries, End::Limit, host))
+}
+
+/// The run with these entries.
+fn ended(entries: Vec<Entry>, end: End, host: Host) -> DrawnRun
+    requires { length entries.items ≤ most_steps }
+    ensures journal { result.journal ≡ entries.items }
+    ensures end { result.end ≡ end }
+    ensures host { result.host ≡ host }
+{
+    DrawnRun {
+        journal: Rows::from_vec(entries),
+        end,
+        host,
+    }
+}
+
+/// Draws one step more and takes it; or tells why none is taken.
+fn draw_one(
+    alloc: Global,
+    system: &System,
+    worker: u32,
+    host: &mut Host,
+    picker: &mut Picker,
+    entries: &mut Vec<Entry>,
+) -> Mem<Option<End>>
+    ensures { IfOk result (λ end. Turns system.now.rules worker host.old picker.old entries.old.items host.new picker.new entries.new.items end) }
+{
+    let Some(step) = choose(alloc, host, system, picker)? else {
+        return Ok(Some(End::Quiet));
+    };
+    match take_step(alloc, host, system, &step) {
+        Ok(()) => {
+            push_entry(entries, worker, step)?;
+            Ok(None)
+        }
+        Err(ReactFault::Full) => Ok(Some(End::Full { step })),
+        Err(ReactFault::OutOfMemory) => Err(OutOfMemory),
+    }
+}
+
+/// Appends the step as an entry of the worker.
+fn push_entry(entries: &mut Vec<Entry>, worker: u32, step: Step) -> Mem<()>
+    ensures { OnOk result (entries.new.items ≡ entries.old.items ++ record { worker = worker; rule = step.rule; map = step.map } ∷ []) }
+{
+    let Step { rule, map } = step;
+    entries.push(Entry { worker, rule, map })?;
+    Ok(())
+}
+
+/// The step that the generator picks of the first legal ones, none where no step is legal.
+fn choose(alloc: Global, host: &Host, system: &System, picker: &mut Picker) -> Mem<Option<Step>>
+    ensures { IfOk result (λ chosen. MatchOption chosen (HasNoStep host.now system.now.rules)
+        (λ step. IsPick host.now system.now.rules picker.old step × (picker.new ≡ next_state picker.old))) }
+{
+    let mut candidates = steps(alloc, host, system, MOST_CANDIDATES)?;
+    if candidates.is_empty() {
+        return Ok(None);
+    }
+    let place = picker.pick(candidates.len() as u32);
+    Ok(Some(candidates.swap_remove(place as usize)))
+}

@@ -1,0 +1,4 @@
+mod OneText
+pub mod Settled
+mod Telling
+mod Texts

@@ -1,0 +1,66 @@
+-- What is written of a run: its journal, its end, which predicates occur in its last host, and that host.
+use Rattle.std.specs.Prelude.{◌≡◌, ◌↔◌, ℕ, ◌<◌, Bool, IsTrue, true, false, List, [], ◌∷◌, ◌++◌, codes, zip, All}
+use Rattle.std.specs.List.{flat_map}
+use Rattle.bg_base.specs.declared.history.Entry.{Entry}
+use Rattle.bg_base.specs.declared.big.Big.{Big}
+use Rattle.bg_cond.specs.Conditions.{OccursSomewhere}
+use Rattle.bg_cond.specs.Drawn.{Draws, IsEndOf}
+use Rattle.bg_cond.specs.Picks.{seeded}
+use Rattle.bg_cond.specs.Steps.{IsRun}
+use Rattle.bg_cond.specs.declared.ending.End.{End}
+use Rattle.bg_cond.specs.declared.ending.End.TheVariants.{Quiet, Limit, Full}
+use Rattle.bg_journal.specs.JournalText.{step_text, journal_text, host_text}
+use Rattle.bg_listing.specs.Spelling.{label_text}
+use Rattle.bg_rules.specs.declared.predicate.Predicate.{Predicate}
+use Rattle.bg_rules.specs.Reaction.{HostState}
+use Rattle.bg_rules.specs.Systems.{SystemParts}
+
+-- ---- the text
+
+-- the line of the end
+unfoldable pub end_line : End → List ℕ
+end_line Quiet = codes "quiet\n"
+end_line Limit = codes "limit\n"
+end_line (Full step) = codes "full " ++ step_text step.rule step.map
+
+abbrev pub truth_text : Bool → List ℕ
+truth_text true = codes "true"
+truth_text false = codes "false"
+
+-- the line of a predicate: its label, and whether it holds
+unfoldable pub predicate_line : Predicate → Bool → List ℕ
+predicate_line predicate truth = codes "pred " ++ (label_text predicate.label ++ (codes " " ++ (truth_text truth ++ codes "\n")))
+
+-- the line of each predicate, the truths in the same order
+abbrev pub predicate_lines : List Predicate → List Bool → List ℕ
+predicate_lines predicates truths = flat_map (λ (told : Predicate × Bool). predicate_line told.0 told.1) (zip predicates truths)
+
+-- the journal, the end, the predicates, and the last host
+unfoldable pub run_text : SystemParts → List Entry → End → List Bool → HostState → List ℕ
+run_text system entries end truths host =
+    journal_text entries ++ (end_line end ++ (predicate_lines system.preds truths ++ host_text system.signature host))
+
+-- ---- which predicates occur
+
+-- the truths tell in order which of the predicates occur in the host
+pub data AreTold (host : Big) : List Predicate → List Bool → Type 0 where
+  none_told : AreTold host [] []
+  each_told : {predicate : Predicate} {predicates : List Predicate} {truth : Bool} {truths : List Bool}
+      → (IsTrue truth ↔ OccursSomewhere host predicate.pattern) → AreTold host predicates truths
+      → AreTold host (predicate ∷ predicates) (truth ∷ truths)
+
+-- ---- runs
+
+-- the text is that of a run of the system by so many workers, of at most so many entries; with one worker it is the run that
+-- the seed draws
+pub record IsRunText (system : SystemParts) (most workers seed : ℕ) (text : List ℕ) : Type 0 where
+  pub entries : List Entry
+  pub end : End
+  pub truths : List Bool
+  pub host : HostState
+  pub text_is : text ≡ run_text system entries end truths host
+  pub run : IsRun system.rules system.init entries host
+  pub end_is : IsEndOf system.rules most entries host end
+  pub workers_below : All (λ (entry : Entry). entry.worker < workers) entries
+  pub told : AreTold host.big system.preds truths
+  pub drawn : workers ≡ 1 → Draws system.rules 0 most system.init (seeded seed 0) entries end host
