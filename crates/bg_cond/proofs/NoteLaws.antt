@@ -23,6 +23,7 @@ use Rattle.bg_rules.specs.Solid.{IsPattern}
 use Rattle.bg_rules.proofs.Occurrences.{occurs_locally}
 use Rattle.bg_rules.proofs.Upwards.{not_among, meets_some, IsMet, IsMet-from_meets_some}
 use Rattle.bg_cond.specs.Lists.{is_noted, IsNotedAt, AreUpward, IsNotedUp, IsNotedFor, AreNotedFor}
+use Rattle.bg_decompose.specs.Marks.{is_covered}
 use Rattle.bg_cond.specs.Sides.{lies_on}
 use Rattle.bg_cond.proofs.Upto.{HoldsUpto, upto_none, upto_next, upto_all}
 
@@ -221,6 +222,7 @@ module _ (host : Big) (images : List ℕ) (maps : List (List ℕ)) where
 
   no_map : (notes : BTreeMap ℕ ℕ) → AreNotedFor host maps notes → All (λ map. 0 < length map) maps → All (λ node. is_noted notes node ≡ false) images
       → (map : List ℕ) → Mem map maps → list_all (lies_on Param host images) map ≡ true → ⊥
+  unfolding is_covered
   no_map notes noted some none [] m lies = let short = All-member (λ map. 0 < length map) maps some m in omega (arith, short)
   no_map notes noted some none (first ∷ others) m lies =
       let one = (and_parts (lies_on Param host images first) (list_all (lies_on Param host images) others) lies).0 in

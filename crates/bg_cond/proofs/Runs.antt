@@ -19,13 +19,13 @@ module _ (rules : List RuleParts) (are : All IsRule rules) (host : HostState) (i
   one_next {next} {other} one two =
       let is_rule = All-member IsRule rules are (Mem-from_At one.there) in
       one_result host one.rule step.map is.numbered is_rule next other one.reacts
-      (subst (λ (rule : RuleParts). Reacts host rule step.map other) (At-one one.there two.there) two.reacts)
+      (subst (λ (rule : RuleParts). Reacts host rule step.map other) (At-one two.there one.there) two.reacts)
 
   -- a step that leads to a host does not pass a limit
   pub not_too_large : {next : HostState} → LeadsTo host rules step next → IsTooLarge host rules step → ⊥
   not_too_large {next} one two =
       let is_rule = All-member IsRule rules are (Mem-from_At one.there) in
-      let passes = subst (λ (rule : RuleParts). PassesALimit host rule step.map) (At-one one.there two.there) two.passes in
+      let passes = subst (λ (rule : RuleParts). PassesALimit host rule step.map) (At-one two.there one.there) two.passes in
       passes.passes (subst IsWithinLimits (one_result host one.rule step.map is.numbered is_rule next passes.after one.reacts passes.reacts) one.within)
 
   pub next_is_host : {next : HostState} → LeadsTo host rules step next → IsHost next

@@ -6,12 +6,12 @@ use Rattle.bg_workers.proofs.Turning.{starts, goes_on, stops, spent, few_drawn, 
 use Rattle.bg_workers.proofs.drawing.drawn.Goals as goal
 
 pub ended-requires : goal.ended-requires
-ended-requires c = few_drawn (stopped c) c.requires
-  where
-    stopped c =
-        stops c.args.system.now.rules 0 c.args.most c.args.system.now.init (seeded c.args.seed 0) c.loop-room.room c.loop-room.host c.draw_one.new.host
-        c.loop-room.picker c.loop-room.entries.items c.draw_one.new.entries.items c.draw_one.new.entries.items c.in-Some.end c.loop-room-test.true
-        c.loop-room.invariant (rw c.in-Some.is at c.in_ok-end.ensures) refl
+ended-requires c =
+    few_drawn
+    (stops c.args.system.now.rules 0 c.args.most c.args.system.now.init (seeded c.args.seed 0) c.loop-room.room c.loop-room.host c.draw_one.new.host
+    c.loop-room.picker c.loop-room.entries.items c.draw_one.new.entries.items c.draw_one.new.entries.items c.in-Some.end c.loop-room-test.true
+    c.loop-room.invariant (rw c.in-Some.is at c.in_ok-end.ensures) refl)
+    c.requires
 
 pub returns-in-Some : goal.returns-in-Some
 returns-in-Some c =
@@ -32,8 +32,8 @@ loop-room-preserved c =
     c.draw_one.new.host c.loop-room.picker c.draw_one.new.picker c.loop-room.entries.items c.draw_one.new.entries.items next c.loop-room.invariant
     (rw c.in_default.is at c.in_ok-end.ensures)
 
-pub ended-2-requires : goal.ended-2-requires
-ended-2-requires c =
+pub ended-requires-2 : goal.ended-requires-2
+ended-requires-2 c =
     let no_more = c.loop-room-test.false in
     let none : c.loop-room.room ≡ 0 = omega (arith, no_more) in
     few_drawn (spent c.args.system.now.rules 0 c.args.most c.args.system.now.init (seeded c.args.seed 0) c.loop-room.room c.loop-room.host c.loop-room.picker
