@@ -1,5 +1,5 @@
 -- A step that is picked.
-use Rattle.std.proofs.Common.{◌≡◌, ℕ, ◌<◌, List, [], length, get_or, inl, inr, sym, subst, arith}
+use Rattle.std.proofs.Common.{◌≡◌, ℕ, ◌<◌, List, [], length, get_or, inl, inr, subst, arith}
 use Rattle.bg_lists.specs.Lists.{At}
 use Rattle.bg_base.specs.declared.history.Step.{Step}
 use Rattle.bg_cond.proofs.Upto.{item_at}

@@ -1,5 +1,5 @@
 -- With one worker there is one text.
-use Rattle.std.proofs.Common.{◌≡◌, ◌↔◌, ℕ, List, [], ◌∷◌, Bool, true, false, IsTrue, refl, sym, ap, subst, ◌∙◌}
+use Rattle.std.proofs.Common.{◌≡◌, ◌↔◌, ℕ, List, ◌∷◌, Bool, true, false, IsTrue, refl, sym, ap, subst, ◌∙◌}
 use Rattle.bg_base.specs.declared.big.Big.{Big}
 use Rattle.bg_base.specs.declared.history.Entry.{Entry}
 use Rattle.bg_cond.proofs.DrawnRuns.{drawn_once, system_rules}

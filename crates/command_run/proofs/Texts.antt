@@ -1,5 +1,5 @@
 -- The text that is written is that of the run that was drawn.
-use Rattle.std.proofs.Common.{◌≡◌, ℕ, ◌<◌, List, [], ◌++◌, Bool, All, length, refl, sym, ap, subst, ◌∙◌, arith}
+use Rattle.std.proofs.Common.{◌≡◌, ℕ, ◌<◌, List, [], ◌++◌, Bool, ap, subst, ◌∙◌, arith}
 use Rattle.bg_base.specs.declared.history.Entry.{Entry}
 use Rattle.bg_cond.proofs.DrawnRuns.{drawn_run, drawn_own, drawn_end}
 use Rattle.bg_cond.specs.Drawn.{Draws}

@@ -1,8 +1,6 @@
-use Rattle.std.proofs.Common.{◌≡◌, ◌<◌, ◌-◌, ℕ, suc, arith, refl}
+use Rattle.std.proofs.Common.{◌≡◌, ◌-◌, suc, arith, refl}
 use Rattle.bg_cond.specs.Picks.{seeded}
-use Rattle.bg_cond.specs.Drawn.{Draws}
-use Rattle.bg_cond.specs.declared.ending.End.TheVariants.{Limit}
-use Rattle.bg_workers.proofs.Turning.{starts, goes_on, stops, spent, few_drawn, run_drawn}
+use Rattle.bg_workers.proofs.Turning.{goes_on, stops, spent, few_drawn, run_drawn}
 use Rattle.bg_workers.proofs.drawing.drawn.Goals as goal
 
 pub ended-requires : goal.ended-requires

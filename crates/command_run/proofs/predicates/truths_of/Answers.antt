@@ -1,4 +1,4 @@
-use Rattle.std.proofs.Common.{◌≡◌, ◌++◌, ◌∷◌, [], rules, ◌∙◌}
+use Rattle.std.proofs.Common.{rules, ◌∙◌}
 use Rattle.command_run.proofs.Telling.{told_start, told_next}
 use Rattle.command_run.proofs.predicates.truths_of.Goals as goal
 

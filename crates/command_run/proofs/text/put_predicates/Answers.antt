@@ -1,5 +1,4 @@
-use Rattle.bg_lists.proofs.Places.{At-get_or, get_or-At}
-use Rattle.std.proofs.Common.{sym, ◌≤◌, ◌<◌, length, arith}
+use Rattle.std.proofs.Common.{◌≤◌, length, arith}
 use Rattle.command_run.proofs.Telling.{lines_more, lines_whole, got_again}
 use Rattle.command_run.proofs.text.put_predicates.Goals as goal
 
