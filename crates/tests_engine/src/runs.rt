@@ -2,6 +2,9 @@
 //! stands in `examples/`.
 use bg_io::{MemorySink, MemorySource};
 use bg_top::{NO_MEMORY, engine};
+use rand_core::SeedableRng;
+use rand_core::utils::NextWord;
+use rand_pcg::Pcg32;
 use std::alloc::{AllocError, Global};
 use std::process::Abort;
 
@@ -33,6 +36,22 @@ map 0\nconditions 0\npreds 0\n";
 const EXPLAINED: &str = "rule 0 r class 0 count 1\n0\nimages\n\
 context\nbigraph 1\nsites 1\nr0\ninner 0\nouter 0\nedges 0\nnodes 0\n\
 parameter\nbigraph 1\nsites 0\ninner 0\nouter 0\nedges 0\nnodes 1\n1 B r0\n";
+
+/// The run of the model: A goes, and B is left.
+const RUN: &str = "journal 1\nstep 0 0 0\nend\nquiet\nhost 2 0\n\
+bigraph 1\nsites 0\ninner 0\nouter 0\nedges 0\nnodes 1\n1 B r0\n";
+
+/// A building with three rooms and two agents beside them.
+const BUILDING: &str = "ctrl Building = 0;\nctrl Room = 0;\natomic ctrl Agent = 1;\n\
+big hall = Building.(Room.1 | Room.1 | Room.1 | Agent{a} | Agent{b});\n\
+react enter = Agent{x} | Room.id --> Room.(Agent{x} | id);\n\
+begin brs init hall; rules = [ {enter} ]; end\n";
+
+/// Where its rule occurs: at six maps.
+const ENTRANCES: &str = "rule 0 enter class 0 count 6\n4 1\n4 2\n4 3\n5 1\n5 2\n5 3\n";
+
+/// The lines of these maps.
+const MAPS: [&str; 6] = ["4 1\n", "4 2\n", "4 3\n", "5 1\n", "5 2\n", "5 3\n"];
 
 /// Words, an input that is read byte by byte, the reads and the writes of a byte that fail, the status, and what is
 /// written.
@@ -98,7 +117,7 @@ fn try_all(rt: &impl Abort, alloc: Global, runs: &[Run]) -> Result<(), AllocErro
 }
 
 /// Each command, where nothing fails.
-const COMMANDS: [Run; 4] = [
+const COMMANDS: [Run; 6] = [
     Run {
         words: &["bigengine", "compose"],
         input: INPUT,
@@ -131,11 +150,50 @@ const COMMANDS: [Run; 4] = [
         status: 0,
         written: EXPLAINED,
     },
+    Run {
+        words: &["bigengine", "match"],
+        input: BUILDING,
+        failing_reads: &[],
+        failing_writes: &[],
+        status: 0,
+        written: ENTRANCES,
+    },
+    Run {
+        words: &["bigengine", "run"],
+        input: MODEL,
+        failing_reads: &[],
+        failing_writes: &[],
+        status: 0,
+        written: RUN,
+    },
 ];
 
 #[test]
 fn each_command_answers(rt: HostRuntime) -> Result<(), AllocError> {
     try_all(&rt, rt.alloc(), &COMMANDS)
+}
+
+#[test]
+fn the_first_step_is_at_the_place_of_the_generators_first_word(
+    rt: HostRuntime,
+) -> Result<(), AllocError> {
+    let word = Pcg32::seed_from_u64(7).next_word();
+    let run = Run {
+        words: &["bigengine", "run", "--seed", "7", "--steps", "1"],
+        input: BUILDING,
+        failing_reads: &[],
+        failing_writes: &[],
+        status: 0,
+        written: "",
+    };
+    let end = end_of(rt.alloc(), &run)?;
+    if end.status == NO_MEMORY {
+        return Err(AllocError);
+    }
+    let steps = end.written.as_slice().strip_prefix(b"journal 1\nstep 0 0 ");
+    let map = MAPS[(word % 6) as usize].as_bytes();
+    assert!(&rt; steps.is_some_and(|steps| steps.starts_with(map)));
+    Ok(())
 }
 
 /// The first read, another, and the one that tells the end of the 14 bytes.
@@ -229,7 +287,7 @@ const WORDS: [&[&str]; 8] = [
     &["bigengine", "show", "--help"],
     &["bigengine", "match", "--most", "x"],
     &["bigengine", "compose", "compose"],
-    &["bigengine", "compose "],
+    &["bigengine", "run", "--workers", "2"],
 ];
 
 #[test]
