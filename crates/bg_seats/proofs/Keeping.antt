@@ -9,7 +9,7 @@ use Rattle.bg_base.specs.Limits.{most_steps}
 use Rattle.bg_base.specs.declared.history.Entry.{Entry}
 use Rattle.bg_seats.specs.declared.knowledge.Knowledge.{Knowledge}
 use Rattle.bg_seats.specs.Histories.{WorkersBelow}
-use Rattle.bg_seats.specs.Seating.{turn_of, pass_of, both_of, spent, Agrees, IsHistoryWord, holds, Told, CaughtUp, Compared, Ended, Loaded, Recorded, extended, joined, taken_in, pass_alone, turn_alone, counted, given}
+use Rattle.bg_seats.specs.Seating.{turn_of, pass_of, both_of, spent, Agrees, IsHistoryWord, holds, Told, CaughtUp, Compared, Ended, Loaded, Recorded, extended, joined, taken_in, pass_alone, turn_alone, counted, given_pass}
 use Rattle.bg_seats.proofs.Lists.{set_at, each_set, each_snoc}
 use Rattle.bg_seats.proofs.Histories.{below-larger, below-snoc}
 use Rattle.bg_seats.proofs.Views.{agrees_pass, agrees_turn, agrees_both, agrees_spent, agrees_elsewhere, agrees_longer}
@@ -354,8 +354,8 @@ module _ {S : Type 0} where
       → Splits {S = S} holds seat view (pass_alone view) (turn_alone view)
   splits_turn_at seat worker seen passes history view is = subst (λ x. Splits {S = S} holds seat x (pass_alone x) (turn_alone x)) (sym is) (splits_turn seat worker seen passes history)
 
-  pub splits_pass_at : (seat passes : ℕ) (history : List Entry) (view : Knowledge) → view ≡ turn_of passes history → Splits {S = S} holds seat view (counted view) (given view)
-  splits_pass_at seat passes history view is = subst (λ x. Splits {S = S} holds seat x (counted x) (given x)) (sym is) (splits_pass seat passes history)
+  pub splits_pass_at : (seat passes : ℕ) (history : List Entry) (view : Knowledge) → view ≡ turn_of passes history → Splits {S = S} holds seat view (counted view) (given_pass view)
+  splits_pass_at seat passes history view is = subst (λ x. Splits {S = S} holds seat x (counted x) (given_pass x)) (sym is) (splits_pass seat passes history)
 
   -- ---- the view after a join, and after an entry
 

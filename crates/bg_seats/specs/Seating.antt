@@ -9,7 +9,7 @@ use Rattle.bg_base.specs.declared.history.Entry.{Entry}
 use Rattle.bg_seats.specs.declared.knowledge.Knowledge.{Knowledge}
 use Rattle.bg_seats.specs.Histories.{entries_of, WorkersBelow, Grows}
 
---- ---- the rule
+-- ---- the rule
 
 -- what is true of the view of each seat, where so many passes were given, one seat has the turn, and each worker number has its seat
 pub record Agrees (history : List Entry) (passes turn : ℕ) (seat_of : ℕ → ℕ) (seat : ℕ) (view : Knowledge) : Type 0 where
@@ -37,7 +37,7 @@ pub record IsHistoryWord (words : List ℕ) (views : List Knowledge) : Type 0 wh
 abbrev pub holds : {S : Type 0} → State S Knowledge → Type 0
 holds state = IsHistoryWord state.words state.views
 
---- ---- views
+-- ---- views
 
 -- the view of the turn, after so many passes were given
 abbrev pub turn_of : ℕ → List Entry → Knowledge
@@ -60,15 +60,15 @@ abbrev pub list_of : List Knowledge → List Entry
 list_of [] = []
 list_of (view ∷ views) = view.history
 
---- ---- how views change
+-- ---- how views change
 
 -- the turn after one pass more was given
 abbrev pub counted : Knowledge → Knowledge
 counted view = record view { turn = option_map (λ passes. passes + 1) view.turn }
 
 -- that pass
-abbrev pub given : Knowledge → Knowledge
-given view = pass_of (unwrap_or view.turn 0) view.history
+abbrev pub given_pass : Knowledge → Knowledge
+given_pass view = pass_of (unwrap_or view.turn 0) view.history
 
 -- a pass that takes the turn
 abbrev pub joined : Knowledge → Knowledge → Knowledge
@@ -94,7 +94,7 @@ caught_up view = record view { seen = view.history }
 abbrev pub extended : Entry → Knowledge → Knowledge
 extended entry view = record view { seen = view.seen ++ entry ∷ []; history = view.history ++ entry ∷ [] }
 
---- ---- what steps tell
+-- ---- what steps tell
 
 -- what a load tells a pass that has the turn
 abbrev pub Told : Knowledge → ℕ → Type 0

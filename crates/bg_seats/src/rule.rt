@@ -22,11 +22,11 @@ impl TableRule<u8, Knowledge, ()> for Seating {
 pub struct GivesPass;
 
 impl Split<Knowledge> for GivesPass {
-    ghost use Rattle.bg_seats.specs.Seating.{counted, given};
+    ghost use Rattle.bg_seats.specs.Seating.{counted, given_pass};
 
     ghost left = { counted };
 
-    ghost right = { given };
+    ghost right = { given_pass };
 }
 
 /// A pass takes the turn.

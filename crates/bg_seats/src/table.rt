@@ -109,7 +109,7 @@ fn give_passes(
 
 impl HistoryTable {
     /// An empty history with 1 to 64 passes, of the workers from 0 on in their order, and its turn. It refuses for want of
-    /// memory alone. Takes one word for the table, and four bytes for each pass and for the turn.
+    /// memory alone. Takes memory for one word, and four bytes for each pass.
     pub fn new(alloc: Global, passes: u32) -> Mem<(HistoryTable, Vec<Pass>, Turn)>
         requires { (1 ≤ passes) × (passes ≤ 64) }
         ensures passes { IfOk result (λ made. made.1.items ≡ new_passes made.0 passes) }
@@ -140,7 +140,7 @@ impl HistoryTable {
     }
 
     /// The pass has then seen all entries; the number of them. What it had seen is a beginning of them, and no entry behind
-    /// that is of its worker. Two loads and a join of seats; takes no memory.
+    /// that is of its worker. Three loads; takes no memory.
     pub fn see(&self, pass: &mut Pass, turn: &mut Turn) -> u32
         requires tables { (pass.old.table ≡ self.now) × (turn.old.table ≡ self.now) }
         ensures pass { pass.new ≡ record pass.old { seen = turn.old.list } }
