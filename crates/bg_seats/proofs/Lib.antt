@@ -1,0 +1,4 @@
+pub mod Histories
+mod Keeping
+mod Lists
+mod Views
