@@ -59,6 +59,20 @@ struct Counts {
     not: u32,
 }
 
+impl Counts {
+    /// One answer more.
+    fn add(&mut self, enabled: bool) {
+        if enabled {
+            self.enabled = self.enabled.saturating_add(1);
+        } else {
+            self.not = self.not.saturating_add(1);
+        }
+    }
+}
+
+/// More occurrences than a rule has in a host of five parts.
+const MOST_OCCURRENCES: u32 = 10_000;
+
 /// Whether the rule is enabled at the nodes: both ways of asking say so, or both do not. Nothing where they differ, or
 /// the redex does not occur there.
 fn answer_at(
@@ -93,29 +107,39 @@ fn count_rule(
 ) -> Mem<()> {
     let index = HostIndex::of(alloc, system.init().big())?;
     let mut walk = index.embeddings(alloc, rule.redex())?;
-    while let Some(map) = walk.next()? {
+    for _ in 0..MOST_OCCURRENCES {
+        let Some(map) = walk.next()? else {
+            return Ok(());
+        };
         let answer = answer_at(alloc, system, number, rule, map.as_slice())?;
         assert!(rt; answer.is_some());
-        if answer == Some(true) {
-            counts.enabled = counts.enabled.saturating_add(1);
-        } else {
-            counts.not = counts.not.saturating_add(1);
-        }
+        counts.add(answer == Some(true));
     }
+    panic!(rt; "there are more occurrences than a host of such parts can have")
+}
+
+/// Asks at each occurrence of each rule.
+fn count_rules(rt: &impl Abort, alloc: Global, system: &System, counts: &mut Counts) -> Mem<()> {
+    for (number, rule) in system.rules().iter().enumerate() {
+        count_rule(rt, alloc, system, number as u32, rule, counts)?;
+    }
+    Ok(())
+}
+
+/// So many hosts are drawn, and each answer came often.
+fn try_hosts(rt: &impl Abort, alloc: Global, hosts: u32, often: u32) -> Mem<()> {
+    let mut picker = Picker::new(1, 0);
+    let mut counts = Counts { enabled: 0, not: 0 };
+    for _ in 0..hosts {
+        let model = model_of(alloc, &mut picker)?;
+        let system = system_of(rt, alloc, model.as_str())?;
+        count_rules(rt, alloc, &system, &mut counts)?;
+    }
+    assert!(rt; counts.enabled > often && counts.not > often);
     Ok(())
 }
 
 #[test]
 fn pieces_and_the_whole_host_answer_alike(rt: HostRuntime) -> Mem<()> {
-    let mut picker = Picker::new(1, 0);
-    let mut counts = Counts { enabled: 0, not: 0 };
-    for _ in 0..300 {
-        let model = model_of(rt.alloc(), &mut picker)?;
-        let system = system_of(&rt, rt.alloc(), model.as_str())?;
-        for (number, rule) in system.rules().iter().enumerate() {
-            count_rule(&rt, rt.alloc(), &system, number as u32, rule, &mut counts)?;
-        }
-    }
-    assert!(&rt; counts.enabled > 300 && counts.not > 300);
-    Ok(())
+    try_hosts(&rt, rt.alloc(), 300, 300)
 }

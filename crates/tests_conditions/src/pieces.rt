@@ -120,25 +120,43 @@ fn pieces_are(alloc: Global, host: &Host, rule: &Rule, case: &Case) -> Mem<bool>
     Ok(are_rows(&parameter, case.parameter) && are_rows(&context, case.context))
 }
 
-#[test]
-fn pieces_are_parts_of_the_host_with_holes_and_opened_edges(rt: HostRuntime) -> Mem<()> {
-    for case in CASES.iter() {
-        let system = system_of(&rt, rt.alloc(), case.model)?;
-        for rule in system.rules() {
-            assert!(&rt; pieces_are(rt.alloc(), system.init(), rule, case)?);
-        }
+/// Both pieces are those of the case, in its system.
+fn try_case(rt: &impl Abort, alloc: Global, case: &Case) -> Mem<()> {
+    let system = system_of(rt, alloc, case.model)?;
+    for rule in system.rules() {
+        assert!(rt; pieces_are(alloc, system.init(), rule, case)?);
+    }
+    Ok(())
+}
+
+/// Each case holds.
+fn try_all(rt: &impl Abort, alloc: Global, cases: &[Case]) -> Mem<()> {
+    for case in cases {
+        try_case(rt, alloc, case)?;
     }
     Ok(())
 }
 
 #[test]
-fn the_redex_of_the_first_rule_occurs_and_that_of_the_second_does_not(rt: HostRuntime) -> Mem<()> {
-    let model = "atomic ctrl A = 0; atomic ctrl B = 0; big s = A;
-react r = A --> A; react q = B --> B; begin brs init s; rules = [ {r, q} ]; end";
-    let system = system_of(&rt, rt.alloc(), model)?;
-    let index = HostIndex::of(rt.alloc(), system.init().big())?;
+fn pieces_are_parts_of_the_host_with_holes_and_opened_edges(rt: HostRuntime) -> Mem<()> {
+    try_all(&rt, rt.alloc(), &CASES)
+}
+
+/// The redex of the first rule alone occurs in the host.
+fn try_first_alone(rt: &impl Abort, alloc: Global, model: &str) -> Mem<()> {
+    let system = system_of(rt, alloc, model)?;
+    let index = HostIndex::of(alloc, system.init().big())?;
     for (number, rule) in system.rules().iter().enumerate() {
-        assert!(&rt; occurs_somewhere(rt.alloc(), &index, rule.redex())? == (number == 0));
+        assert!(rt; occurs_somewhere(alloc, &index, rule.redex())? == (number == 0));
     }
     Ok(())
+}
+
+/// Two rules, of which the redex of the first occurs.
+const FIRST_ALONE: &str = "atomic ctrl A = 0; atomic ctrl B = 0; big s = A;
+react r = A --> A; react q = B --> B; begin brs init s; rules = [ {r, q} ]; end";
+
+#[test]
+fn a_pattern_occurs_somewhere_or_nowhere(rt: HostRuntime) -> Mem<()> {
+    try_first_alone(&rt, rt.alloc(), FIRST_ALONE)
 }
