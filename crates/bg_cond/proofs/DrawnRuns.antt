@@ -1,5 +1,5 @@
 -- What is drawn is one run.
-use Rattle.std.proofs.Common.{◌≡◌, ℕ, zero, suc, ◌<◌, ◌≤◌, List, ◌∷◌, length, All, inl, inr, refl, sym, ap, subst, ◌∙◌, arith}
+use Rattle.std.proofs.Common.{◌≡◌, ℕ, zero, suc, ◌-◌, ◌<◌, ◌≤◌, List, ◌∷◌, ◌++◌, length, length-append, All, inl, inr, refl, sym, ap, subst, ◌∙◌, arith}
 use Rattle.std.proofs.lemmas.Bool.Decides.{leb_tells}
 use Rattle.bg_lists.specs.Lists.{Mem, At, here, there}
 use Rattle.bg_lists.proofs.Places.{At-one, Mem-from_At, At-from_Mem}
@@ -99,6 +99,24 @@ module _ (rules : List RuleParts) (worker : ℕ) where
   drawn_end (full {step = step} pick large e) = (omega arith, subst (λ (h : HostState). IsTooLarge h rules step) (sym e) large)
   drawn_end {after = after} (drawn {room = room} {entry = entry} {entries = entries} {end = end} pick leads e rest) =
       end_longer room entry entries after end (drawn_end rest)
+
+-- the end of a run behind these entries is that of all
+pub end_behind : (rules : List RuleParts) (most : ℕ) (entries more : List Entry) (after : HostState) (end : End) → length entries ≤ most
+    → IsEndOf rules (most - length entries) more after end → IsEndOf rules most (entries ++ more) after end
+end_behind rules most entries more after Limit le is =
+    let long = length-append entries more in
+    let all : length (entries ++ more) ≡ most = omega (arith, le, is, long) in
+    all
+end_behind rules most entries more after Quiet le is =
+    let long = length-append entries more in
+    let less = is.0 in
+    let few : length (entries ++ more) < most = omega (arith, le, less, long) in
+    (few, is.1)
+end_behind rules most entries more after (Full step) le is =
+    let long = length-append entries more in
+    let less = is.0 in
+    let few : length (entries ++ more) < most = omega (arith, le, less, long) in
+    (few, is.1)
 
 -- ---- quiet hosts
 

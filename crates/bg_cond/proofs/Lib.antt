@@ -23,3 +23,4 @@ pub mod OneVerdict
 pub mod Runs
 pub mod DrawnRuns
 pub mod Taking
+pub mod Committing

@@ -1,5 +1,5 @@
 -- Steps lead to one host, and a run has one end.
-use Rattle.std.proofs.Common.{◌≡◌, List, All, sym, subst, ◌∙◌}
+use Rattle.std.proofs.Common.{◌≡◌, List, [], ◌∷◌, ◌++◌, All, refl, sym, subst, ◌∙◌}
 use Rattle.bg_lists.proofs.Places.{At-one, Mem-from_At}
 use Rattle.bg_lists.proofs.Words.{All-member}
 use Rattle.bg_base.specs.declared.history.Entry.{Entry}
@@ -10,7 +10,7 @@ use Rattle.bg_rules.specs.Reaction.{HostState, Reacts}
 use Rattle.bg_rules.specs.Rules.{RuleParts, IsRule}
 use Rattle.bg_rules.proofs.Kept.{result_is_host}
 use Rattle.bg_rules.proofs.Reactions.{one_result}
-use Rattle.bg_cond.specs.Steps.{LeadsTo, IsTooLarge, step_of, IsRun, ended, stepped}
+use Rattle.bg_cond.specs.Steps.{IsLegal, LeadsTo, IsTooLarge, step_of, IsRun, ended, stepped}
 
 -- ---- one step
 
@@ -45,3 +45,14 @@ module _ (rules : List RuleParts) (are : All IsRule rules) where
       (stepped {next = twin} also to others) =
       let next_is : twin ≡ next = one_next rules are host is (step_of entry) to leads in
       run_one_end (next_is_host rules are host is (step_of entry) leads) rest (subst (λ h. IsRun rules h entries other) next_is others)
+
+-- a run that goes on with another is a run
+pub run_append : {rules : List RuleParts} {host between after : HostState} {entries more : List Entry} → IsRun rules host entries between
+    → IsRun rules between more after → IsRun rules host (entries ++ more) after
+run_append {rules} {after = after} {more = more} (ended e) rest = subst (λ (h : HostState). IsRun rules h more after) e rest
+run_append (stepped legal leads run) rest = stepped legal leads (run_append run rest)
+
+-- a run with one entry more
+pub run_snoc : {rules : List RuleParts} {host between after : HostState} {entries : List Entry} (entry : Entry) → IsRun rules host entries between
+    → IsLegal between rules (step_of entry) → LeadsTo between rules (step_of entry) after → IsRun rules host (entries ++ entry ∷ []) after
+run_snoc entry run legal leads = run_append run (stepped {entry = entry} legal leads (ended refl))

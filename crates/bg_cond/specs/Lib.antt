@@ -7,3 +7,4 @@ pub mod Found
 pub mod Verdicts
 pub mod Picks
 pub mod Drawn
+pub mod Boards

@@ -13,12 +13,15 @@ ghost use Rattle.bg_rules.specs.Reaction.{HostState};
 ghost use Rattle.bg_rules.specs.Rules.{RuleParts, IsRule};
 ghost use Rattle.bg_rules.specs.Solid.{IsPattern};
 ghost use Rattle.bg_rules.specs.Systems.{SystemParts, IsSystem};
+ghost use Rattle.bg_cond.specs.Boards.{IsCommitted};
 ghost use Rattle.bg_cond.specs.Conditions.{IsEnabled};
 ghost use Rattle.bg_cond.specs.Drawn.{Draws, IsEndOf};
 ghost use Rattle.bg_cond.specs.Pieces.{hole_control, parameter_piece, context_piece};
 ghost use Rattle.bg_cond.specs.Sides.{HoldsInHost, LooksForNodes};
 ghost use Rattle.bg_cond.specs.Steps.{AreFirstLegal, AreLegal, HasNoStep, IsQuiet, IsRun};
 ghost use Rattle.bg_cond.specs.Verdicts.{IsJudged};
+ghost use Rattle.bg_cond.specs.declared.commits.Commit.{Commit as CommitOf};
+ghost use Rattle.bg_cond.specs.declared.commits.Found.{Found as FoundStep};
 ghost use Rattle.bg_cond.specs.declared.ending.End.{End as EndOf};
 ghost use Rattle.bg_cond.specs.declared.verdict.Verdict.{Verdict as VerdictOf};
 ghost use Rattle.rand_pcg.specs.Lcg.{Lcg};
@@ -103,4 +106,10 @@ pub fn drawn_runs_are_runs()
         → Draws rules worker room host state entries end after → All (λ (entry : Entry). entry.worker ≡ worker) entries }
     ensures end { (rules : List RuleParts) (worker room : ℕ) (host after : HostState) (state : Lcg) (entries : List Entry) (end : EndOf)
         → Draws rules worker room host state entries end after → IsEndOf rules room entries after end }
+{}
+
+/// No two answers to one commit are right.
+pub fn commits_have_one_answer()
+    ensures { (system : SystemParts) (limit worker : ℕ) (before after : List Entry) (found : FoundStep) (one other : CommitOf)
+        → IsCommitted system limit worker before after found one → IsCommitted system limit worker before after found other → one ≡ other }
 {}

@@ -5,11 +5,18 @@
 //! - [`first_class`], [`steps`]: the first class with a rule that is enabled, and the steps of its rules.
 //! - [`judge`]: whether a step is legal, or why not.
 //! - [`take_step`]: what a legal step makes of the host. [`End`]: how a run ends.
+//! - [`Board`]: a host that workers share, under a [`HostName`]; what they see of it, a [`View`], what they find, a
+//!   [`Found`], what becomes of that, a [`Commit`], and what is left, a [`Closed`].
+//! - [`Finder`], [`Gate`]: how workers find legal steps, and who is told of their moments.
 #![tactic(auto)]
 
 mod asking;
+mod board;
+mod commits;
 mod enabling;
 mod ending;
+mod finder;
+mod gate;
 mod holding;
 mod judging;
 pub mod laws;
@@ -23,7 +30,11 @@ mod stepping;
 mod verdict;
 
 pub use asking::enabled;
+pub use board::{Board, HostName};
+pub use commits::{Closed, Commit, Found, View};
 pub use ending::End;
+pub use finder::{Finder, MOST_CANDIDATES, PlainFinder};
+pub use gate::{Gate, Moment, OpenGate};
 pub use judging::judge;
 pub use legal::{first_class, steps};
 pub use listed::occurs_somewhere;

@@ -10,6 +10,7 @@ ghost use Rattle.bg_top.specs.Words.{asked};
 ghost use Rattle.bg_words.specs.Words.{IsInRange};
 
 use bg_answers::{Reply, Status};
+use bg_cond::Gate;
 use bg_io::{ReadAllFault, Sink, SinkFault, Source, read_all, write_all};
 use bg_lists::{Mem, OutOfMemory};
 use bg_words::{Command, Request, WordsFault, request};
@@ -18,6 +19,8 @@ use command_match::answer_match;
 use command_models::{answer_check, answer_show};
 use command_run::answer_run;
 use std::alloc::Global;
+use std::sync::Wait;
+use std::thread::Threads;
 
 /// The most bytes of an input; a longer one is refused.
 pub const MOST_BYTES: u32 = 8_388_608;
@@ -33,9 +36,9 @@ pub const NO_MEMORY: u8 = 5;
 
 /// Does all that the program does: reads the words, then the source, and writes the answer to the sink.
 ///
-/// `words` are those of the command line, the program's name first. The answer is made whole before its
-/// first byte is written, each written line ends with a line feed, and at every status but 3, 4 and 5 the sink
-/// was flushed after the last byte.
+/// `words` are those of the command line, the program's name first; `gate` is told of the moments of the workers of a
+/// run. The answer is made whole before its first byte is written, each written line ends with a line feed, and at every
+/// status but 3, 4 and 5 the sink was flushed after the last byte. It may wait: the workers of a run do.
 ///
 /// | Status | Written | When |
 /// |---|---|---|
@@ -49,11 +52,13 @@ pub const NO_MEMORY: u8 = 5;
 /// | 8 | `too long` | exactly where the source gave `MOST_BYTES + 1` bytes |
 ///
 /// 3, 4 and 5 come before the others: "exactly where" is said of the calls that end with none of them.
-pub fn engine<S: Source, K: Sink>(
+pub fn engine<S: Source, K: Sink, G: Gate + Sync, R: Threads + Wait + Sync>(
+    rt: &R,
     alloc: Global,
     words: &[String],
     source: &mut S,
     sink: &mut K,
+    gate: &G,
 ) -> u8
     // every status, and what is written with it
     ensures ended { Ended (IsRight most_bytes (asked words.now) (S.left source.old)) result
@@ -91,11 +96,18 @@ pub fn engine<S: Source, K: Sink>(
         → ¬ Rose (S.faults source.old) (S.faults source.new) → ¬ Rose (K.faults sink.old) (K.faults sink.new)
         → (result ≡ out_of_memory) ⊎ AsksOf most_bytes (asked words.now) input (EndsWith result)) }
 {
-    run(alloc, words, source, sink)
+    run(rt, alloc, words, source, sink, gate)
 }
 
 /// The body of `engine`, whose other clauses follow from this one.
-fn run<S: Source, K: Sink>(alloc: Global, words: &[String], source: &mut S, sink: &mut K) -> u8
+fn run<S: Source, K: Sink, G: Gate + Sync, R: Threads + Wait + Sync>(
+    rt: &R,
+    alloc: Global,
+    words: &[String],
+    source: &mut S,
+    sink: &mut K,
+    gate: &G,
+) -> u8
     ensures ended { Ended (IsRight most_bytes (asked words.now) (S.left source.old)) result
         (Rose (S.faults source.old) (S.faults source.new)) (Rose (K.faults sink.old) (K.faults sink.new))
         (K.is_flushed sink.new) (K.held sink.old) (K.held sink.new) }
@@ -115,25 +127,38 @@ fn run<S: Source, K: Sink>(alloc: Global, words: &[String], source: &mut S, sink
         Err(ReadAllFault::TooLong) => return respond(sink, Status::TooLong, b"too long\n"),
         Err(ReadAllFault::OutOfMemory) => return NO_MEMORY,
     };
-    answer(alloc, asked, input.as_slice(), sink)
+    answer(rt, alloc, asked, input.as_slice(), sink, gate)
 }
 
 /// Makes the answer to a request and its input, and writes it.
-fn answer<K: Sink>(alloc: Global, request: Request, input: &[u8], sink: &mut K) -> u8
+fn answer<K: Sink, G: Gate + Sync, R: Threads + Wait + Sync>(
+    rt: &R,
+    alloc: Global,
+    request: Request,
+    input: &[u8],
+    sink: &mut K,
+    gate: &G,
+) -> u8
     requires in_range { IsInRange request }
     requires few { length input.now ≤ most_bytes }
     ensures ended { Ended (IsReply request input.now) result
         ⊥ (Rose (K.faults sink.old) (K.faults sink.new)) (K.is_flushed sink.new) (K.held sink.old) (K.held sink.new) }
     ensures sink_faults { result ≢ failed_write → K.faults sink.new ≡ K.faults sink.old }
 {
-    match reply_to(alloc, request, input) {
+    match reply_to(rt, alloc, request, input, gate) {
         Ok(reply) => respond(sink, reply.status, reply.text.as_slice()),
         Err(OutOfMemory) => NO_MEMORY,
     }
 }
 
 /// The answer to a request and its input.
-fn reply_to(alloc: Global, request: Request, input: &[u8]) -> Mem<Reply>
+fn reply_to<G: Gate + Sync, R: Threads + Wait + Sync>(
+    rt: &R,
+    alloc: Global,
+    request: Request,
+    input: &[u8],
+    gate: &G,
+) -> Mem<Reply>
     requires in_range { IsInRange request }
     requires few { length input.now ≤ most_bytes }
     ensures { IfOk result (λ reply. IsReply request input.now (answer_of reply)) }
@@ -143,7 +168,15 @@ fn reply_to(alloc: Global, request: Request, input: &[u8]) -> Mem<Reply>
         Command::Check => answer_check(alloc, input),
         Command::Show => answer_show(alloc, input),
         Command::Match => answer_match(alloc, input, request.most, request.explain),
-        Command::Run => answer_run(alloc, input, request.steps, request.seed),
+        Command::Run => answer_run(
+            rt,
+            alloc,
+            input,
+            request.steps,
+            request.workers,
+            request.seed,
+            gate,
+        ),
     }
 }
 

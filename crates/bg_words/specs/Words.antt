@@ -8,7 +8,7 @@ use Rattle.bg_base.specs.Limits.{most_steps}
 use Rattle.bg_words.specs.declared.asking.Request.{Request}
 use Rattle.bg_words.specs.declared.command.Command.{Command}
 use Rattle.bg_words.specs.declared.numbers.Numbers.{Numbers}
-use Rattle.bg_words.specs.Commands.{command_of, is_built_for}
+use Rattle.bg_words.specs.Commands.{command_of}
 use Rattle.bg_words.specs.Numbers.{number_of}
 use Rattle.bg_words.specs.Options as option
 use Rattle.bg_words.specs.Options.{the_app}
@@ -35,10 +35,6 @@ number_in rows name numbers = number_or_default numbers (first_of name rows)
 abbrev pub is_set : List Row → List ℕ → Bool
 is_set rows name = option_map_or (λ text. bytes_eq text (codes "true")) (first_of name rows) false
 
--- the request, where its command is built for so many workers
-abbrev pub built_only : Request → Option Request
-built_only request = if is_built_for request.command request.workers then Some request else None
-
 -- what is asked for, where clap takes the words and finds this in them
 unfoldable pub request_in : List Row → Option Request
 request_in rows = do
@@ -48,7 +44,7 @@ request_in rows = do
   steps ← number_in rows (codes "steps") option.steps
   seed ← number_in rows (codes "seed") option.seed
   size ← number_in rows (codes "size") option.size
-  built_only (record {
+  Some (record {
     command = command;
     most = most;
     workers = workers;
@@ -62,7 +58,8 @@ request_in rows = do
 unfoldable pub asked : List (List ℕ) → Option Request
 asked words = if is_empty (fault_of the_app words) then request_in (matches_of the_app words) else None
 
--- what holds of each request: a run has not too many steps, and its command is built for so many workers
+-- what holds of each request: a run has not too many steps, and there are 1 to 64 workers
 pub record IsInRange (request : Request) : Type 0 where
   pub few_steps : request.steps ≤ most_steps
-  pub built : is_built_for request.command request.workers ≡ true
+  pub some_workers : 1 ≤ request.workers
+  pub few_workers : request.workers ≤ 64

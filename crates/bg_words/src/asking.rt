@@ -3,7 +3,7 @@ ghost use Rattle.std.specs.Prelude.{◌≡◌, ◌≤◌, ◌<◌, ◌^◌, opti
 ghost use Rattle.clap.specs.Words.{first_of, found_of, rows_of};
 ghost use Rattle.bg_words.specs.Words as definition;
 
-use crate::command::{Command, command_of, is_built_for};
+use crate::command::{Command, command_of};
 use crate::numbers::{Numbers, number_of};
 use crate::options::{MOST, SEED, SIZE, STEPS, WORKERS};
 use clap::ArgMatches;
@@ -15,7 +15,7 @@ pub struct Request {
     pub command: Command,
     /// How many occurrences of a rule are listed at most, from 1 to 1,000,000; 100,000 where it is not given.
     pub most: u32,
-    /// How many workers there are, from 1 to 64; 1 where it is not given. `run` is built for 1.
+    /// How many workers there are, from 1 to 64; 1 where it is not given.
     pub workers: u32,
     /// How many steps are made at most, from 0 to 100,000; 1,000 where it is not given.
     pub steps: u32,
@@ -27,13 +27,13 @@ pub struct Request {
     pub explain: bool,
 }
 
-/// What these matches ask for, or nothing where the command is none that is built, or not for so many workers, or a
-/// number is not of its form or not in its range.
+/// What these matches ask for, or nothing where the command is none that is built, or a number is not of its form or not
+/// in its range.
 #[tactic(auto, unfolding(crate::specs::Words::request_in))]
 pub(crate) fn request_in(matches: &ArgMatches) -> Option<Request>
     ensures { result ≡ definition.request_in (rows_of (found_of matches.now)) }
 {
-    built_only(Request {
+    Some(Request {
         command: command_in(matches)?,
         most: small_number_in(matches, "most", MOST)?,
         workers: small_number_in(matches, "workers", WORKERS)?,
@@ -42,13 +42,6 @@ pub(crate) fn request_in(matches: &ArgMatches) -> Option<Request>
         size: small_number_in(matches, "size", SIZE)?,
         explain: is_set(matches, "explain"),
     })
-}
-
-/// The request, where its command is built for so many workers.
-fn built_only(request: Request) -> Option<Request>
-    ensures { result ≡ definition.built_only request }
-{
-    is_built_for(request.command, request.workers).then_some(request)
 }
 
 /// The command that is named.

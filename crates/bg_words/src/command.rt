@@ -30,13 +30,3 @@ pub(crate) fn command_of(name: &str) -> Option<Command>
         _ => None,
     }
 }
-
-/// Whether the command is built for so many workers: `run` is for one.
-pub(crate) fn is_built_for(command: Command, workers: u32) -> bool
-    ensures { result ≡ definition.is_built_for command workers }
-{
-    match command {
-        Command::Run => workers == 1,
-        Command::Compose | Command::Check | Command::Show | Command::Match => true,
-    }
-}

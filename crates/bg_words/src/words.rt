@@ -14,9 +14,9 @@ use std::alloc::Global;
 /// What the words ask for, of which the first is the name of the program.
 ///
 /// One word behind it is the command; options stand before it and behind it, as `--most 5` or as `--most=5`, and `--`
-/// ends them. Refused are no words, no command or two, a command that is not built, or not for so many workers, an option
-/// that is not there, is abbreviated or is given twice, a flag with a value, and a number that is not one to twenty digits
-/// or not in the range of its option. The number of an option that the command does not use is judged too, and has no
+/// ends them. Refused are no words, no command or two, a command that is not built, an option that is not there, is
+/// abbreviated or is given twice, a flag with a value, and a number that is not one to twenty digits or not in the range of
+/// its option. The number of an option that the command does not use is judged too, and has no
 /// other effect. Costs time and memory in proportion to the words.
 pub fn request(alloc: Global, words: &[String]) -> Result<Request, WordsFault>
     ensures given { IfOk result (λ request. asked (map string_bytes words.now) ≡ Some request) }

@@ -1,3 +1,4 @@
 mod Picking
 mod Reference
 mod Turning
+pub mod TurnLaws

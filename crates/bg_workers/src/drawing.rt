@@ -1,21 +1,18 @@
 //! Drawing a run on the calling thread.
 ghost use Rattle.std.specs.Prelude.{◌≡◌, ◌≤◌, ◌++◌, ◌∷◌, [], length, IfOk, OnOk, MatchOption};
-ghost use Rattle.bg_base.specs.Bigraph.{IsValidUnder};
 ghost use Rattle.bg_base.specs.Limits.{most_steps};
 ghost use Rattle.bg_cond.specs.Drawn.{Draws, IsPick};
-ghost use Rattle.bg_cond.specs.Picks.{seeded, next_state};
-ghost use Rattle.bg_cond.specs.Steps.{HasNoStep, IsRun};
+ghost use Rattle.bg_cond.specs.Picks.{next_state};
+ghost use Rattle.bg_cond.specs.Steps.{HasNoStep};
 ghost use Rattle.bg_workers.specs.Turns.{Turns};
 
+use crate::choosing::pick_step;
 use crate::picker::Picker;
 use bg_base::{Entry, Journal, Step};
-use bg_cond::{End, steps, take_step};
-use bg_lists::{Duplicate, Mem, OutOfMemory, Rows};
+use bg_cond::{End, MOST_CANDIDATES, steps, take_step};
+use bg_lists::{Mem, OutOfMemory, Rows};
 use bg_rules::{Host, ReactFault, System};
 use std::alloc::Global;
-
-/// As many legal steps, from the first on, may be picked.
-const MOST_CANDIDATES: u32 = 4_096;
 
 /// A run that came to its end.
 #[derive(Debug, Drop)]
@@ -27,31 +24,23 @@ pub struct DrawnRun {
     pub host: Host,
 }
 
-/// The run of the system that the seed draws, of at most so many entries, all of worker 0: at each host the first 4,096
-/// legal steps are the candidates, and the next word of the generator, modulo their number, is the place of the one that
-/// is taken. Each turn costs what [`steps`] and [`take_step`] cost.
-pub fn draw(alloc: Global, system: &System, most: u32, seed: u64) -> Mem<DrawnRun>
+/// The run that the generator draws from the host on, of at most so many entries, all of worker 0: at each host the first
+/// 4,096 legal steps are the candidates, and the next word of the generator, modulo their number, is the place of the one
+/// that is taken. Each turn costs what [`steps`] and [`take_step`] cost.
+pub fn draw(
+    alloc: Global,
+    system: &System,
+    mut host: Host,
+    most: u32,
+    picker: &mut Picker,
+) -> Mem<DrawnRun>
     requires { most ≤ most_steps }
-    ensures drawn { IfOk result (λ run. Draws system.now.rules 0 most system.now.init (seeded seed 0) run.journal run.end run.host) }
-    ensures run { IfOk result (λ run. IsRun system.now.rules system.now.init run.journal run.host) }
-    ensures fits { IfOk result (λ run. IsValidUnder system.now.signature run.host.big) }
+    ensures { IfOk result (λ run. Draws system.now.rules 0 most host picker.old run.journal run.end run.host) }
 {
-    let _signature = system.signature();
-    let run = drawn(alloc, system, most, seed)?;
-    Ok(run)
-}
-
-/// The run that the seed draws.
-fn drawn(alloc: Global, system: &System, most: u32, seed: u64) -> Mem<DrawnRun>
-    requires { most ≤ most_steps }
-    ensures { IfOk result (λ run. Draws system.now.rules 0 most system.now.init (seeded seed 0) run.journal run.end run.host) }
-{
-    let mut host = system.init().copy(alloc)?;
-    let mut picker = Picker::new(seed, 0);
     let mut entries = Vec::new(alloc);
     let mut room = most;
     while room > 0 {
-        if let Some(end) = draw_one(alloc, system, 0, &mut host, &mut picker, &mut entries)? {
+        if let Some(end) = draw_one(alloc, system, 0, &mut host, picker, &mut entries)? {
             return Ok(ended(entries, end, host));
         }
         room -= 1;
@@ -111,10 +100,7 @@ fn choose(alloc: Global, host: &Host, system: &System, picker: &mut Picker) -> M
     ensures { IfOk result (λ chosen. MatchOption chosen (HasNoStep host.now system.now.rules)
         (λ step. IsPick host.now system.now.rules picker.old step × (picker.new ≡ next_state picker.old))) }
 {
-    let mut candidates = steps(alloc, host, system, MOST_CANDIDATES)?;
-    if candidates.is_empty() {
-        return Ok(None);
-    }
-    let place = picker.pick(candidates.len() as u32);
-    Ok(Some(candidates.swap_remove(place as usize)))
+    let candidates = steps(alloc, host, system, MOST_CANDIDATES)?;
+    let chosen = pick_step(candidates, picker);
+    Ok(chosen)
 }

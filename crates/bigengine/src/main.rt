@@ -1,6 +1,7 @@
 //! The program: `engine` over the words of the command line, the standard input and the standard output.
 #![tactic(auto)]
 
+use bg_cond::OpenGate;
 use bg_io::{StdSink, StdSource};
 use bg_top::{NO_MEMORY, engine};
 use std::process::ExitCode;
@@ -28,7 +29,14 @@ fn main(rt: HostRuntime) -> ExitCode {
     let mut source = StdSource::new(rt.stdin());
     let mut sink = StdSink::new(rt.stdout());
     match words(&rt) {
-        Ok(words) => ExitCode::from(engine(rt.alloc(), &words, &mut source, &mut sink)),
+        Ok(words) => ExitCode::from(engine(
+            &rt,
+            rt.alloc(),
+            &words,
+            &mut source,
+            &mut sink,
+            &OpenGate,
+        )),
         Err(_) => ExitCode::from(NO_MEMORY),
     }
 }

@@ -25,10 +25,11 @@ pub one_text : (system : SystemParts) (most seed : ℕ) (one other : List ℕ) �
     → IsRunText system most 1 seed other → one ≡ other
 one_text system most seed one other is a b =
     let same = drawn_once system.rules (system_rules system is) 0 is.init_is (a.drawn refl) (b.drawn refl) in
-    let truths = one_list_of_truths a.told (subst (λ (h : HostState). AreTold h.big system.preds b.truths) (sym same.2) b.told) in
-    a.text_is
-    ∙ ap (λ (xs : List Entry). run_text system xs a.end a.truths a.host) same.0
-    ∙ ap (λ (e : End). run_text system b.entries e a.truths a.host) same.1
+    let told = subst (λ (h : HostState). AreTold h.big system.preds b.written.truths) (sym same.2) b.written.told in
+    let truths = one_list_of_truths a.written.told told in
+    a.written.text_is
+    ∙ ap (λ (xs : List Entry). run_text system xs a.end a.written.truths a.host) same.0
+    ∙ ap (λ (e : End). run_text system b.entries e a.written.truths a.host) same.1
     ∙ ap (λ (ts : List Bool). run_text system b.entries b.end ts a.host) truths
-    ∙ ap (λ (h : HostState). run_text system b.entries b.end b.truths h) same.2
-    ∙ sym b.text_is
+    ∙ ap (λ (h : HostState). run_text system b.entries b.end b.written.truths h) same.2
+    ∙ sym b.written.text_is

@@ -1,28 +1,37 @@
--- The text that is written is that of the run that was drawn.
-use Rattle.std.proofs.Common.{◌≡◌, ℕ, ◌<◌, List, [], ◌++◌, Bool, ap, subst, ◌∙◌, arith}
+-- The text that is written is that of the run.
+use Rattle.std.proofs.Common.{◌≡◌, ℕ, List, [], ◌++◌, Bool, sym, ap, subst, ◌∙◌}
 use Rattle.bg_base.specs.declared.history.Entry.{Entry}
-use Rattle.bg_cond.proofs.DrawnRuns.{drawn_run, drawn_own, drawn_end}
-use Rattle.bg_cond.specs.Drawn.{Draws}
-use Rattle.bg_cond.specs.Picks.{seeded}
 use Rattle.bg_cond.specs.declared.ending.End.{End}
-use Rattle.bg_lists.proofs.Words.{All-from_members}
+use Rattle.bg_cond.specs.Steps.{IsRun}
 use Rattle.bg_rules.specs.declared.predicate.Predicate.{Predicate}
 use Rattle.bg_rules.specs.Reaction.{HostState}
 use Rattle.bg_rules.specs.Systems.{SystemParts}
-use Rattle.command_run.specs.RunText.{run_text, AreTold, IsRunText}
+use Rattle.bg_runs.specs.Finished.{IsFinished}
+use Rattle.bg_runs.specs.declared.finishing.FinishedRun.{FinishedRun}
+use Rattle.command_run.specs.RunText.{run_text, AreTold, IsTextOf, IsRunText}
 
-pub text_of_run : (system : SystemParts) (most seed : ℕ) (predicates : List Predicate) (entries : List Entry) (end : End) (truths : List Bool) (host : HostState)
-    (old text : List ℕ) (slice : List Bool) → predicates ≡ system.preds → Draws system.rules 0 most system.init (seeded seed 0) entries end host → AreTold host.big predicates truths
-    → old ≡ [] → slice ≡ truths → text ≡ old ++ run_text system entries end slice host → IsRunText system most 1 seed text
-text_of_run system most seed predicates entries end truths host old text slice same d told empty whole is = record {
-  entries = entries;
-  end = end;
+pub text_told : (run : FinishedRun) (predicates : List Predicate) (truths slice : List Bool) (old text : List ℕ) → predicates ≡ run.system.preds
+    → AreTold run.host.big predicates truths → old ≡ [] → slice ≡ truths → text ≡ old ++ run_text run.system run.journal run.end slice run.host
+    → IsTextOf run.system run.journal run.end run.host text
+text_told run predicates truths slice old text same told empty whole is = record {
   truths = truths;
-  host = host;
-  text_is = is ∙ ap (λ (xs : List ℕ). xs ++ run_text system entries end slice host) empty ∙ ap (λ (ts : List Bool). run_text system entries end ts host) whole;
-  run = drawn_run system.rules 0 d;
-  end_is = drawn_end system.rules 0 d;
-  workers_below = All-from_members (λ (entry : Entry). entry.worker < 1) entries (λ entry m. let own = drawn_own system.rules 0 d entry m in omega (arith, own));
-  told = subst (λ (ps : List Predicate). AreTold host.big ps truths) same told;
-  drawn = λ _. d;
+  told = subst (λ (ps : List Predicate). AreTold run.host.big ps truths) same told;
+  text_is = is ∙ ap (λ (xs : List ℕ). xs ++ run_text run.system run.journal run.end slice run.host) empty
+      ∙ ap (λ (ts : List Bool). run_text run.system run.journal run.end ts run.host) whole;
 }
+
+module _ (system : SystemParts) (most workers seed : ℕ) (run : FinishedRun) (finished : IsFinished system most workers seed run) where
+  pub finished_run : IsRun run.system.rules run.system.init run.journal run.host
+  finished_run = subst (λ (s : SystemParts). IsRun s.rules s.init run.journal run.host) (sym finished.same) finished.run_is
+
+  pub finished_text : (text : List ℕ) → IsTextOf run.system run.journal run.end run.host text → IsRunText system most workers seed text
+  finished_text text written = record {
+    entries = run.journal;
+    end = run.end;
+    host = run.host;
+    written = subst (λ (s : SystemParts). IsTextOf s run.journal run.end run.host text) finished.same written;
+    run = finished.run_is;
+    end_is = finished.end_is;
+    workers_below = finished.below;
+    drawn = finished.drawn;
+  }

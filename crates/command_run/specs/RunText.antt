@@ -1,5 +1,5 @@
 -- What is written of a run: its journal, its end, which predicates occur in its last host, and that host.
-use Rattle.std.specs.Prelude.{◌≡◌, ◌↔◌, ℕ, ◌<◌, Bool, IsTrue, true, false, List, [], ◌∷◌, ◌++◌, codes, zip, All}
+use Rattle.std.specs.Prelude.{◌≡◌, ◌↔◌, ℕ, Bool, IsTrue, true, false, List, [], ◌∷◌, ◌++◌, codes, zip}
 use Rattle.std.specs.List.{flat_map}
 use Rattle.bg_base.specs.declared.history.Entry.{Entry}
 use Rattle.bg_base.specs.declared.big.Big.{Big}
@@ -14,6 +14,7 @@ use Rattle.bg_listing.specs.Spelling.{label_text}
 use Rattle.bg_rules.specs.declared.predicate.Predicate.{Predicate}
 use Rattle.bg_rules.specs.Reaction.{HostState}
 use Rattle.bg_rules.specs.Systems.{SystemParts}
+use Rattle.bg_seats.specs.Histories.{WorkersBelow}
 
 -- ---- the text
 
@@ -51,16 +52,20 @@ pub data AreTold (host : Big) : List Predicate → List Bool → Type 0 where
 
 -- ---- runs
 
+-- the text is that of these entries, this end and this host of the system
+pub record IsTextOf (system : SystemParts) (entries : List Entry) (end : End) (host : HostState) (text : List ℕ) : Type 0 where
+  pub truths : List Bool
+  pub told : AreTold host.big system.preds truths
+  pub text_is : text ≡ run_text system entries end truths host
+
 -- the text is that of a run of the system by so many workers, of at most so many entries; with one worker it is the run that
 -- the seed draws
 pub record IsRunText (system : SystemParts) (most workers seed : ℕ) (text : List ℕ) : Type 0 where
   pub entries : List Entry
   pub end : End
-  pub truths : List Bool
   pub host : HostState
-  pub text_is : text ≡ run_text system entries end truths host
+  pub written : IsTextOf system entries end host text
   pub run : IsRun system.rules system.init entries host
   pub end_is : IsEndOf system.rules most entries host end
-  pub workers_below : All (λ (entry : Entry). entry.worker < workers) entries
-  pub told : AreTold host.big system.preds truths
+  pub workers_below : WorkersBelow workers entries
   pub drawn : workers ≡ 1 → Draws system.rules 0 most system.init (seeded seed 0) entries end host

@@ -2,44 +2,61 @@
 ghost use Rattle.std.specs.Prelude.{◌≡◌, ◌≤◌, ◌++◌, length, IfOk, OnOk};
 ghost use Rattle.bg_base.specs.Bigraph.{IsValidUnder};
 ghost use Rattle.bg_base.specs.Limits.{most_steps};
+ghost use Rattle.bg_cond.specs.Steps.{IsRun};
 ghost use Rattle.command_run.specs.RunText as text;
-ghost use Rattle.command_run.specs.RunText.{IsRunText};
+ghost use Rattle.command_run.specs.RunText.{IsTextOf, IsRunText};
 
 use crate::predicates::truths_of;
-use bg_cond::End;
+use bg_cond::{End, Gate};
 use bg_journal::{write_host, write_journal, write_step};
 use bg_listing::write_label;
 use bg_lists::Mem;
 use bg_rules::{Predicate, System};
-use bg_workers::{DrawnRun, draw};
+use bg_runs::{FinishedRun, run};
 use std::alloc::Global;
+use std::sync::Wait;
+use std::thread::Threads;
 
-/// The text of the run of the system that the seed draws, of at most so many entries.
-pub(crate) fn text_of(alloc: Global, system: &System, most: u32, seed: u64) -> Mem<Vec<u8>>
-    requires { most ≤ most_steps }
-    ensures { IfOk result (λ text. IsRunText system.now most 1 seed text.items) }
+/// The text of a run of the system by so many workers, of at most so many entries; with one worker of the run that the seed
+/// draws.
+pub(crate) fn text_of<G: Gate + Sync, R: Threads + Wait + Sync>(
+    rt: &R,
+    alloc: Global,
+    system: System,
+    most: u32,
+    workers: u32,
+    seed: u64,
+    gate: &G,
+) -> Mem<Vec<u8>>
+    requires most { most ≤ most_steps }
+    requires workers { (1 ≤ workers) × (workers ≤ 64) }
+    ensures { IfOk result (λ text. IsRunText system most workers seed text.items) }
 {
-    let run = draw(alloc, system, most, seed)?;
-    let truths = truths_of(alloc, &run.host, system.preds())?;
+    let finished = run(rt, alloc, system, most, workers, seed, gate)?;
+    let text = text_of_run(alloc, &finished)?;
+    Ok(text)
+}
+
+/// The text of the run.
+fn text_of_run(alloc: Global, run: &FinishedRun) -> Mem<Vec<u8>>
+    requires { IsRun run.now.system.rules run.now.system.init run.now.journal run.now.host }
+    ensures { IfOk result (λ text. IsTextOf run.now.system run.now.journal run.now.end run.now.host text.items) }
+{
+    let truths = truths_of(alloc, &run.host, run.system.preds())?;
     let mut text = Vec::new(alloc);
-    put_run(alloc, system, &run, truths.as_slice(), &mut text)?;
+    put_run(alloc, run, truths.as_slice(), &mut text)?;
     Ok(text)
 }
 
 /// The journal, the end, a line for each predicate, and the last host, behind what is there. After an error the bytes
 /// behind are of no use; so of the functions below.
 #[tactic(auto, unfolding(crate::specs::RunText::run_text))]
-fn put_run(
-    alloc: Global,
-    system: &System,
-    run: &DrawnRun,
-    truths: &[bool],
-    out: &mut Vec<u8>,
-) -> Mem<()>
-    requires fits { IsValidUnder system.now.signature run.now.host.big }
-    requires as_many { length truths.now ≡ length system.now.preds }
-    ensures { OnOk result (out.new.items ≡ out.old.items ++ text.run_text system.now run.now.journal run.now.end truths.now run.now.host) }
+fn put_run(alloc: Global, run: &FinishedRun, truths: &[bool], out: &mut Vec<u8>) -> Mem<()>
+    requires fits { IsValidUnder run.now.system.signature run.now.host.big }
+    requires as_many { length truths.now ≡ length run.now.system.preds }
+    ensures { OnOk result (out.new.items ≡ out.old.items ++ text.run_text run.now.system run.now.journal run.now.end truths.now run.now.host) }
 {
+    let system = &run.system;
     write_journal(alloc, &run.journal, out)?;
     put_end(alloc, &run.end, out)?;
     put_predicates(alloc, system.preds(), truths, out)?;

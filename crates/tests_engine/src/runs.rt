@@ -1,5 +1,6 @@
 //! What only a call shows: `engine` where a read or a write fails, and where nothing may be read. What the program prints
 //! stands in `examples/`.
+use bg_cond::OpenGate;
 use bg_io::{MemorySink, MemorySource};
 use bg_top::{NO_MEMORY, engine};
 use rand_core::SeedableRng;
@@ -7,6 +8,8 @@ use rand_core::utils::NextWord;
 use rand_pcg::Pcg32;
 use std::alloc::{AllocError, Global};
 use std::process::Abort;
+use std::sync::Wait;
+use std::thread::Threads;
 
 /// A signature with a normal and an atomic control, a bigraph with a site in its node, and one with a
 /// node.
@@ -82,12 +85,19 @@ fn words_of(alloc: Global, texts: &[&str]) -> Result<Vec<String>, AllocError> {
 }
 
 /// How `engine` ends.
-fn end_of(alloc: Global, run: &Run) -> Result<End, AllocError> {
+fn end_of<R: Threads + Wait + Sync>(rt: &R, alloc: Global, run: &Run) -> Result<End, AllocError> {
     let words = words_of(alloc, run.words)?;
     let bytes = run.input.as_bytes().to_vec(alloc)?;
     let mut source = MemorySource::new(bytes, 1, run.failing_reads.to_vec(alloc)?);
     let mut sink = MemorySink::new(alloc, 1, run.failing_writes.to_vec(alloc)?);
-    let status = engine(alloc, words.as_slice(), &mut source, &mut sink);
+    let status = engine(
+        rt,
+        alloc,
+        words.as_slice(),
+        &mut source,
+        &mut sink,
+        &OpenGate,
+    );
     Ok(End {
         status,
         written: sink.held().to_vec(alloc)?,
@@ -108,9 +118,13 @@ fn expect(rt: &impl Abort, end: &End, run: &Run) -> Result<(), AllocError> {
 }
 
 /// Each run ends as it says.
-fn try_all(rt: &impl Abort, alloc: Global, runs: &[Run]) -> Result<(), AllocError> {
+fn try_all<R: Abort + Threads + Wait + Sync>(
+    rt: &R,
+    alloc: Global,
+    runs: &[Run],
+) -> Result<(), AllocError> {
     for run in runs {
-        let end = end_of(alloc, run)?;
+        let end = end_of(rt, alloc, run)?;
         expect(rt, &end, run)?;
     }
     Ok(())
@@ -186,7 +200,7 @@ fn the_first_step_is_at_the_place_of_the_generators_first_word(
         status: 0,
         written: "",
     };
-    let end = end_of(rt.alloc(), &run)?;
+    let end = end_of(&rt, rt.alloc(), &run)?;
     if end.status == NO_MEMORY {
         return Err(AllocError);
     }
@@ -301,7 +315,7 @@ fn other_words_are_refused_and_nothing_is_read(rt: HostRuntime) -> Result<(), Al
             status: 2,
             written: "words\n",
         };
-        let end = end_of(rt.alloc(), &run)?;
+        let end = end_of(&rt, rt.alloc(), &run)?;
         expect(&rt, &end, &run)?;
     }
     Ok(())

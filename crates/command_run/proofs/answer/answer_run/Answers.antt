@@ -3,4 +3,5 @@ use Rattle.command_run.specs.Run.{run_promise}
 use Rattle.command_run.proofs.answer.answer_run.Goals as goal
 
 pub returns : goal.returns
-returns c = answered (run_promise c.args.most 1 c.args.seed) c.args.input.now c.reply.result c.of.result c.reply.ensures c.of.ensures
+returns g c =
+    answered (run_promise c.args.most c.args.workers c.args.seed) c.args.input.now c.reply.result c.of.result c.reply.ensures c.of.ensures

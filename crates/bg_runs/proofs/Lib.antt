@@ -1,0 +1,2 @@
+pub mod TeamLaws
+pub mod Ends

@@ -1,0 +1,146 @@
+-- Teams, and what becomes of their members.
+use Rattle.std.proofs.Common.{◌≡◌, ℕ, zero, suc, ◌+◌, ◌≤◌, ◌<◌, List, [], ◌∷◌, ◌++◌, length, get_or, map, take, drop, refl, sym, ap, ap₂, subst, ◌∙◌, arith, Some, Ok, slice_get, IfOk, take_at}
+use Rattle.std.specs.declared.option.Option.{Option}
+use Rattle.std.specs.declared.result.Result.{Result}
+use Rattle.std.specs.List.{AllByRecursion}
+use Rattle.atomic_table.specs.Seated.{TableId}
+use Rattle.bg_base.specs.declared.history.Entry.{Entry}
+use Rattle.bg_cond.specs.Picks.{seeded}
+use Rattle.bg_lists.specs.declared.memory.OutOfMemory.{OutOfMemory}
+use Rattle.bg_rules.specs.Systems.{SystemParts}
+use Rattle.bg_runs.specs.Finished.{CameFrom}
+use Rattle.bg_runs.specs.Teams.{pass_of, IsMember, IsTeam, HasEnded, HaveEnded}
+use Rattle.bg_seats.specs.Histories.{PassView, Grows, new_pass, new_passes}
+use Rattle.bg_shared.proofs.Committing.{all_snoc, all_last}
+use Rattle.bg_shared.specs.Shared.{OfTable, BeginsWith, BeginsWithEach}
+use Rattle.bg_workers.specs.Members.{HasRun, AllRun}
+use Rattle.bg_workers.specs.Working.{IsEnded, IsOwn, IsDrawn}
+use Rattle.bg_workers.specs.declared.ends.Ended.{Ended}
+use Rattle.bg_workers.specs.declared.ends.Member.{Member}
+use Rattle.rand_pcg.specs.Lcg.{Lcg}
+
+-- ---- passes
+
+pub new_of_table : (table : TableId) (number : ℕ) → OfTable table (new_passes table number)
+new_of_table table zero = tt
+new_of_table table (suc number) =
+    all_snoc (λ (pass : PassView). pass.table ≡ table) (new_passes table number) (new_pass table number) (new_of_table table number) refl
+
+-- the first pass is that of worker 0
+first_pass : (table : TableId) (number : ℕ) → (rest : List PassView) × (new_passes table (suc number) ≡ new_pass table 0 ∷ rest)
+first_pass table zero = ([], refl)
+first_pass table (suc number) =
+    let first = first_pass table number in
+    (first.0 ++ new_pass table (suc number) ∷ [], ap (λ (passes : List PassView). passes ++ new_pass table (suc number) ∷ []) first.1)
+
+pub some_first : (table : TableId) (number : ℕ) → 1 ≤ number → (rest : List PassView) × (new_passes table number ≡ new_pass table 0 ∷ rest)
+some_first table zero some = absurd (omega (arith, some))
+some_first table (suc number) some = first_pass table number
+
+-- ---- teams
+
+first_of : {A : Type 0} (all : List A) (x : A) (rest : List A) → 0 < length all → x ≡ get_or all 0 x → rest ≡ drop 1 all → all ≡ x ∷ rest
+first_of [] x rest some e f = absurd (omega (arith, some))
+first_of (y ∷ ys) x rest some e f = ap₂ (λ a b. a ∷ b) (sym e) (sym f)
+
+module _ {F : Type 0} where
+  pub team_snoc : (seed : ℕ) (passes : List PassView) (members : List (Member PassView F)) (pass : PassView) (member : Member PassView F)
+      → IsTeam seed passes members → IsMember seed pass member → IsTeam seed (passes ++ pass ∷ []) (members ++ member ∷ [])
+  team_snoc seed [] [] pass member team is = (is, tt)
+  team_snoc seed [] (m ∷ members) pass member team is = absurd team
+  team_snoc seed (p ∷ passes) [] pass member team is = absurd team
+  team_snoc seed (p ∷ passes) (m ∷ members) pass member team is = (team.0, team_snoc seed passes members pass member team.1 is)
+
+  pub team_length : (seed : ℕ) (passes : List PassView) (members : List (Member PassView F)) → IsTeam seed passes members → length members ≡ length passes
+  team_length seed [] [] team = refl
+  team_length seed [] (m ∷ members) team = absurd team
+  team_length seed (p ∷ passes) [] team = absurd team
+  team_length seed (p ∷ passes) (m ∷ members) team = ap suc (team_length seed passes members team.1)
+
+  -- each member may run
+  pub team_ready : (seed : ℕ) (table : TableId) (passes : List PassView) (members : List (Member PassView F)) → IsTeam seed passes members → OfTable table passes
+      → (place : ℕ) (d : Member PassView F) → place < length members
+      → ((get_or members place d).pass.table ≡ table) × ((get_or members place d).worker ≡ (get_or members place d).pass.worker)
+  team_ready seed table passes [] team all place d less = absurd (omega (arith, less))
+  team_ready seed table [] (m ∷ members) team all place d less = absurd team
+  team_ready seed table (p ∷ passes) (m ∷ members) team all zero d less =
+      let is = team.0 in
+      (ap (λ (pass : PassView). pass.table) is.0 ∙ all.0, is.1 ∙ ap (λ (pass : PassView). pass.worker) (sym is.0))
+  team_ready seed table (p ∷ passes) (m ∷ members) team all (suc place) d less =
+      team_ready seed table passes members team.1 all.1 place d (omega (arith, less))
+
+  module _ (table : TableId) (system : SystemParts) (limit seed : ℕ) where
+    abbrev Ran : Member PassView F → Member PassView F → Type 0
+    Ran before after =
+        HasRun (λ (pass : PassView). pass.table ≡ table) (λ (pass : PassView). pass.worker) (λ (pass : PassView). pass.seen) system limit before after
+
+    one_ended : (pass : PassView) (before after : Member PassView F) → IsMember seed pass before → Ran before after → HasEnded table system limit seed pass after
+    one_ended pass before after is ran =
+        let worker : before.worker ≡ pass.worker = is.1 in
+        let state : before.picker ≡ seeded seed pass.worker = is.2 in record {
+          of = ran.of;
+          number = ran.number_is ∙ ap (λ (p : PassView). p.worker) is.0;
+          answer = ran.answer;
+          ended = ran.ended;
+          right = ran.right;
+          drawn = λ none own.
+              subst (λ (s : Lcg). IfOk ran.answer (λ ended. IsDrawn system limit pass.worker s after.pass.seen ended)) state
+              (subst (λ (w : ℕ). IfOk ran.answer (λ ended. IsDrawn system limit w before.picker after.pass.seen ended)) worker
+              (ran.drawn (ap (λ (p : PassView). p.seen) is.0 ∙ none) (subst (λ (w : ℕ). IsOwn w after.pass.seen) (sym worker) own)));
+        }
+
+    all_ended : (passes : List PassView) (before after : List (Member PassView F)) → IsTeam seed passes before → length after ≡ length before
+        → ((place : ℕ) (one other : Member PassView F) → slice_get before place ≡ Some one → slice_get after place ≡ Some other → Ran one other)
+        → HaveEnded table system limit seed passes after
+    all_ended [] [] [] team count each = tt
+    all_ended [] [] (a ∷ after) team count each = absurd (omega (arith, count))
+    all_ended [] (b ∷ before) after team count each = absurd team
+    all_ended (p ∷ passes) [] after team count each = absurd team
+    all_ended (p ∷ passes) (b ∷ before) [] team count each = absurd (omega (arith, count))
+    all_ended (p ∷ passes) (b ∷ before) (a ∷ after) team count each =
+        (one_ended p b a team.0 (each 0 b a refl refl), all_ended passes before after team.1 (omega (arith, count)) (λ place one other e f. each (suc place) one other e f))
+
+    pub ended_of_table : (passes : List PassView) (members : List (Member PassView F)) → HaveEnded table system limit seed passes members
+        → OfTable table (map pass_of members)
+    ended_of_table passes [] all = tt
+    ended_of_table [] (m ∷ members) all = absurd all
+    ended_of_table (p ∷ passes) (m ∷ members) all = (let has = all.0 in has.of, ended_of_table passes members all.1)
+
+    -- the first member and the others, when all have run
+    pub parts_ended : (passes others : List PassView) (pass : PassView) (before after rest : List (Member PassView F)) (member : Member PassView F)
+        → passes ≡ pass ∷ others → IsTeam seed passes before
+        → AllRun (λ (p : PassView). p.table ≡ table) (λ (p : PassView). p.worker) (λ (p : PassView). p.seen) system limit before after
+        → member ≡ get_or after 0 member → rest ≡ drop 1 after
+        → HasEnded table system limit seed pass member × HaveEnded table system limit seed others rest
+    parts_ended passes others pass before after rest member first team ran value items =
+        let same = team_length seed passes before team in
+        let count = ran.count in
+        let long = ap length first in
+        let all : after ≡ member ∷ rest = first_of after member rest (omega (arith, same, count, long)) value items in
+        let ended : HaveEnded table system limit seed passes after = all_ended passes before after team ran.count ran.each in
+        subst (λ (members : List (Member PassView F)). HaveEnded table system limit seed (pass ∷ others) members) all
+        (subst (λ (ps : List PassView). HaveEnded table system limit seed ps after) first ended)
+
+-- a slice that was written whole
+pub written_whole : {A : Type 0} (count : ℕ) (new tail : List A) → count ≡ length new → take count (new ++ tail) ≡ new
+written_whole count new tail e = take_at new tail count (sym e)
+
+-- ---- worker 0, seen from the journal
+
+some_ok : {T E : Type 0} (answer : Result T E) (x : T) → ◌≡◌ {A = Option (Result T E)} (Some answer) (Some (Ok x)) → answer ≡ Ok x
+some_ok answer x e = cc
+
+pub came_from : {F : Type 0} (table : TableId) (system : SystemParts) (limit seed : ℕ) (journal : List Entry) (member : Member PassView F) (ended : Ended)
+    → HasEnded table system limit seed (new_pass table 0) member → member.ended ≡ Some (Ok ended) → Grows member.pass.worker member.pass.seen journal
+    → CameFrom system limit seed journal ended
+came_from table system limit seed journal member ended has is grows =
+    let answer : has.answer ≡ Ok ended = some_ok has.answer ended (sym has.ended ∙ is) in record {
+      seen = member.pass.seen;
+      grows = subst (λ (n : ℕ). Grows n member.pass.seen journal) has.number grows;
+      right = subst (λ r. IfOk r (λ e. IsEnded system limit member.pass.seen e)) answer has.right;
+      drawn = λ own. subst (λ r. IfOk r (λ e. IsDrawn system limit 0 (seeded seed 0) member.pass.seen e)) answer (has.drawn refl own);
+    }
+
+-- the journal begins with what the last of these passes had seen
+pub last_begins : (journal : List Entry) (passes : List PassView) (pass : PassView) → BeginsWithEach journal (passes ++ pass ∷ []) → Grows pass.worker pass.seen journal
+last_begins journal passes pass all = all_last (BeginsWith journal) passes pass all

@@ -1,0 +1,43 @@
+-- Teams of workers, one for each pass of a shared host.
+use Rattle.std.specs.Prelude.{◌≡◌, ℕ, List, [], ◌∷◌, Some, IfOk}
+use Rattle.std.specs.declared.result.Result.{Result}
+use Rattle.atomic_table.specs.Seated.{TableId}
+use Rattle.bg_cond.specs.Picks.{seeded}
+use Rattle.bg_lists.specs.declared.memory.OutOfMemory.{OutOfMemory}
+use Rattle.bg_rules.specs.Systems.{SystemParts}
+use Rattle.bg_seats.specs.Histories.{PassView}
+use Rattle.bg_workers.specs.Working.{IsEnded, IsOwn, IsDrawn}
+use Rattle.bg_workers.specs.declared.ends.Ended.{Ended}
+use Rattle.bg_workers.specs.declared.ends.Member.{Member}
+
+-- the pass of a member
+abbrev pub pass_of : {F : Type 0} → Member PassView F → PassView
+pass_of member = member.pass
+
+-- a member that is to run with this pass
+abbrev pub IsMember : {F : Type 0} → ℕ → PassView → Member PassView F → Type 0
+IsMember seed pass member = (member.pass ≡ pass) × (member.worker ≡ pass.worker) × (member.picker ≡ seeded seed pass.worker)
+
+-- one for each pass, in their order
+abbrev pub IsTeam : {F : Type 0} → ℕ → List PassView → List (Member PassView F) → Type 0
+IsTeam seed [] [] = Unit {0}
+IsTeam seed [] (member ∷ members) = ⊥
+IsTeam seed (pass ∷ passes) [] = ⊥
+IsTeam seed (pass ∷ passes) (member ∷ members) = IsMember seed pass member × IsTeam seed passes members
+
+-- what became of a member that began with this pass
+pub record HasEnded {F : Type 0} (table : TableId) (system : SystemParts) (limit seed : ℕ) (pass : PassView) (member : Member PassView F) : Type 0 where
+  pub of : member.pass.table ≡ table
+  pub number : member.pass.worker ≡ pass.worker
+  pub answer : Result Ended OutOfMemory
+  pub ended : member.ended ≡ Some answer
+  pub right : IfOk answer (λ ended. IsEnded system limit member.pass.seen ended)
+  pub drawn : pass.seen ≡ [] → IsOwn pass.worker member.pass.seen
+      → IfOk answer (λ ended. IsDrawn system limit pass.worker (seeded seed pass.worker) member.pass.seen ended)
+
+-- and so of each
+abbrev pub HaveEnded : {F : Type 0} → TableId → SystemParts → ℕ → ℕ → List PassView → List (Member PassView F) → Type 0
+HaveEnded table system limit seed [] [] = Unit {0}
+HaveEnded table system limit seed [] (member ∷ members) = ⊥
+HaveEnded table system limit seed (pass ∷ passes) [] = ⊥
+HaveEnded table system limit seed (pass ∷ passes) (member ∷ members) = HasEnded table system limit seed pass member × HaveEnded table system limit seed passes members

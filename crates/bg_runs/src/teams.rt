@@ -1,0 +1,81 @@
+//! Teams of workers, one for each pass of a shared host.
+ghost use Rattle.std.specs.Prelude.{◌≡◌, All, map, Some, Ok, IfOk};
+ghost use Rattle.bg_runs.specs.Teams.{IsTeam, pass_of};
+ghost use Rattle.bg_seats.specs.Histories.{PassView};
+ghost use Rattle.bg_workers.specs.Members.{IsReady, AllRun};
+
+use bg_cond::{Gate, HostName, PlainFinder};
+use bg_lists::{Mem, OutOfMemory};
+use bg_seats::{Pass, worker};
+use bg_shared::SharedHost;
+use bg_workers::{Ended, Member, Picker, run_workers};
+use std::alloc::Global;
+use std::sync::Wait;
+use std::thread::Threads;
+
+/// A worker of a team.
+pub(crate) type Worker = Member<Pass, PlainFinder>;
+
+/// A worker for each pass; the generator of each is made by the seed and its number.
+pub(crate) fn team_of(alloc: Global, passes: Vec<Pass>, seed: u64) -> Mem<Vec<Worker>>
+    ensures { IfOk result (λ members. IsTeam seed passes.items members.items) }
+{
+    let mut members = Vec::new(alloc);
+    for pass in passes {
+        let number = worker(&pass);
+        members.push(Member {
+            pass,
+            finder: PlainFinder,
+            picker: Picker::new(seed, number),
+            worker: number,
+            ended: None,
+        })?;
+    }
+    Ok(members)
+}
+
+/// The team, after all its members have run.
+pub(crate) fn run_team<N: HostName + Send + Sync, G: Gate + Sync, R: Threads + Wait + Sync>(
+    rt: &R,
+    alloc: Global,
+    host: &SharedHost<N>,
+    mut members: Vec<Worker>,
+    limit: u32,
+    gate: &G,
+) -> Vec<Worker>
+    requires limit { limit ≡ N.limit }
+    requires members { All (IsReady (λ (pass : PassView). pass.table ≡ N.table) (λ (pass : PassView). pass.worker)) members.items }
+    ensures { AllRun (λ (pass : PassView). pass.table ≡ N.table) (λ (pass : PassView). pass.worker) (λ (pass : PassView). pass.seen) N.system limit members.items result.items }
+{
+    run_workers(
+        rt,
+        alloc,
+        host,
+        members.as_mut_slice(),
+        host.system(),
+        limit,
+        gate,
+    );
+    members
+}
+
+/// The passes of all members.
+pub(crate) fn passes_of(alloc: Global, members: Vec<Worker>) -> Mem<Vec<Pass>>
+    ensures { IfOk result (λ passes. passes.items ≡ map pass_of members.items) }
+{
+    let mut passes = Vec::new(alloc);
+    for member in members {
+        passes.push(member.pass)?;
+    }
+    Ok(passes)
+}
+
+/// How a member ended; it refuses where the member had no memory.
+pub(crate) fn end_of(ended: Option<Mem<Ended>>) -> Mem<Ended>
+    ensures { IfOk result (λ end. ended ≡ Some (Ok end)) }
+{
+    match ended {
+        Some(answer) => answer,
+        None => Err(OutOfMemory),
+    }
+}

@@ -1,0 +1,126 @@
+//! What the lock of a shared host keeps.
+ghost use Rattle.std.specs.Prelude.{◌≡◌, ◌≤◌, ◌<◌, length, IfOk, IsErrOf, OnOk, OnErr};
+ghost use Rattle.bg_cond.specs.Boards.{Shows, IsFound, IsCommitted};
+ghost use Rattle.bg_cond.specs.Drawn.{entry_of};
+ghost use Rattle.bg_cond.specs.Steps.{IsLegal, LeadsTo, IsTooLarge, IsRun};
+ghost use Rattle.bg_seats.specs.Histories.{Grows};
+ghost use Rattle.bg_shared.specs.Shared.{IsHistory};
+
+use bg_base::{Entry, Step};
+use bg_cond::{Commit, Found, HostName, View, take_step};
+use bg_lists::{Duplicate, Mem, OutOfMemory};
+use bg_rules::{Host, ReactFault, System};
+use bg_seats::{HistoryTable, Pass, Turn, worker};
+use std::alloc::Global;
+use std::marker::{Model, PhantomData};
+
+/// The value behind the lock of a shared host: the turn of its history, its journal and its host. A contract sees the
+/// journal and the host; its system, its limit and its number of passes are those that `N` names.
+#[derive(Drop)]
+pub struct Core<N: HostName> {
+    pub(crate) turn: Turn,
+    pub(crate) host: Host,
+    pub(crate) journal: Vec<Entry>,
+    pub(crate) limit: u32,
+    pub(crate) of: PhantomData<N>,
+}
+
+impl<N: HostName> Model for Core<N> {
+    ghost use Rattle.bg_shared.specs.Shared.{CoreView, IsLocked};
+
+    ghost Value = { CoreView };
+
+    ghost view = { λ core. record { journal = core.journal.items; host = core.host } };
+
+    ghost invariant = { λ core. IsLocked N.table N.system N.limit N.passes core.turn core.host core.journal.items core.limit };
+}
+
+impl<N: HostName> Core<N> {
+    /// The host as it is. The pass has then seen the whole journal, which is a run of the system. It refuses for want of
+    /// memory alone, and the pass is then as it was. Costs a copy of the host.
+    pub fn look(&mut self, alloc: Global, table: &HistoryTable, pass: &mut Pass) -> Mem<View>
+        requires tables { (table.now ≡ N.table) × (pass.old.table ≡ N.table) }
+        ensures same { self.new ≡ self.old }
+        ensures pass { OnOk result (pass.new ≡ record pass.old { seen = self.old.journal }) }
+        ensures grows { OnOk result (Grows pass.old.worker pass.old.seen self.old.journal) }
+        ensures shows { IfOk result (λ view. Shows N.system N.limit self.old.journal view) }
+        ensures history { IsHistory N.system N.limit N.passes self.old.journal }
+        ensures no_memory { OnErr result (pass.new ≡ pass.old) }
+    {
+        let host = self.host.copy(alloc)?;
+        let version = table.see(pass, &mut self.turn);
+        Ok(View { version, host })
+    }
+
+    /// Commits a step that was found at a version which the pass has seen. The pass has then seen the whole journal. It
+    /// refuses for want of memory alone: all of it is taken before the first change, so that then journal, host and pass
+    /// are as they were. Costs a copy of the host and a reaction, where it comes to that.
+    pub fn commit(
+        &mut self,
+        alloc: Global,
+        table: &HistoryTable,
+        system: &System,
+        pass: &mut Pass,
+        found: &Found,
+    ) -> Mem<Commit>
+        requires tables { (table.now ≡ N.table) × (pass.old.table ≡ N.table) }
+        requires system { system.now ≡ N.system }
+        requires found { IsFound N.system pass.old.seen found.now }
+        ensures committed { IfOk result (λ answer. IsCommitted N.system N.limit pass.old.worker self.old.journal self.new.journal found.now answer) }
+        ensures pass { OnOk result (pass.new ≡ record pass.old { seen = self.new.journal }) }
+        ensures grows { OnOk result (Grows pass.old.worker pass.old.seen self.old.journal) }
+        ensures run { IsRun N.system.rules N.system.init self.new.journal self.new.host }
+        ensures history { IsHistory N.system N.limit N.passes self.new.journal }
+        ensures no_memory { OnErr result ((pass.new ≡ pass.old) × (self.new ≡ self.old)) }
+    {
+        table.compare(pass, &mut self.turn);
+        let count = self.journal.len() as u32;
+        if count > found.version {
+            let version = table.see(pass, &mut self.turn);
+            return Ok(Commit::Again { version });
+        }
+        if count == self.limit {
+            table.see(pass, &mut self.turn);
+            return Ok(Commit::Spent { limit: self.limit });
+        }
+        let next = match host_after(alloc, &self.host, system, &found.step) {
+            Ok(next) => next,
+            Err(ReactFault::Full) => {
+                table.see(pass, &mut self.turn);
+                return Ok(Commit::Full);
+            }
+            Err(ReactFault::OutOfMemory) => return Err(OutOfMemory),
+        };
+        let entry = entry_by(alloc, worker(pass), &found.step)?;
+        self.journal.push(entry.copy(alloc)?)?;
+        let version = table.append(pass, &mut self.turn, &entry);
+        self.host = next;
+        Ok(Commit::Done { version })
+    }
+}
+
+/// The host after a legal step.
+fn host_after(alloc: Global, host: &Host, system: &System, step: &Step) -> Result<Host, ReactFault>
+    requires { IsLegal host.now system.now.rules step.now }
+    ensures leads { IfOk result (λ next. LeadsTo host.now system.now.rules step.now next) }
+    ensures full { IsErrOf result ReactFault.Full → IsTooLarge host.now system.now.rules step.now }
+{
+    let Ok(mut next) = host.copy(alloc) else {
+        return Err(ReactFault::OutOfMemory);
+    };
+    match take_step(alloc, &mut next, system, step) {
+        Ok(()) => Ok(next),
+        Err(fault) => Err(fault),
+    }
+}
+
+/// The step as an entry of the worker.
+fn entry_by(alloc: Global, worker: u32, step: &Step) -> Mem<Entry>
+    ensures { IfOk result (λ made. made ≡ entry_of worker step.now) }
+{
+    Ok(Entry {
+        worker,
+        rule: step.rule,
+        map: step.map.copy(alloc)?,
+    })
+}

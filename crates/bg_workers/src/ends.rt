@@ -1,0 +1,27 @@
+//! Workers that are to run, and how they end.
+use crate::picker::Picker;
+use bg_base::Step;
+use bg_lists::Mem;
+
+/// How a worker ends.
+#[derive(Debug, Drop)]
+pub enum Ended {
+    /// No step is legal at the host after so many entries.
+    Quiet { version: u32 },
+    /// There are as many entries as there may be.
+    Limit,
+    /// The step is legal at the host after so many entries, and its result passes a limit of a host.
+    Full { version: u32, step: Step },
+}
+
+/// A worker that is to run, or has run: its pass, by whom it finds steps, by what it picks them, and its number.
+#[derive(Drop)]
+pub struct Member<P, F> {
+    pub pass: P,
+    pub finder: F,
+    pub picker: Picker,
+    /// Counted from 0.
+    pub worker: u32,
+    /// How it ended; none where it has not run.
+    pub ended: Option<Mem<Ended>>,
+}

@@ -1,0 +1,207 @@
+//! Hosts that two passes share, on one thread.
+ghost use Rattle.std.specs.Prelude.{◌≡◌, ◌≤◌, IfOk, IfSome, OnOk};
+ghost use Rattle.bg_base.specs.Limits.{most_steps};
+ghost use Rattle.bg_cond.specs.Boards.{Shows, IsFound};
+ghost use Rattle.bg_cond.specs.Steps.{IsLegal};
+
+use crate::models::{BUILDING, COPIES, step_of, system_of};
+use bg_base::Entry;
+use bg_cond::{Closed, Commit, Found, HostName, Verdict, View, judge};
+use bg_lists::Mem;
+use bg_rules::System;
+use bg_seats::Pass;
+use bg_shared::{HostParts, SharedHost};
+use std::alloc::Global;
+use std::marker::Brand;
+use std::process::Abort;
+use std::sync::Wait;
+
+/// The step of the rule at the nodes, where it is legal at the view.
+fn legal_at(
+    alloc: Global,
+    system: &System,
+    view: &View,
+    rule: u32,
+    nodes: &[u32],
+) -> Mem<Option<Found>>
+    ensures { IfOk result (λ found. IfSome found (λ it. (it.version ≡ view.now.version) × IsLegal view.now.host system.now.rules it.step)) }
+{
+    let step = step_of(alloc, rule, nodes)?;
+    match judge(alloc, &view.host, system, &step)? {
+        Verdict::Legal => Ok(Some(Found {
+            version: view.version,
+            step,
+        })),
+        _ => Ok(None),
+    }
+}
+
+/// The pass looks, and finds that step if it is legal.
+fn found_by<N: HostName, R: Wait>(
+    rt: &R,
+    alloc: Global,
+    host: &SharedHost<N>,
+    pass: &mut Pass,
+    rule: u32,
+    nodes: &[u32],
+) -> Mem<Option<Found>>
+    requires { pass.old.table ≡ N.table }
+    ensures table { pass.new.table ≡ N.table }
+    ensures found { IfOk result (λ found. IfSome found (λ it. IsFound N.system pass.new.seen it)) }
+{
+    let view = host.look(rt, alloc, pass)?;
+    let found = legal_at(alloc, host.system(), &view, rule, nodes)?;
+    Ok(found)
+}
+
+/// The pass looks and commits that step; nothing where it is not legal.
+fn committed_by<N: HostName, R: Wait>(
+    rt: &R,
+    alloc: Global,
+    host: &SharedHost<N>,
+    pass: &mut Pass,
+    rule: u32,
+    nodes: &[u32],
+) -> Mem<Option<Commit>>
+    requires { pass.old.table ≡ N.table }
+    ensures { pass.new.table ≡ N.table }
+{
+    let Some(found) = found_by(rt, alloc, host, pass, rule, nodes)? else {
+        return Ok(None);
+    };
+    let answer = host.commit(rt, alloc, pass, &found)?;
+    Ok(Some(answer))
+}
+
+/// What two passes are answered: both find a step at version 0, the first commits, the second commits, and then the second
+/// looks, finds and commits again. The last version is the one that the first then sees.
+#[derive(Drop)]
+struct Meeting {
+    first: Commit,
+    late: Commit,
+    again: Option<Commit>,
+    version: u32,
+    closed: Closed,
+}
+
+/// The passes of workers 0 and 1 on a host.
+fn two_meet<N: HostName, R: Wait>(rt: &R, alloc: Global, parts: HostParts) -> Mem<Option<Meeting>>
+    requires { (N.table ≡ parts.table) × (N.system ≡ parts.system) × (N.limit ≡ parts.limit) × (N.passes ≡ parts.passes) × (parts.passes ≡ 2) }
+{
+    let (host, mut passes) = SharedHost::<N>::start(parts);
+    let Some(mut one) = passes.pop() else {
+        return Ok(None);
+    };
+    let Some(mut zero) = passes.pop() else {
+        return Ok(None);
+    };
+    let Some(found) = found_by(rt, alloc, &host, &mut zero, 0, &[4, 1])? else {
+        return Ok(None);
+    };
+    let Some(late_found) = found_by(rt, alloc, &host, &mut one, 0, &[5, 1])? else {
+        return Ok(None);
+    };
+    let first = host.commit(rt, alloc, &mut zero, &found)?;
+    let late = host.commit(rt, alloc, &mut one, &late_found)?;
+    let again = committed_by(rt, alloc, &host, &mut one, 0, &[5, 2])?;
+    let version = host.look(rt, alloc, &mut zero)?.version;
+    passes.push(zero)?;
+    passes.push(one)?;
+    let closed = host.close(passes)?;
+    Ok(Some(Meeting {
+        first,
+        late,
+        again,
+        version,
+        closed,
+    }))
+}
+
+/// Two passes on the building, on which so many entries may be.
+fn meeting<R: Abort + Wait>(rt: &R, alloc: Global, limit: u32) -> Mem<Option<Meeting>>
+    requires { limit ≤ most_steps }
+{
+    let system = system_of(rt, alloc, BUILDING)?;
+    let parts = HostParts::new(alloc, system, limit, 2)?;
+    two_meet::<Brand, R>(rt, alloc, parts)
+}
+
+/// The entry is that one.
+fn is_entry(entry: &Entry, worker: u32, rule: u32, nodes: &[u32]) -> bool {
+    entry.worker == worker && entry.rule == rule && entry.map.as_slice() == nodes
+}
+
+#[test]
+fn of_two_steps_that_were_found_at_one_version_one_is_committed(rt: HostRuntime) -> Mem<()> {
+    let Some(met) = meeting(&rt, rt.alloc(), 10)? else {
+        panic!(rt; "the steps are legal")
+    };
+    assert!(rt; met.first == Commit::Done { version: 1 });
+    assert!(rt; met.late == Commit::Again { version: 1 });
+    assert!(rt; met.again == Some(Commit::Done { version: 2 }));
+    assert!(rt; met.version == 2);
+    let journal = met.closed.journal.as_slice();
+    assert!(rt; journal.len() == 2);
+    assert!(rt; is_entry(&journal[0], 0, 0, &[4, 1]));
+    assert!(rt; is_entry(&journal[1], 1, 0, &[5, 2]));
+    Ok(())
+}
+
+#[test]
+fn a_step_past_the_limit_is_spent(rt: HostRuntime) -> Mem<()> {
+    let Some(met) = meeting(&rt, rt.alloc(), 1)? else {
+        panic!(rt; "the steps are legal")
+    };
+    assert!(rt; met.again == Some(Commit::Spent { limit: 1 }));
+    assert!(rt; met.version == 1);
+    assert!(rt; met.closed.journal.len() == 1);
+    Ok(())
+}
+
+/// What the pass of worker 0 is answered at last, when it commits the one step of rule 0 at node 0 so many times and once
+/// more. The other passes are dropped, and never joined.
+fn repeated<N: HostName, R: Wait>(
+    rt: &R,
+    alloc: Global,
+    parts: HostParts,
+    times: u32,
+) -> Mem<Option<Commit>>
+    requires { (N.table ≡ parts.table) × (N.system ≡ parts.system) × (N.limit ≡ parts.limit) × (N.passes ≡ parts.passes) × (1 ≤ parts.passes) }
+{
+    let (host, mut passes) = SharedHost::<N>::start(parts);
+    let mut zero = passes.swap_remove(0);
+    drop(passes);
+    for _ in 0..times {
+        let _ = committed_by(rt, alloc, &host, &mut zero, 0, &[0])?;
+    }
+    let last = committed_by(rt, alloc, &host, &mut zero, 0, &[0])?;
+    Ok(last)
+}
+
+/// So many commits on the host that doubles, with so many passes, of which one is used.
+fn copies<R: Abort + Wait>(
+    rt: &R,
+    alloc: Global,
+    limit: u32,
+    passes: u32,
+    times: u32,
+) -> Mem<Option<Commit>>
+    requires limit { limit ≤ most_steps }
+    requires passes { (1 ≤ passes) × (passes ≤ 64) }
+{
+    let system = system_of(rt, alloc, COPIES)?;
+    let parts = HostParts::new(alloc, system, limit, passes)?;
+    repeated::<Brand, R>(rt, alloc, parts, times)
+}
+
+#[test]
+fn a_step_whose_result_passes_a_limit_is_full(rt: HostRuntime) -> Mem<()> {
+    assert!(rt; copies(&rt, rt.alloc(), 100, 64, 15)? == Some(Commit::Full));
+    Ok(())
+}
+
+#[test]
+fn on_a_host_without_room_each_step_is_spent(rt: HostRuntime) -> Mem<()> {
+    assert!(rt; copies(&rt, rt.alloc(), 0, 1, 0)? == Some(Commit::Spent { limit: 0 }));
+    Ok(())
+}
