@@ -118,7 +118,7 @@ fn two_meet<N: HostName, R: Wait>(rt: &R, alloc: Global, parts: HostParts) -> Me
 }
 
 /// Two passes on the building, on which so many entries may be.
-fn meeting<R: Abort + Wait>(rt: &R, alloc: Global, limit: u32) -> Mem<Option<Meeting>>
+fn meeting_at<R: Abort + Wait>(rt: &R, alloc: Global, limit: u32) -> Mem<Option<Meeting>>
     requires { limit ≤ most_steps }
 {
     let system = system_of(rt, alloc, BUILDING)?;
@@ -133,7 +133,7 @@ fn is_entry(entry: &Entry, worker: u32, rule: u32, nodes: &[u32]) -> bool {
 
 #[test]
 fn of_two_steps_that_were_found_at_one_version_one_is_committed(rt: HostRuntime) -> Mem<()> {
-    let Some(met) = meeting(&rt, rt.alloc(), 10)? else {
+    let Some(met) = meeting_at(&rt, rt.alloc(), 10)? else {
         panic!(rt; "the steps are legal")
     };
     assert!(rt; met.first == Commit::Done { version: 1 });
@@ -149,7 +149,7 @@ fn of_two_steps_that_were_found_at_one_version_one_is_committed(rt: HostRuntime)
 
 #[test]
 fn a_step_past_the_limit_is_spent(rt: HostRuntime) -> Mem<()> {
-    let Some(met) = meeting(&rt, rt.alloc(), 1)? else {
+    let Some(met) = meeting_at(&rt, rt.alloc(), 1)? else {
         panic!(rt; "the steps are legal")
     };
     assert!(rt; met.again == Some(Commit::Spent { limit: 1 }));
@@ -158,9 +158,22 @@ fn a_step_past_the_limit_is_spent(rt: HostRuntime) -> Mem<()> {
     Ok(())
 }
 
-/// What the pass of worker 0 is answered at last, when it commits the one step of rule 0 at node 0 so many times and once
-/// more. The other passes are dropped, and never joined.
-fn repeated<N: HostName, R: Wait>(
+/// The number that the next node of the host gets.
+fn next_node_by<N: HostName, R: Wait>(
+    rt: &R,
+    alloc: Global,
+    host: &SharedHost<N>,
+    pass: &mut Pass,
+) -> Mem<u32>
+    requires { pass.old.table ≡ N.table }
+    ensures { pass.new.table ≡ N.table }
+{
+    Ok(host.look(rt, alloc, pass)?.host.next_node())
+}
+
+/// What the last pass is answered at last, when it doubles the host so many times and once more. The other passes are
+/// dropped, and never joined.
+fn doubled<N: HostName, R: Wait>(
     rt: &R,
     alloc: Global,
     parts: HostParts,
@@ -169,17 +182,21 @@ fn repeated<N: HostName, R: Wait>(
     requires { (N.table ≡ parts.table) × (N.system ≡ parts.system) × (N.limit ≡ parts.limit) × (N.passes ≡ parts.passes) × (1 ≤ parts.passes) }
 {
     let (host, mut passes) = SharedHost::<N>::start(parts);
-    let mut zero = passes.swap_remove(0);
+    let Some(mut last) = passes.pop() else {
+        return Ok(None);
+    };
     drop(passes);
+    let mut copy = 0;
     for _ in 0..times {
-        let _ = committed_by(rt, alloc, &host, &mut zero, 0, &[0])?;
+        let next = next_node_by(rt, alloc, &host, &mut last)?;
+        let _ = committed_by(rt, alloc, &host, &mut last, 0, &[copy])?;
+        copy = next;
     }
-    let last = committed_by(rt, alloc, &host, &mut zero, 0, &[0])?;
-    Ok(last)
+    committed_by(rt, alloc, &host, &mut last, 0, &[copy])
 }
 
 /// So many commits on the host that doubles, with so many passes, of which one is used.
-fn copies<R: Abort + Wait>(
+fn doubling<R: Abort + Wait>(
     rt: &R,
     alloc: Global,
     limit: u32,
@@ -191,17 +208,17 @@ fn copies<R: Abort + Wait>(
 {
     let system = system_of(rt, alloc, COPIES)?;
     let parts = HostParts::new(alloc, system, limit, passes)?;
-    repeated::<Brand, R>(rt, alloc, parts, times)
+    doubled::<Brand, R>(rt, alloc, parts, times)
 }
 
 #[test]
 fn a_step_whose_result_passes_a_limit_is_full(rt: HostRuntime) -> Mem<()> {
-    assert!(rt; copies(&rt, rt.alloc(), 100, 64, 15)? == Some(Commit::Full));
+    assert!(rt; doubling(&rt, rt.alloc(), 100, 64, 15)? == Some(Commit::Full));
     Ok(())
 }
 
 #[test]
 fn on_a_host_without_room_each_step_is_spent(rt: HostRuntime) -> Mem<()> {
-    assert!(rt; copies(&rt, rt.alloc(), 0, 1, 0)? == Some(Commit::Spent { limit: 0 }));
+    assert!(rt; doubling(&rt, rt.alloc(), 0, 1, 0)? == Some(Commit::Spent { limit: 0 }));
     Ok(())
 }

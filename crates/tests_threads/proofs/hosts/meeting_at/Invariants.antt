@@ -1,4 +1,4 @@
-use Rattle.tests_threads.proofs.hosts.meeting.Given as goal
+use Rattle.tests_threads.proofs.hosts.meeting_at.Given as goal
 
 -- the name is that of the host that was just made
 abbrev pub ghosts-two_meet : goal.ghosts-two_meet
