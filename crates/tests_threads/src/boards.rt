@@ -4,9 +4,9 @@ ghost use Rattle.bg_base.specs.Limits.{most_steps};
 ghost use Rattle.bg_cond.specs.Steps.{IsRun};
 
 use crate::models::{WANDERER, system_of};
-use bg_base::Entry;
+use bg_base::{Entry, Journal};
 use bg_cond::{Board, Commit, Found, OpenGate, PlainFinder, View, take_step};
-use bg_lists::{Duplicate, Mem, OutOfMemory};
+use bg_lists::{Duplicate, Mem, OutOfMemory, Rows, copies};
 use bg_rules::{Host, ReactFault, System};
 use bg_workers::{Picker, work};
 use std::alloc::Global;
@@ -24,7 +24,7 @@ struct Alone {
 /// The pass: the entries, and the host after them.
 #[derive(Drop)]
 struct AlonePass {
-    journal: Vec<Entry>,
+    journal: Journal,
     host: Host,
     worker: u32,
 }
@@ -41,9 +41,9 @@ impl Board for Alone {
 
     ghost limit = { λ board. board.limit };
 
-    ghost is_of = { λ board pass. IsRun board.system.rules board.system.init pass.journal.items pass.host × (length pass.journal.items ≤ board.limit) × (board.limit ≤ most_steps) × IsSystem board.system };
+    ghost is_of = { λ board pass. IsRun board.system.rules board.system.init pass.journal pass.host × (length pass.journal ≤ board.limit) × (board.limit ≤ most_steps) × IsSystem board.system };
 
-    ghost seen = { λ pass. pass.journal.items };
+    ghost seen = { λ pass. pass.journal };
 
     ghost worker = { λ pass. pass.worker };
 
@@ -51,7 +51,7 @@ impl Board for Alone {
         self.looks.fetch_add(1, Ordering::SeqCst);
         let host = pass.host.copy(alloc)?;
         Ok(View {
-            version: pass.journal.len() as u32,
+            version: pass.journal.len(),
             host,
         })
     }
@@ -63,7 +63,7 @@ impl Board for Alone {
         pass: &mut AlonePass,
         found: &Found,
     ) -> Mem<Commit> {
-        let count = pass.journal.len() as u32;
+        let count = pass.journal.len();
         if count > found.version {
             return Ok(Commit::Again { version: count });
         }
@@ -76,12 +76,14 @@ impl Board for Alone {
             Err(ReactFault::Full) => return Ok(Commit::Full),
             Err(ReactFault::OutOfMemory) => return Err(OutOfMemory),
         }
-        let map = found.step.map.copy(alloc)?;
-        pass.journal.push(Entry {
+        let entry = Entry {
             worker: pass.worker,
             rule: found.step.rule,
-            map,
-        })?;
+            map: found.step.map.copy(alloc)?,
+        };
+        let mut entries = copies(alloc, pass.journal.as_slice())?;
+        entries.push(entry)?;
+        pass.journal = Rows::try_from_vec(entries)?;
         pass.host = next;
         Ok(Commit::Done { version: count + 1 })
     }
@@ -89,19 +91,19 @@ impl Board for Alone {
 
 /// A pass that has seen nothing.
 fn begun(alloc: Global, board: &Alone) -> Mem<AlonePass>
-    ensures run { IfOk result (λ pass. IsRun board.now.system.rules board.now.system.init pass.journal.items pass.host) }
-    ensures none_yet { IfOk result (λ pass. pass.journal.items ≡ []) }
+    ensures run { IfOk result (λ pass. IsRun board.now.system.rules board.now.system.init pass.journal pass.host) }
+    ensures none_yet { IfOk result (λ pass. pass.journal ≡ []) }
     ensures worker { IfOk result (λ pass. pass.worker ≡ 0) }
 {
     Ok(AlonePass {
-        journal: Vec::new(alloc),
+        journal: Rows::try_from_vec(Vec::new(alloc))?,
         host: board.system.init().copy(alloc)?,
         worker: 0,
     })
 }
 
 /// How often worker 0 looks at the board before it ends, and how many entries there are then.
-fn looks_at<R: Wait>(rt: &R, alloc: Global, board: &Alone) -> Mem<(u64, usize)>
+fn looks_at<R: Wait>(rt: &R, alloc: Global, board: &Alone) -> Mem<(u64, u32)>
     requires { board.now.limit ≤ most_steps }
 {
     let _signature = board.system.signature();

@@ -3,6 +3,7 @@ ghost use Rattle.std.specs.Prelude.{◌≡◌, ◌≤◌, IfOk, IfSome, OnOk};
 ghost use Rattle.bg_base.specs.Limits.{most_steps};
 ghost use Rattle.bg_cond.specs.Boards.{Shows, IsFound};
 ghost use Rattle.bg_cond.specs.Steps.{IsLegal};
+ghost use Rattle.bg_shared.specs.Shared.{OfTable};
 
 use crate::models::{BUILDING, COPIES, step_of, system_of};
 use bg_base::Entry;
@@ -73,52 +74,117 @@ fn committed_by<N: HostName, R: Wait>(
     Ok(Some(answer))
 }
 
-/// What two passes are answered: both find a step at version 0, the first commits, the second commits, and then the second
-/// looks, finds and commits again. The last version is the one that the first then sees.
-#[derive(Drop)]
-struct Meeting {
+/// The version that the pass sees.
+fn version_by<N: HostName, R: Wait>(
+    rt: &R,
+    alloc: Global,
+    host: &SharedHost<N>,
+    pass: &mut Pass,
+) -> Mem<u32>
+    requires { pass.old.table ≡ N.table }
+    ensures { pass.new.table ≡ N.table }
+{
+    let view = host.look(rt, alloc, pass)?;
+    Ok(view.version)
+}
+
+/// What the passes of workers 0 and 1 are answered: both find a step at version 0, the first commits, the second commits,
+/// and then the second looks, finds and commits again. The last is the version that the first then sees.
+#[derive(Clone, Copy)]
+struct Answers {
     first: Commit,
     late: Commit,
     again: Option<Commit>,
     version: u32,
+}
+
+/// What two passes are answered, and what is left of their host.
+#[derive(Drop)]
+struct Met {
+    answers: Answers,
     closed: Closed,
 }
 
-/// The passes of workers 0 and 1 on a host.
-fn two_meet<N: HostName, R: Wait>(rt: &R, alloc: Global, parts: HostParts) -> Mem<Option<Meeting>>
+/// Both find a step, and then both commit; nothing where a step is not legal.
+fn both_committed<N: HostName, R: Wait>(
+    rt: &R,
+    alloc: Global,
+    host: &SharedHost<N>,
+    zero: &mut Pass,
+    one: &mut Pass,
+) -> Mem<Option<(Commit, Commit)>>
+    requires tables { (zero.old.table ≡ N.table) × (one.old.table ≡ N.table) }
+    ensures tables { (zero.new.table ≡ N.table) × (one.new.table ≡ N.table) }
+{
+    let Some(found) = found_by(rt, alloc, host, zero, 0, &[4, 1])? else {
+        return Ok(None);
+    };
+    let Some(late) = found_by(rt, alloc, host, one, 0, &[5, 1])? else {
+        return Ok(None);
+    };
+    let first = host.commit(rt, alloc, zero, &found)?;
+    let second = host.commit(rt, alloc, one, &late)?;
+    Ok(Some((first, second)))
+}
+
+/// What the passes are answered.
+fn answers_to<N: HostName, R: Wait>(
+    rt: &R,
+    alloc: Global,
+    host: &SharedHost<N>,
+    zero: &mut Pass,
+    one: &mut Pass,
+) -> Mem<Option<Answers>>
+    requires tables { (zero.old.table ≡ N.table) × (one.old.table ≡ N.table) }
+    ensures tables { (zero.new.table ≡ N.table) × (one.new.table ≡ N.table) }
+{
+    let Some((first, late)) = both_committed(rt, alloc, host, zero, one)? else {
+        return Ok(None);
+    };
+    let again = committed_by(rt, alloc, host, one, 0, &[5, 2])?;
+    let version = version_by(rt, alloc, host, zero)?;
+    Ok(Some(Answers {
+        first,
+        late,
+        again,
+        version,
+    }))
+}
+
+/// The passes of workers 0 and 1 on a host, and then its close.
+fn two_meet<N: HostName, R: Wait>(rt: &R, alloc: Global, parts: HostParts) -> Mem<Option<Met>>
     requires { (N.table ≡ parts.table) × (N.system ≡ parts.system) × (N.limit ≡ parts.limit) × (N.passes ≡ parts.passes) × (parts.passes ≡ 2) }
 {
-    let (host, mut passes) = SharedHost::<N>::start(parts);
+    let (host, passes) = SharedHost::<N>::start(parts);
+    close_after(rt, alloc, host, passes)
+}
+
+/// The first two of these passes on the host, and then its close with them.
+fn close_after<N: HostName, R: Wait>(
+    rt: &R,
+    alloc: Global,
+    host: SharedHost<N>,
+    mut passes: Vec<Pass>,
+) -> Mem<Option<Met>>
+    requires { OfTable N.table passes.items }
+{
     let Some(mut one) = passes.pop() else {
         return Ok(None);
     };
     let Some(mut zero) = passes.pop() else {
         return Ok(None);
     };
-    let Some(found) = found_by(rt, alloc, &host, &mut zero, 0, &[4, 1])? else {
+    let Some(answers) = answers_to(rt, alloc, &host, &mut zero, &mut one)? else {
         return Ok(None);
     };
-    let Some(late_found) = found_by(rt, alloc, &host, &mut one, 0, &[5, 1])? else {
-        return Ok(None);
-    };
-    let first = host.commit(rt, alloc, &mut zero, &found)?;
-    let late = host.commit(rt, alloc, &mut one, &late_found)?;
-    let again = committed_by(rt, alloc, &host, &mut one, 0, &[5, 2])?;
-    let version = host.look(rt, alloc, &mut zero)?.version;
     passes.push(zero)?;
     passes.push(one)?;
     let closed = host.close(passes)?;
-    Ok(Some(Meeting {
-        first,
-        late,
-        again,
-        version,
-        closed,
-    }))
+    Ok(Some(Met { answers, closed }))
 }
 
 /// Two passes on the building, on which so many entries may be.
-fn meeting_at<R: Abort + Wait>(rt: &R, alloc: Global, limit: u32) -> Mem<Option<Meeting>>
+fn meeting_at<R: Abort + Wait>(rt: &R, alloc: Global, limit: u32) -> Mem<Option<Met>>
     requires { limit ≤ most_steps }
 {
     let system = system_of(rt, alloc, BUILDING)?;
@@ -136,10 +202,10 @@ fn of_two_steps_that_were_found_at_one_version_one_is_committed(rt: HostRuntime)
     let Some(met) = meeting_at(&rt, rt.alloc(), 10)? else {
         panic!(rt; "the steps are legal")
     };
-    assert!(rt; met.first == Commit::Done { version: 1 });
-    assert!(rt; met.late == Commit::Again { version: 1 });
-    assert!(rt; met.again == Some(Commit::Done { version: 2 }));
-    assert!(rt; met.version == 2);
+    assert!(rt; met.answers.first == Commit::Done { version: 1 });
+    assert!(rt; met.answers.late == Commit::Again { version: 1 });
+    assert!(rt; met.answers.again == Some(Commit::Done { version: 2 }));
+    assert!(rt; met.answers.version == 2);
     let journal = met.closed.journal.as_slice();
     assert!(rt; journal.len() == 2);
     assert!(rt; is_entry(&journal[0], 0, 0, &[4, 1]));
@@ -152,8 +218,8 @@ fn a_step_past_the_limit_is_spent(rt: HostRuntime) -> Mem<()> {
     let Some(met) = meeting_at(&rt, rt.alloc(), 1)? else {
         panic!(rt; "the steps are legal")
     };
-    assert!(rt; met.again == Some(Commit::Spent { limit: 1 }));
-    assert!(rt; met.version == 1);
+    assert!(rt; met.answers.again == Some(Commit::Spent { limit: 1 }));
+    assert!(rt; met.answers.version == 1);
     assert!(rt; met.closed.journal.len() == 1);
     Ok(())
 }

@@ -32,8 +32,8 @@ close-requires g c =
     let some = c.requires.workers.1 in
     let first = some_first g.N.HostName.table g.N.HostName.passes (omega (arith, named, as_many, some)) in
     let parts = parts_ended g.N.HostName.table g.N.HostName.system c.args.limit c.args.seed c.start-host.result.1.items first.0 (new_pass g.N.HostName.table 0)
-        c.in_ok-members.members.items c.run_team-members.result.items c.remove-pass.new.self.items c.remove-pass.result (c.start-host.ensures ∙ first.1)
-        c.in_ok-members.ensures c.run_team-members.ensures c.remove-pass.ensures.value c.remove-pass.ensures.items in
+    c.in_ok-members.members.items c.run_team-members.result.items c.remove-pass.new.self.items c.remove-pass.result (c.start-host.ensures ∙ first.1)
+    c.in_ok-members.ensures c.run_team-members.ensures c.remove-pass.ensures.value c.remove-pass.ensures.items in
     let zero = parts.0 in
     rw (c.in_ok-push.ensures.items, c.in_ok-passes.ensures) (all_snoc (λ (pass : PassView). pass.table ≡ g.N.HostName.table) (map pass_of c.remove-pass.new.self.items)
     c.remove-pass.result.pass (ended_of_table g.N.HostName.table g.N.HostName.system c.args.limit c.args.seed first.0 c.remove-pass.new.self.items parts.1) zero.of)
@@ -45,8 +45,8 @@ returns-clause-came g c =
     let some = c.requires.workers.1 in
     let first = some_first g.N.HostName.table g.N.HostName.passes (omega (arith, named, as_many, some)) in
     let parts = parts_ended g.N.HostName.table g.N.HostName.system c.args.limit c.args.seed c.start-host.result.1.items first.0 (new_pass g.N.HostName.table 0)
-        c.in_ok-members.members.items c.run_team-members.result.items c.remove-pass.new.self.items c.remove-pass.result (c.start-host.ensures ∙ first.1)
-        c.in_ok-members.ensures c.run_team-members.ensures c.remove-pass.ensures.value c.remove-pass.ensures.items in
+    c.in_ok-members.members.items c.run_team-members.result.items c.remove-pass.new.self.items c.remove-pass.result (c.start-host.ensures ∙ first.1)
+    c.in_ok-members.ensures c.run_team-members.ensures c.remove-pass.ensures.value c.remove-pass.ensures.items in
     let begins : BeginsWithEach c.in_ok-closed.closed.journal (c.in_ok-passes.passes.items ++ c.remove-pass.result.pass ∷ []) =
     subst (λ (passes : List PassView). BeginsWithEach c.in_ok-closed.closed.journal passes) c.in_ok-push.ensures.items c.in_ok-closed.ensures.begins in
     let grows = last_begins c.in_ok-closed.closed.journal c.in_ok-passes.passes.items c.remove-pass.result.pass begins in

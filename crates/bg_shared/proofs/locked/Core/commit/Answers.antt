@@ -36,9 +36,9 @@ invariant_of-self-2 g c =
     let appended : c.push.new.self.items ≡ journal ++ entry ∷ [] = c.in_ok-push.ensures.items ∙ ap (λ (x : Entry). journal ++ x ∷ []) copied in
     let before = c.compare.ensures.turn ∙ kept.turn_is in
     let after = c.append-version.ensures.turn ∙ (ap (λ (t : TurnView). record t { list = t.list ++ c.in_ok-entry.entry ∷ [] }) before
-        ∙ ap (λ (x : Entry). record { table = g.N.HostName.table; passes = g.N.HostName.passes; list = journal ++ x ∷ [] }) c.in_ok-entry.ensures) in
+    ∙ ap (λ (x : Entry). record { table = g.N.HostName.table; passes = g.N.HostName.passes; list = journal ++ x ∷ [] }) c.in_ok-entry.ensures) in
     let below = subst (λ (t : TurnView). WorkersBelow t.passes (journal ++ entry ∷ [])) before
-        (subst (λ (t : TurnView). WorkersBelow c.compare.new.turn.passes t.list) after c.append-version.ensures.numbered) in
+    (subst (λ (t : TurnView). WorkersBelow c.compare.new.turn.passes t.list) after c.append-version.ensures.numbered) in
     let bound = kept.bound_is in
     let within = kept.within in
     let room : length journal < g.N.HostName.limit = grind arith in
