@@ -245,20 +245,33 @@ fn doubled<N: HostName, R: Wait>(
     parts: HostParts,
     times: u32,
 ) -> Mem<Option<Commit>>
-    requires { (N.table ≡ parts.table) × (N.system ≡ parts.system) × (N.limit ≡ parts.limit) × (N.passes ≡ parts.passes) × (1 ≤ parts.passes) }
+    requires { (N.table ≡ parts.table) × (N.system ≡ parts.system) × (N.limit ≡ parts.limit) × (N.passes ≡ parts.passes) }
 {
-    let (host, mut passes) = SharedHost::<N>::start(parts);
+    let (host, passes) = SharedHost::<N>::start(parts);
+    doubled_by_last(rt, alloc, &host, passes, times)
+}
+
+/// What the last of these passes is answered.
+fn doubled_by_last<N: HostName, R: Wait>(
+    rt: &R,
+    alloc: Global,
+    host: &SharedHost<N>,
+    mut passes: Vec<Pass>,
+    times: u32,
+) -> Mem<Option<Commit>>
+    requires { OfTable N.table passes.items }
+{
     let Some(mut last) = passes.pop() else {
         return Ok(None);
     };
     drop(passes);
     let mut copy = 0;
     for _ in 0..times {
-        let next = next_node_by(rt, alloc, &host, &mut last)?;
-        let _ = committed_by(rt, alloc, &host, &mut last, 0, &[copy])?;
+        let next = next_node_by(rt, alloc, host, &mut last)?;
+        let _ = committed_by(rt, alloc, host, &mut last, 0, &[copy])?;
         copy = next;
     }
-    committed_by(rt, alloc, &host, &mut last, 0, &[copy])
+    committed_by(rt, alloc, host, &mut last, 0, &[copy])
 }
 
 /// So many commits on the host that doubles, with so many passes, of which one is used.

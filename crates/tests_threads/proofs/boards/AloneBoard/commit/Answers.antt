@@ -22,9 +22,10 @@ returns-clause-of g c =
     let legal = newest_legal system of.3 journal of.0 c.args.found.now c.requires.found (omega arith) in
     let leads = rw c.in_ok-next.ensures at c.in-Ok.ensures.leads in
     let entry_is = ap (λ map. record { worker = c.args.pass.now.worker; rule = c.args.found.now.step.rule; map = map }) c.in_ok-copy.ensures in
+    let made : Entry = record { worker = c.args.pass.now.worker; rule = c.args.found.now.step.rule; map = c.in_ok-copy.field-0 } in
     let copied = c.in_ok-entries.ensures ∙ c.as_slice.ensures.same in
     let appended : c.in_ok-pass.field-0 ≡ journal ++ entry ∷ [] = c.in_ok-pass.ensures.same ∙ (c.in_ok-push.ensures.items
-    ∙ (ap (λ (xs : List Entry). xs ++ _ ∷ []) copied ∙ ap (λ (x : Entry). journal ++ x ∷ []) entry_is)) in
+    ∙ (ap (λ (xs : List Entry). xs ++ made ∷ []) copied ∙ ap (λ (x : Entry). journal ++ x ∷ []) entry_is)) in
     let long = ap length appended ∙ length-append journal (entry ∷ []) in
     let within = of.1 in
     let room = c.if-count-self.false in
