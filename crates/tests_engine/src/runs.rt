@@ -301,7 +301,7 @@ const WORDS: [&[&str]; 8] = [
     &["bigengine", "show", "--help"],
     &["bigengine", "match", "--most", "x"],
     &["bigengine", "compose", "compose"],
-    &["bigengine", "run", "--workers", "2"],
+    &["bigengine", "run", "--workers", "0"],
 ];
 
 #[test]
