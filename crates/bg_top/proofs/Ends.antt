@@ -1,5 +1,5 @@
 -- Which status a call ends with, and what is then written.
-use Rattle.std.proofs.Common.{◌≡◌, ◌≢◌, ◌<◌, ◌≤◌, ℕ, List, ◌⊎◌, None, Some, true, false, Bool, nat_lt, length, inl, inr, refl, sym, subst, ap, ◌∙◌, ⊎_elim, MatchBool, arith, ◌==◌, if◌then◌else◌}
+use Rattle.std.proofs.Common.{◌≡◌, ◌≢◌, ◌<◌, ◌≤◌, ℕ, List, ◌⊎◌, None, Some, true, false, Bool, nat_lt, length, inl, inr, refl, sym, subst, ap, ◌∙◌, ⊎_elim, MatchBool, IsTrue, arith, ◌==◌, if◌then◌else◌}
 use Rattle.std.specs.Prelude.{IfSome}
 use Rattle.std.specs.Option.{IsSomeAnd}
 use Rattle.std.proofs.lemmas.Bool.Decides.{nat_tests, eqb_tells, leb_tells}
@@ -12,8 +12,9 @@ use Rattle.bg_answers.specs.declared.status.Status.{Status}
 use Rattle.bg_answers.specs.declared.status.Status.TheVariants.{Done, Refused, WrongWords, TooMany, NoRun, TooLong, Unsorted}
 use Rattle.bg_top.specs.Ended.{Ended, IsStopped, ComesWhere}
 use Rattle.bg_top.specs.Numbers.{failed_read, failed_write, out_of_memory}
-use Rattle.bg_top.specs.Right.{promise_of, IsReply, IsTaken, IsRefused, IsTooMuch, EndsWith, IsRight, IsAnsweredWith, AsksOf, Answers}
-use Rattle.bg_top.proofs.Right.{over}
+use Rattle.bg_top.specs.Right.{promise_of, input_of, is_long, IsInput, IsReply, IsTaken, IsRefused, IsTooMuch, EndsWith, IsRight, IsAnsweredWith, AsksOf, Answers}
+use Rattle.bg_top.proofs.Right.{over, the_input, input_is, long_input}
+use Rattle.bg_watch.specs.Watching.{Watched}
 use Rattle.bg_top.proofs.Settled.{settled}
 use Rattle.bg_words.specs.declared.asking.Request.{Request}
 
@@ -73,49 +74,47 @@ one_status promise is input {one} (made first) (refused {refusal = refusal} seco
 one_status promise is input {one} {other} (refused {refusal = refusal} first) (made second) = absurd (is.refused_unmade input other refusal second first)
 one_status promise is input (refused first) (refused second) = refl
 
--- what a right answer to an input says
-data Judged (most : ℕ) (request : Request) (input : List ℕ) (answer : Answer) : Type 0 where
-  long : answer ≡ too_long → most < length input → Judged most request input answer
-  short : length input ≤ most → IsReply request input answer → Judged most request input answer
+module _ (watchers : List Watched) where
+  -- what a right answer to an input says
+  data Judged (most : ℕ) (request : Request) (input : List ℕ) (answer : Answer) : Type 0 where
+    long : answer ≡ too_long → is_long most request input ≡ true → Judged most request input answer
+    short : is_long most request input ≡ false → IsReply request watchers input answer → Judged most request input answer
 
-abbrev IsMatched : ℕ → Request → List ℕ → Answer → Bool → Type 0
-IsMatched most request input answer test = MatchBool test (answer ≡ too_long) (IsReply request input answer)
+  abbrev IsMatched : ℕ → Request → List ℕ → Answer → Bool → Type 0
+  IsMatched most request input answer test = MatchBool test (answer ≡ too_long) (IsReply request watchers input answer)
 
-judged : (most : ℕ) (request : Request) (input : List ℕ) (answer : Answer)
-    → IsMatched most request input answer (nat_lt most (length input)) → Judged most request input answer
-judged most request input answer right =
-    ⊎_elim
-    (λ few. let within : length input ≤ most = few.1 in
-    let test : nat_lt most (length input) ≡ false = search (arith, nat_tests) in
-    short within (subst (IsMatched most request input answer) test right))
-    (λ more. let past : most < length input = more.1 in
-    let test : nat_lt most (length input) ≡ true = search (arith, nat_tests) in
-    long (subst (IsMatched most request input answer) test right) past)
-    (leb_tells (length input) most)
+  judged : (most : ℕ) (request : Request) (input : List ℕ) (answer : Answer)
+      → IsMatched most request input answer (is_long most request input) → Judged most request input answer
+  judged most request input answer right = of (is_long most request input) refl right
+    where
+      of : (test : Bool) → is_long most request input ≡ test → IsMatched most request input answer test → Judged most request input answer
+      of true is right = long right is
+      of false is right = short is right
 
-fits : (most : ℕ) (request : Request) (input : List ℕ) (answer : Answer) → length input ≤ most → IsReply request input answer
-    → IsRight most (Some request) (Some input) answer
-fits most request input answer few right =
-    let test : nat_lt most (length input) ≡ false = search (arith, nat_tests) in
-    (input, refl, subst (IsMatched most request input answer) (sym test) right)
+  fits : (most : ℕ) (request : Request) (bytes : List ℕ) (answer : Answer) → is_long most request bytes ≡ false
+      → IsReply request watchers (input_of request bytes) answer → IsRight most (Some request) watchers (Some bytes) answer
+  fits most request bytes answer few right =
+      (input_of request bytes, the_input request bytes,
+      subst (IsMatched most request (input_of request bytes) answer) (sym (long_input most request bytes ∙ few)) right)
 
-judged_at : (most : ℕ) (request : Request) (input : List ℕ) (answer : Answer) → IsRight most (Some request) (Some input) answer
-    → Judged most request input answer
-judged_at most request input answer right =
-    subst (λ i. Judged most request i answer) right.1 (judged most request right.0 answer right.2)
+  judged_at : (most : ℕ) (request : Request) (bytes : List ℕ) (answer : Answer) → IsRight most (Some request) watchers (Some bytes) answer
+      → Judged most request (input_of request bytes) answer
+  judged_at most request bytes answer right =
+      subst (λ i. Judged most request i answer) (input_is request bytes right.0 right.1) (judged most request right.0 answer right.2)
 
-same_judged : (most : ℕ) (request : Request) (input : List ℕ) (one other : Answer) → Judged most request input one
-    → Judged most request input other → one.status ≡ other.status
-same_judged most request input one other (long is past) (long also more) = ap (λ (a : Answer). a.status) (is ∙ sym also)
-same_judged most request input one other (long is past) (short few right) = absurd (omega (arith, past, few))
-same_judged most request input one other (short few right) (long is past) = absurd (omega (arith, past, few))
-same_judged most request input one other (short few first) (short also second) = one_status (promise_of request) (settled request) input first second
+  same_judged : (most : ℕ) (request : Request) (input : List ℕ) (one other : Answer) → Judged most request input one
+      → Judged most request input other → one.status ≡ other.status
+  same_judged most request input one other (long is past) (long also more) = ap (λ (a : Answer). a.status) (is ∙ sym also)
+  same_judged most request input one other (long is past) (short few right) = let both = sym past ∙ few in absurd cc
+  same_judged most request input one other (short few right) (long is past) = let both = sym past ∙ few in absurd cc
+  same_judged most request input one other (short few first) (short also second) =
+      one_status (promise_of request watchers) (settled request watchers) input first second
 
-same_right : (most : ℕ) (asked : Option Request) (input : List ℕ) (one other : Answer) → IsRight most asked (Some input) one
-    → IsRight most asked (Some input) other → one.status ≡ other.status
-same_right most None input one other first second = ap (λ (a : Answer). a.status) (first ∙ sym second)
-same_right most (Some request) input one other first second =
-    same_judged most request input one other (judged_at most request input one first) (judged_at most request input other second)
+  same_right : (most : ℕ) (asked : Option Request) (bytes : List ℕ) (one other : Answer) → IsRight most asked watchers (Some bytes) one
+      → IsRight most asked watchers (Some bytes) other → one.status ≡ other.status
+  same_right most None bytes one other first second = ap (λ (a : Answer). a.status) (first ∙ sym second)
+  same_right most (Some request) bytes one other first second =
+      same_judged most request (input_of request bytes) one other (judged_at most request bytes one first) (judged_at most request bytes other second)
 
 -- ---- statuses of commands
 
@@ -142,20 +141,20 @@ made_of promise input (refused r) not = absurd (not refl)
 
 -- ---- the clauses of `engine`
 
-module _ (most : ℕ) (result : ℕ) (reads writes flushed : Type 0) (old new : Option (List ℕ)) where
+module _ (most : ℕ) (watchers : List Watched) (result : ℕ) (reads writes flushed kept : Type 0) (old new : Option (List ℕ)) where
   abbrev Ends : Option Request → Option (List ℕ) → Type 0
-  Ends asked left = Ended (IsRight most asked left) result reads writes flushed old new
+  Ends asked left = Ended (IsRight most asked watchers left) result reads writes flushed kept old new
 
   -- a right answer with that result
   abbrev HasAnswer : Option Request → Option (List ℕ) → Type 0
-  HasAnswer asked left = (answer : Answer) × IsRight most asked left answer × (result ≡ number answer.status)
+  HasAnswer asked left = (answer : Answer) × IsRight most asked watchers left answer × (result ≡ number answer.status)
 
   answer_of : (asked : Option Request) (left : Option (List ℕ)) → Ends asked left → Goes result → HasAnswer asked left
   answer_of asked left ended goes = let some = ended.answered goes.0 goes.1 goes.2 in (some.0, some.1, some.2.0)
 
   -- each status comes exactly where some right answer has it
   comes : (asked : Option Request) (input : List ℕ) → Ends asked (Some input) → (status : Status)
-      → ComesWhere result status (IsAnsweredWith most asked (Some input) status)
+      → ComesWhere result status (IsAnsweredWith most asked watchers (Some input) status)
   comes asked input ended status =
       record {
         only = λ is.
@@ -163,18 +162,18 @@ module _ (most : ℕ) (result : ℕ) (reads writes flushed : Type 0) (old new : 
             (some.0, some.1, same_status some.0.status status (sym some.2 ∙ is));
         always = λ answered. ⊎_elim (λ stopped. inl stopped) (λ goes.
             let some = answer_of asked (Some input) ended goes in
-            inr (some.2 ∙ ap number (same_right most asked input some.0 answered.0 some.1 answered.1 ∙ answered.2))) (stops result);
+            inr (some.2 ∙ ap number (same_right watchers most asked input some.0 answered.0 some.1 answered.1 ∙ answered.2))) (stops result);
       }
 
   -- so of other words for the same
   comes_by : {P : Type 0} (asked : Option Request) (input : List ℕ) → Ends asked (Some input) → (status : Status)
-      → (IsAnsweredWith most asked (Some input) status → P) → (P → IsAnsweredWith most asked (Some input) status) → ComesWhere result status P
+      → (IsAnsweredWith most asked watchers (Some input) status → P) → (P → IsAnsweredWith most asked watchers (Some input) status) → ComesWhere result status P
   comes_by asked input ended status there back =
       let comes_where = comes asked input ended status in
       record { only = λ is. there (comes_where.only is); always = λ p. comes_where.always (back p) }
 
   pub statuses_from : (asked : Option Request) (left : Option (List ℕ)) → Ends asked left
-      → IfSome left (λ input. (status : Status) → ComesWhere result status (IsAnsweredWith most asked (Some input) status))
+      → IfSome left (λ input. (status : Status) → ComesWhere result status (IsAnsweredWith most asked watchers (Some input) status))
   statuses_from asked None ended = tt
   statuses_from asked (Some input) ended = comes asked input ended
 
@@ -184,11 +183,11 @@ module _ (most : ℕ) (result : ℕ) (reads writes flushed : Type 0) (old new : 
   words_only (Some request) left ended is =
       let some = answer_of (Some request) left ended (status_goes result WrongWords is) in
       let status : some.0.status ≡ WrongWords = same_status some.0.status WrongWords (sym some.2 ∙ is) in
-      absurd (of (judged most request some.1.0 some.0 some.1.2) status)
+      absurd (of (judged watchers most request some.1.0 some.0 some.1.2) status)
     where
-      of : {input : List ℕ} {answer : Answer} → Judged most request input answer → answer.status ≡ WrongWords → ⊥
+      of : {input : List ℕ} {answer : Answer} → Judged watchers most request input answer → answer.status ≡ WrongWords → ⊥
       of (long same past) e = let both = sym e ∙ ap (λ (a : Answer). a.status) same in absurd cc
-      of {input} (short few right) e = (own_status (promise_of request) (settled request) input right).0 e
+      of {input} (short few right) e = (own_status (promise_of request watchers) (settled request watchers) input right).0 e
 
   words_always : (asked : Option Request) (left : Option (List ℕ)) → Ends asked left → asked ≡ None → IsStopped result ⊎ (result ≡ number WrongWords)
   words_always None left ended none =
@@ -202,66 +201,73 @@ module _ (most : ℕ) (result : ℕ) (reads writes flushed : Type 0) (old new : 
 
   -- inputs of too many bytes
   abbrev IsLong : Option Request → List ℕ → Type 0
-  IsLong asked input = IsSomeAnd asked (λ request. most < length input)
+  IsLong asked bytes = IsSomeAnd asked (λ request. IsTrue (is_long most request bytes))
 
-  long_of : (asked : Option Request) (input : List ℕ) → IsAnsweredWith most asked (Some input) TooLong → IsLong asked input
-  long_of None input answered = let both = sym answered.2 ∙ ap (λ (a : Answer). a.status) answered.1 in absurd cc
-  long_of (Some request) input answered = of (judged_at most request input answered.0 answered.1) answered.2
+  long_of : (asked : Option Request) (bytes : List ℕ) → IsAnsweredWith most asked watchers (Some bytes) TooLong → IsLong asked bytes
+  long_of None bytes answered = let both = sym answered.2 ∙ ap (λ (a : Answer). a.status) answered.1 in absurd cc
+  long_of (Some request) bytes answered =
+      sym (long_input most request bytes) ∙ of (judged_at watchers most request bytes answered.0 answered.1) answered.2
     where
-      of : {answer : Answer} → Judged most request input answer → answer.status ≡ TooLong → most < length input
+      of : {answer : Answer} → Judged watchers most request (input_of request bytes) answer → answer.status ≡ TooLong
+          → is_long most request (input_of request bytes) ≡ true
       of (long same past) e = past
-      of (short few right) e = absurd ((own_status (promise_of request) (settled request) input right).1 e)
+      of (short few right) e = absurd ((own_status (promise_of request watchers) (settled request watchers) (input_of request bytes) right).1 e)
 
-  of_long : (asked : Option Request) (input : List ℕ) → IsLong asked input → IsAnsweredWith most asked (Some input) TooLong
-  of_long None input past = absurd past
-  of_long (Some request) input past = (too_long, (input, refl, over most request input past), refl)
+  of_long : (asked : Option Request) (bytes : List ℕ) → IsLong asked bytes → IsAnsweredWith most asked watchers (Some bytes) TooLong
+  of_long None bytes past = absurd past
+  of_long (Some request) bytes past =
+      (too_long, (input_of request bytes, the_input request bytes, over most request watchers (input_of request bytes) (long_input most request bytes ∙ past)), refl)
 
   pub long_from : (asked : Option Request) (left : Option (List ℕ)) → Ends asked left
-      → IfSome left (λ input. ComesWhere result TooLong (IsSomeAnd asked (λ request. most < length input)))
+      → IfSome left (λ input. ComesWhere result TooLong (IsSomeAnd asked (λ request. IsTrue (is_long most request input))))
   long_from asked None ended = tt
   long_from asked (Some input) ended = comes_by asked input ended TooLong (long_of asked input) (of_long asked input)
 
   -- refused inputs
-  refused_there : (asked : Option Request) (input : List ℕ) → IsAnsweredWith most asked (Some input) Refused → AsksOf most asked input IsRefused
-  refused_there None input answered = let both = sym answered.2 ∙ ap (λ (a : Answer). a.status) answered.1 in absurd cc
-  refused_there (Some request) input answered = of (judged_at most request input answered.0 answered.1) answered.2
+  refused_there : (asked : Option Request) (bytes : List ℕ) → IsAnsweredWith most asked watchers (Some bytes) Refused → AsksOf most asked bytes (IsRefused watchers)
+  refused_there None bytes answered = let both = sym answered.2 ∙ ap (λ (a : Answer). a.status) answered.1 in absurd cc
+  refused_there (Some request) bytes answered = of (judged_at watchers most request bytes answered.0 answered.1) answered.2
     where
-      of : {answer : Answer} → Judged most request input answer → answer.status ≡ Refused → (length input ≤ most) × IsRefused request input
+      of : {answer : Answer} → Judged watchers most request (input_of request bytes) answer → answer.status ≡ Refused
+          → (is_long most request bytes ≡ false) × IsRefused watchers request (input_of request bytes)
       of (long same past) e = let both = sym e ∙ ap (λ (a : Answer). a.status) same in absurd cc
-      of (short few right) e = (few, refused_of (promise_of request) (settled request) input right e)
+      of (short few right) e =
+          (sym (long_input most request bytes) ∙ few, refused_of (promise_of request watchers) (settled request watchers) (input_of request bytes) right e)
 
-  there_refused : (asked : Option Request) (input : List ℕ) → AsksOf most asked input IsRefused → IsAnsweredWith most asked (Some input) Refused
-  there_refused None input asks = absurd asks
-  there_refused (Some request) input asks =
-      (refusing asks.1.0, fits most request input (refusing asks.1.0) asks.0 (refused asks.1.1), refl)
+  there_refused : (asked : Option Request) (bytes : List ℕ) → AsksOf most asked bytes (IsRefused watchers) → IsAnsweredWith most asked watchers (Some bytes) Refused
+  there_refused None bytes asks = absurd asks
+  there_refused (Some request) bytes asks =
+      (refusing asks.1.0, fits watchers most request bytes (refusing asks.1.0) asks.0 (refused asks.1.1), refl)
 
   pub refused_from : (asked : Option Request) (left : Option (List ℕ)) → Ends asked left
-      → IfSome left (λ input. ComesWhere result Refused (AsksOf most asked input IsRefused))
+      → IfSome left (λ input. ComesWhere result Refused (AsksOf most asked input (IsRefused watchers)))
   refused_from asked None ended = tt
   refused_from asked (Some input) ended = comes_by asked input ended Refused (refused_there asked input) (there_refused asked input)
 
   -- inputs of which there would be too much to list
-  much_there : (asked : Option Request) (input : List ℕ) → IsAnsweredWith most asked (Some input) TooMany → AsksOf most asked input IsTooMuch
-  much_there None input answered = let both = sym answered.2 ∙ ap (λ (a : Answer). a.status) answered.1 in absurd cc
-  much_there (Some request) input answered = of answered.0 (judged_at most request input answered.0 answered.1) answered.2
+  much_there : (asked : Option Request) (bytes : List ℕ) → IsAnsweredWith most asked watchers (Some bytes) TooMany → AsksOf most asked bytes (IsTooMuch watchers)
+  much_there None bytes answered = let both = sym answered.2 ∙ ap (λ (a : Answer). a.status) answered.1 in absurd cc
+  much_there (Some request) bytes answered = of answered.0 (judged_at watchers most request bytes answered.0 answered.1) answered.2
     where
-      of : (answer : Answer) → Judged most request input answer → answer.status ≡ TooMany → (length input ≤ most) × IsTooMuch request input
+      of : (answer : Answer) → Judged watchers most request (input_of request bytes) answer → answer.status ≡ TooMany
+          → (is_long most request bytes ≡ false) × IsTooMuch watchers request (input_of request bytes)
       of answer (long same past) e = let both = sym e ∙ ap (λ (a : Answer). a.status) same in absurd cc
       of answer (short few right) e =
-          (few, (answer, made_of (promise_of request) input right (λ r. let both = sym e ∙ r in absurd cc), e))
+          (sym (long_input most request bytes) ∙ few,
+          (answer, made_of (promise_of request watchers) (input_of request bytes) right (λ r. let both = sym e ∙ r in absurd cc), e))
 
-  there_much : (asked : Option Request) (input : List ℕ) → AsksOf most asked input IsTooMuch → IsAnsweredWith most asked (Some input) TooMany
-  there_much None input asks = absurd asks
-  there_much (Some request) input asks = (asks.1.0, fits most request input asks.1.0 asks.0 (made asks.1.1), asks.1.2)
+  there_much : (asked : Option Request) (bytes : List ℕ) → AsksOf most asked bytes (IsTooMuch watchers) → IsAnsweredWith most asked watchers (Some bytes) TooMany
+  there_much None bytes asks = absurd asks
+  there_much (Some request) bytes asks = (asks.1.0, fits watchers most request bytes asks.1.0 asks.0 (made asks.1.1), asks.1.2)
 
   pub much_from : (asked : Option Request) (left : Option (List ℕ)) → Ends asked left
-      → IfSome left (λ input. ComesWhere result TooMany (AsksOf most asked input IsTooMuch))
+      → IfSome left (λ input. ComesWhere result TooMany (AsksOf most asked input (IsTooMuch watchers)))
   much_from asked None ended = tt
   much_from asked (Some input) ended = comes_by asked input ended TooMany (much_there asked input) (there_much asked input)
 
   -- what is written at status 0
   pub written_from : (asked : Option Request) (left : Option (List ℕ)) → Ends asked left → result ≡ number Done
-      → IsSomeAnd asked (λ request. Answers request left old new)
+      → IsSomeAnd asked (λ request. Answers watchers request left old new)
   written_from None left ended is =
       let some = answer_of None left ended (status_goes result Done is) in
       let both = sym is ∙ some.2 ∙ ap (λ (a : Answer). number a.status) some.1 in absurd cc
@@ -270,31 +276,33 @@ module _ (most : ℕ) (result : ℕ) (reads writes flushed : Type 0) (old new : 
       let some = ended.answered goes.0 goes.1 goes.2 in
       let status : some.0.status ≡ Done = same_status some.0.status Done (sym some.2.0 ∙ is) in
       let input = some.1.0 in
-      (input, some.1.1, (some.0.text, of input some.0 (judged most request input some.0 some.1.2) status, some.2.1))
+      (input, some.1.1, (some.0.text, of input some.0 (judged watchers most request input some.0 some.1.2) status, some.2.1))
     where
-      of : (input : List ℕ) (answer : Answer) → Judged most request input answer → answer.status ≡ Done
-          → (promise_of request).makes input (record { status = Done; text = answer.text })
+      of : (input : List ℕ) (answer : Answer) → Judged watchers most request input answer → answer.status ≡ Done
+          → (promise_of request watchers).makes input (record { status = Done; text = answer.text })
       of input answer (long same past) e = let both = sym e ∙ ap (λ (a : Answer). a.status) same in absurd cc
       of input answer (short few right) e =
           let plain : answer ≡ record { status = Done; text = answer.text } = ap (λ (s : Status). record { status = s; text = answer.text }) e in
-          subst ((promise_of request).makes input) plain (made_of (promise_of request) input right (λ r. let both = sym e ∙ r in absurd cc))
+          subst ((promise_of request watchers).makes input) plain (made_of (promise_of request watchers) input right (λ r. let both = sym e ∙ r in absurd cc))
 
   -- an accepted input is answered
-  accepted_ends : (asked : Option Request) (input : List ℕ) → Ends asked (Some input) → AsksOf most asked input IsTaken → ¬ reads → ¬ writes
-      → (result ≡ out_of_memory) ⊎ AsksOf most asked input (EndsWith result)
-  accepted_ends None input ended asks no_read no_write = absurd asks
-  accepted_ends (Some request) input ended asks no_read no_write =
+  accepted_ends : (asked : Option Request) (bytes : List ℕ) → Ends asked (Some bytes) → AsksOf most asked bytes (IsTaken watchers) → ¬ reads → ¬ writes
+      → (result ≡ out_of_memory) ⊎ AsksOf most asked bytes (EndsWith result watchers)
+  accepted_ends None bytes ended asks no_read no_write = absurd asks
+  accepted_ends (Some request) bytes ended asks no_read no_write =
       ⊎_elim (λ e. inl e.1) (λ e.
       let some = ended.answered (λ is. no_read (ended.read_failure is).0) (λ is. no_write (ended.write_failure is).0) e.1 in
-      inr (asks.0, of some.0 (judged_at most request input some.0 some.1) some.2.0)) (eqb_tells result out_of_memory)
+      inr (asks.0, of some.0 (judged_at watchers most request bytes some.0 some.1) some.2.0)) (eqb_tells result out_of_memory)
     where
-      of : (answer : Answer) → Judged most request input answer → result ≡ number answer.status → EndsWith result request input
-      of answer (long same past) is = absurd (omega (arith, past, asks.0))
+      of : (answer : Answer) → Judged watchers most request (input_of request bytes) answer → result ≡ number answer.status
+          → EndsWith result watchers request (input_of request bytes)
+      of answer (long same past) is = let both = sym past ∙ long_input most request bytes ∙ asks.0 in absurd cc
       of answer (short few (made m)) is = (answer, m, is)
-      of answer (short few (refused {refusal = refusal} r)) is = absurd ((settled request).refused_unaccepted input refusal asks.1 r)
+      of answer (short few (refused {refusal = refusal} r)) is =
+          absurd ((settled request watchers).refused_unaccepted (input_of request bytes) refusal asks.1 r)
 
   pub complete_from : (asked : Option Request) (left : Option (List ℕ)) → Ends asked left
-      → IfSome left (λ input. AsksOf most asked input IsTaken → ¬ reads → ¬ writes
-      → (result ≡ out_of_memory) ⊎ AsksOf most asked input (EndsWith result))
+      → IfSome left (λ input. AsksOf most asked input (IsTaken watchers) → ¬ reads → ¬ writes
+      → (result ≡ out_of_memory) ⊎ AsksOf most asked input (EndsWith result watchers))
   complete_from asked None ended = tt
   complete_from asked (Some input) ended = accepted_ends asked input ended

@@ -11,14 +11,15 @@ use Rattle.bg_top.specs.Numbers.{failed_read, failed_write, out_of_memory}
 abbrev pub SomeAnswer : (Answer → Type 0) → (Answer → Type 0) → Type 0
 SomeAnswer right P = (answer : Answer) × right answer × P answer
 
--- a call ended with this status; what the sink holds went from old to new; `flushed` says that the sink has passed it on
-pub record Ended (right : Answer → Type 0) (status : ℕ) (read_failed write_failed flushed : Type 0) (old new : Option (List ℕ)) : Type 0 where
-  -- after a failed read nothing is written
-  pub read_failure : status ≡ failed_read → read_failed × Keeps old new
+-- a call ended with this status; what the sink holds went from old to new; `flushed` says that the sink has passed it on, and
+-- `kept` that no watcher was told of anything
+pub record Ended (right : Answer → Type 0) (status : ℕ) (read_failed write_failed flushed kept : Type 0) (old new : Option (List ℕ)) : Type 0 where
+  -- after a failed read nothing is written, and nothing told
+  pub read_failure : status ≡ failed_read → read_failed × Keeps old new × kept
   -- after a failed write the start of a right text is written
   pub write_failure : status ≡ failed_write → write_failed × SomeAnswer right (λ answer. AppendsPrefix old new answer.text)
-  -- for want of memory nothing is written, or the start of a right text
-  pub no_memory : status ≡ out_of_memory → Keeps old new ⊎ SomeAnswer right (λ answer. AppendsPrefix old new answer.text)
+  -- for want of memory nothing is written and nothing told, or the start of a right text is written
+  pub no_memory : status ≡ out_of_memory → (Keeps old new × kept) ⊎ SomeAnswer right (λ answer. AppendsPrefix old new answer.text)
   -- any other status is that of a right answer, whose text is written whole
   pub answered : status ≢ failed_read → status ≢ failed_write → status ≢ out_of_memory
       → SomeAnswer right (λ answer. (status ≡ number answer.status) × Appends old new answer.text)

@@ -1,4 +1,5 @@
 pub mod Ended
 pub mod Numbers
 pub mod Right
+pub mod Staying
 pub mod Words

@@ -1,4 +1,4 @@
--- What is asked for is in range: the number of steps, and the number of workers.
+-- What is asked for is in range: the number of steps, the number of workers, and the size.
 use Rattle.std.proofs.Common.{◌≡◌, ◌≤◌, ℕ, Bool, true, false, ◌&&◌, List, Option, None, Some, if◌then◌else◌, codes, option_and_then, refl, subst, arith}
 use Rattle.std.proofs.lemmas.Bool.Decides.{nat_tests}
 use Rattle.std.proofs.lemmas.Bool.{and_parts}
@@ -53,7 +53,8 @@ asked_in rows {request} e =
     let same : record { command = command.0; most = most.0; workers = workers.0; steps = steps.0; seed = seed.0; size = size.0; explain = is_set rows (codes "explain") } ≡ request = cc in
     let few = in_range option.steps (omega arith) (omega arith) (first_of (codes "steps") rows) steps.1 in
     let team = in_range option.workers (omega arith) (omega arith) (first_of (codes "workers") rows) workers.1 in
-    subst IsInRange same (record { few_steps = few.1; some_workers = team.0; few_workers = team.1 })
+    let large = in_range option.size (omega arith) (omega arith) (first_of (codes "size") rows) size.1 in
+    subst IsInRange same (record { few_steps = few.1; some_workers = team.0; few_workers = team.1; some_size = large.0; small_size = large.1 })
 
 pub request_in_range : (words : List (List ℕ)) {request : Request} → asked words ≡ Some request → IsInRange request
 unfolding asked

@@ -1,8 +1,8 @@
 -- The commands: their names.
-use Rattle.std.specs.Prelude.{ℕ, List, Option, None, Some, if◌then◌else◌, codes}
+use Rattle.std.specs.Prelude.{ℕ, Bool, true, false, List, Option, None, Some, if◌then◌else◌, codes}
 use Rattle.std.specs.Str.{bytes_eq}
 use Rattle.bg_words.specs.declared.command.Command.{Command}
-use Rattle.bg_words.specs.declared.command.Command.TheVariants.{Compose, Check, Show, Match, Run}
+use Rattle.bg_words.specs.declared.command.Command.TheVariants.{Compose, Check, Show, Match, Run, Trial}
 
 -- the command with that name
 abbrev pub command_of : List ℕ → Option Command
@@ -12,4 +12,14 @@ command_of name =
     else (if bytes_eq name (codes "show") then Some Show
     else (if bytes_eq name (codes "match") then Some Match
     else (if bytes_eq name (codes "run") then Some Run
-    else None))))
+    else (if bytes_eq name (codes "trial") then Some Trial
+    else None)))))
+
+-- the command reads an input
+abbrev pub is_reading : Command → Bool
+is_reading Compose = true
+is_reading Check = true
+is_reading Show = true
+is_reading Match = true
+is_reading Run = true
+is_reading Trial = false

@@ -58,8 +58,10 @@ request_in rows = do
 unfoldable pub asked : List (List ℕ) → Option Request
 asked words = if is_empty (fault_of the_app words) then request_in (matches_of the_app words) else None
 
--- what holds of each request: a run has not too many steps, and there are 1 to 64 workers
+-- what holds of each request: a run has not too many steps, there are 1 to 64 workers, and a size is from 1 to 300
 pub record IsInRange (request : Request) : Type 0 where
   pub few_steps : request.steps ≤ most_steps
   pub some_workers : 1 ≤ request.workers
   pub few_workers : request.workers ≤ 64
+  pub some_size : 1 ≤ request.size
+  pub small_size : request.size ≤ 300

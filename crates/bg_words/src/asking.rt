@@ -21,7 +21,7 @@ pub struct Request {
     pub steps: u32,
     /// With what the draws of a run begin, any number of 64 bits; 0 where it is not given.
     pub seed: u64,
-    /// The size of a model that is made, from 1 to 300; 10 where it is not given. No command uses it yet.
+    /// The size of a model that is made, from 1 to 300; 10 where it is not given.
     pub size: u32,
     /// Whether occurrences are explained.
     pub explain: bool,

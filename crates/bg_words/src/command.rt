@@ -15,6 +15,24 @@ pub enum Command {
     Match,
     /// `run`: a run of the system that a model is.
     Run,
+    /// `trial`: where the rules of a model that is made occur, and a run of it. It reads nothing.
+    Trial,
+}
+
+impl Command {
+    ghost use Rattle.std.specs.Prelude.{◌≡◌};
+    ghost use Rattle.bg_words.specs.Commands as definition;
+
+    /// Whether the command reads an input.
+    pub fn is_reading(self) -> bool
+        ensures { result ≡ definition.is_reading self }
+    {
+        match self {
+            Command::Trial => false,
+            Command::Compose | Command::Check | Command::Show | Command::Match | Command::Run =>
+                true,
+        }
+    }
 }
 
 /// The command with that name, where there is one.
@@ -27,6 +45,7 @@ pub(crate) fn command_of(name: &str) -> Option<Command>
         "show" => Some(Command::Show),
         "match" => Some(Command::Match),
         "run" => Some(Command::Run),
+        "trial" => Some(Command::Trial),
         _ => None,
     }
 }

@@ -1,2 +1,4 @@
+pub mod Counts
 pub mod RunText
 pub mod Run
+pub mod Told

@@ -1,4 +1,5 @@
--- What is written of a run: its journal, its end, which predicates occur in its last host, and that host.
+-- What is written of a run: its journal, its end, which predicates occur in its last host, the lines of the watchers, and that
+-- host.
 use Rattle.std.specs.Prelude.{◌≡◌, ◌↔◌, ℕ, Bool, IsTrue, true, false, List, [], ◌∷◌, ◌++◌, codes, zip}
 use Rattle.std.specs.List.{flat_map}
 use Rattle.bg_base.specs.declared.history.Entry.{Entry}
@@ -8,21 +9,16 @@ use Rattle.bg_cond.specs.Drawn.{Draws, IsEndOf}
 use Rattle.bg_cond.specs.Picks.{seeded}
 use Rattle.bg_cond.specs.Steps.{IsRun}
 use Rattle.bg_cond.specs.declared.ending.End.{End}
-use Rattle.bg_cond.specs.declared.ending.End.TheVariants.{Quiet, Limit, Full}
-use Rattle.bg_journal.specs.JournalText.{step_text, journal_text, host_text}
+use Rattle.bg_journal.specs.JournalText.{journal_text, end_line, host_text}
 use Rattle.bg_listing.specs.Spelling.{label_text}
 use Rattle.bg_rules.specs.declared.predicate.Predicate.{Predicate}
 use Rattle.bg_rules.specs.Reaction.{HostState}
 use Rattle.bg_rules.specs.Systems.{SystemParts}
 use Rattle.bg_seats.specs.Histories.{WorkersBelow}
+use Rattle.bg_watch.specs.Watching.{Watched, staying_all, watch_lines}
+use Rattle.command_run.specs.Counts.{AreCounts}
 
 -- ---- the text
-
--- the line of the end
-unfoldable pub end_line : End → List ℕ
-end_line Quiet = codes "quiet\n"
-end_line Limit = codes "limit\n"
-end_line (Full step) = codes "full " ++ step_text step.rule step.map
 
 abbrev pub truth_text : Bool → List ℕ
 truth_text true = codes "true"
@@ -36,10 +32,13 @@ predicate_line predicate truth = codes "pred " ++ (label_text predicate.label ++
 abbrev pub predicate_lines : List Predicate → List Bool → List ℕ
 predicate_lines predicates truths = flat_map (λ (told : Predicate × Bool). predicate_line told.0 told.1) (zip predicates truths)
 
--- the journal, the end, the predicates, and the last host
-unfoldable pub run_text : SystemParts → List Entry → End → List Bool → HostState → List ℕ
-run_text system entries end truths host =
-    journal_text entries ++ (end_line end ++ (predicate_lines system.preds truths ++ host_text system.signature host))
+-- the journal, the end, and the predicates
+unfoldable pub front_text : SystemParts → List Entry → End → List Bool → List ℕ
+front_text system entries end truths = journal_text entries ++ (end_line end ++ predicate_lines system.preds truths)
+
+-- behind these the lines of the watchers, and the last host
+abbrev pub run_text : SystemParts → List Entry → End → List Bool → List ℕ → HostState → List ℕ
+run_text system entries end truths lines host = front_text system entries end truths ++ (lines ++ host_text system.signature host)
 
 -- ---- which predicates occur
 
@@ -52,19 +51,29 @@ pub data AreTold (host : Big) : List Predicate → List Bool → Type 0 where
 
 -- ---- runs
 
--- the text is that of these entries, this end and this host of the system
-pub record IsTextOf (system : SystemParts) (entries : List Entry) (end : End) (host : HostState) (text : List ℕ) : Type 0 where
+-- the text is that of these entries, this end, these lines and this host of the system
+pub record IsTextOf (system : SystemParts) (entries : List Entry) (end : End) (lines : List ℕ) (host : HostState) (text : List ℕ) : Type 0 where
   pub truths : List Bool
   pub told : AreTold host.big system.preds truths
-  pub text_is : text ≡ run_text system entries end truths host
+  pub text_is : text ≡ run_text system entries end truths lines host
 
--- the text is that of a run of the system by so many workers, of at most so many entries; with one worker it is the run that
--- the seed draws
-pub record IsRunText (system : SystemParts) (most workers seed : ℕ) (text : List ℕ) : Type 0 where
+-- the watchers were told of the entries, each with the number of nodes of the host after it: these lines were written, and
+-- these watchers are left
+pub record HaveWatched (system : SystemParts) (entries : List Entry) (watchers left : List Watched) (lines : List ℕ) : Type 0 where
+  pub counts : List ℕ
+  pub counted : AreCounts system.rules system.init entries counts
+  pub lines_are : lines ≡ watch_lines watchers entries counts
+  pub left_are : left ≡ staying_all watchers entries counts
+
+-- the text is that of a run of the system by so many workers, of at most so many entries, of which the watchers were told, and
+-- these are left; with one worker it is the run that the seed draws
+pub record IsRunText (system : SystemParts) (most workers seed : ℕ) (watchers left : List Watched) (text : List ℕ) : Type 0 where
   pub entries : List Entry
   pub end : End
   pub host : HostState
-  pub written : IsTextOf system entries end host text
+  pub lines : List ℕ
+  pub written : IsTextOf system entries end lines host text
+  pub watched : HaveWatched system entries watchers left lines
   pub run : IsRun system.rules system.init entries host
   pub end_is : IsEndOf system.rules most entries host end
   pub workers_below : WorkersBelow workers entries

@@ -1,7 +1,8 @@
-use Rattle.std.proofs.Common.{◌≡◌, ◌+◌, Some, rules}
+use Rattle.std.proofs.Common.{◌≡◌, ◌+◌, Some, true, rules}
 use Rattle.bg_io.specs.Transfers.{ConsumesExactly}
 use Rattle.bg_answers.specs.Answer.{too_long}
 use Rattle.bg_top.specs.Words.{asked}
+use Rattle.bg_words.specs.Commands.{is_reading}
 use Rattle.bg_top.specs.Numbers.{most_bytes}
 use Rattle.bg_top.proofs.Right.{ended_with, right_too_long}
 use Rattle.bg_top.proofs.top.run.Goals as goal
@@ -14,5 +15,6 @@ returns-in-Err-TooLong-clause-ended g c =
     let request = c.in-Ok.asked in
     let is : asked c.args.words.now ≡ Some request = c.in-Ok.ensures.given in
     let given : ConsumesExactly before after (most_bytes + 1) = search rules in
-    ended_with _ too_long _ _ _ _ _ _ (right_too_long most_bytes (asked c.args.words.now) request before after is given)
+    let reading : is_reading request.command ≡ true = search rules in
+    ended_with _ too_long _ _ _ _ _ _ _ (right_too_long most_bytes (asked c.args.words.now) request _ before after is reading given)
     c.respond-in-Err-TooLong.ensures.ended

@@ -1,0 +1,42 @@
+//! How many nodes the hosts of a run have.
+ghost use Rattle.std.specs.Prelude.{IfOk, OnOk};
+ghost use Rattle.bg_cond.specs.Steps.{IsLegal, IsRun, LeadsTo, step_of};
+ghost use Rattle.bg_rules.specs.Reaction.{HostState};
+ghost use Rattle.command_run.specs.Counts.{AreCounts};
+
+use bg_base::{Entry, Step};
+use bg_cond::take_step;
+use bg_lists::{Duplicate, Mem, OutOfMemory};
+use bg_rules::{Host, ReactFault, System};
+use std::alloc::Global;
+
+/// The number of nodes of the host after each entry of a run of the system. Costs a reaction for each.
+pub(crate) fn counts_of(alloc: Global, system: &System, entries: &[Entry]) -> Mem<Vec<u32>>
+    requires { (last : HostState) × IsRun system.now.rules system.now.init entries.now last }
+    ensures { IfOk result (λ counts. AreCounts system.now.rules system.now.init entries.now counts.items) }
+{
+    let mut host = system.init().copy(alloc)?;
+    let mut counts = Vec::new(alloc);
+    for entry in entries {
+        make_step(alloc, &mut host, system, entry)?;
+        counts.push(host.big().nodes.len())?;
+    }
+    Ok(counts)
+}
+
+/// The host becomes that after the entry.
+fn make_step(alloc: Global, host: &mut Host, system: &System, entry: &Entry) -> Mem<()>
+    requires { IsLegal host.old system.now.rules (step_of entry.now) }
+    ensures { OnOk result (LeadsTo host.old system.now.rules (step_of entry.now) host.new) }
+{
+    let step = Step {
+        rule: entry.rule,
+        map: entry.map.copy(alloc)?,
+    };
+    match take_step(alloc, host, system, &step) {
+        Ok(()) => Ok(()),
+        Err(ReactFault::OutOfMemory) => Err(OutOfMemory),
+        // The step of an entry passes no limit.
+        Err(ReactFault::Full) => Err(OutOfMemory),
+    }
+}
