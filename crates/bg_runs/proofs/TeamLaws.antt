@@ -9,7 +9,7 @@ use Rattle.bg_cond.specs.Picks.{seeded}
 use Rattle.bg_lists.specs.declared.memory.OutOfMemory.{OutOfMemory}
 use Rattle.bg_rules.specs.Systems.{SystemParts}
 use Rattle.bg_runs.specs.Finished.{CameFrom}
-use Rattle.bg_runs.specs.Teams.{pass_of, IsMember, IsTeam, HasEnded, HaveEnded}
+use Rattle.bg_runs.specs.Teams.{pass_of, IsMember, IsTeam, HasEnded, HaveEnded, IsParted}
 use Rattle.bg_seats.specs.Histories.{PassView, Grows, new_pass, new_passes}
 use Rattle.bg_shared.proofs.Committing.{all_snoc, all_last}
 use Rattle.bg_shared.specs.Shared.{OfTable, BeginsWith, BeginsWithEach}
@@ -33,7 +33,7 @@ first_pass table (suc number) =
     let first = first_pass table number in
     (first.0 ++ new_pass table (suc number) ∷ [], ap (λ (passes : List PassView). passes ++ new_pass table (suc number) ∷ []) first.1)
 
-pub some_first : (table : TableId) (number : ℕ) → 1 ≤ number → (rest : List PassView) × (new_passes table number ≡ new_pass table 0 ∷ rest)
+some_first : (table : TableId) (number : ℕ) → 1 ≤ number → (rest : List PassView) × (new_passes table number ≡ new_pass table 0 ∷ rest)
 some_first table zero some = absurd (omega (arith, some))
 some_first table (suc number) some = first_pass table number
 
@@ -89,7 +89,7 @@ module _ {F : Type 0} where
               (ran.drawn (ap (λ (p : PassView). p.seen) is.0 ∙ none) (subst (λ (w : ℕ). IsOwn w after.pass.seen) (sym worker) own)));
         }
 
-    all_ended : (passes : List PassView) (before after : List (Member PassView F)) → IsTeam seed passes before → length after ≡ length before
+    pub all_ended : (passes : List PassView) (before after : List (Member PassView F)) → IsTeam seed passes before → length after ≡ length before
         → ((place : ℕ) (one other : Member PassView F) → slice_get before place ≡ Some one → slice_get after place ≡ Some other → Ran one other)
         → HaveEnded table system limit seed passes after
     all_ended [] [] [] team count each = tt
@@ -100,26 +100,11 @@ module _ {F : Type 0} where
     all_ended (p ∷ passes) (b ∷ before) (a ∷ after) team count each =
         (one_ended p b a team.0 (each 0 b a refl refl), all_ended passes before after team.1 (omega (arith, count)) (λ place one other e f. each (suc place) one other e f))
 
-    pub ended_of_table : (passes : List PassView) (members : List (Member PassView F)) → HaveEnded table system limit seed passes members
+    ended_of_table : (passes : List PassView) (members : List (Member PassView F)) → HaveEnded table system limit seed passes members
         → OfTable table (map pass_of members)
     ended_of_table passes [] all = tt
     ended_of_table [] (m ∷ members) all = absurd all
     ended_of_table (p ∷ passes) (m ∷ members) all = (let has = all.0 in has.of, ended_of_table passes members all.1)
-
-    -- the first member and the others, when all have run
-    pub parts_ended : (passes others : List PassView) (pass : PassView) (before after rest : List (Member PassView F)) (member : Member PassView F)
-        → passes ≡ pass ∷ others → IsTeam seed passes before
-        → AllRun (λ (p : PassView). p.table ≡ table) (λ (p : PassView). p.worker) (λ (p : PassView). p.seen) system limit before after
-        → member ≡ get_or after 0 member → rest ≡ drop 1 after
-        → HasEnded table system limit seed pass member × HaveEnded table system limit seed others rest
-    parts_ended passes others pass before after rest member first team ran value items =
-        let same = team_length seed passes before team in
-        let count = ran.count in
-        let long = ap length first in
-        let all : after ≡ member ∷ rest = first_of after member rest (omega (arith, same, count, long)) value items in
-        let ended : HaveEnded table system limit seed passes after = all_ended passes before after team ran.count ran.each in
-        subst (λ (members : List (Member PassView F)). HaveEnded table system limit seed (pass ∷ others) members) all
-        (subst (λ (ps : List PassView). HaveEnded table system limit seed ps after) first ended)
 
 -- a slice that was written whole
 pub written_whole : {A : Type 0} (count : ℕ) (new tail : List A) → count ≡ length new → take count (new ++ tail) ≡ new
@@ -130,7 +115,7 @@ written_whole count new tail e = take_at new tail count (sym e)
 some_ok : {T E : Type 0} (answer : Result T E) (x : T) → ◌≡◌ {A = Option (Result T E)} (Some answer) (Some (Ok x)) → answer ≡ Ok x
 some_ok answer x e = cc
 
-pub came_from : {F : Type 0} (table : TableId) (system : SystemParts) (limit seed : ℕ) (journal : List Entry) (member : Member PassView F) (ended : Ended)
+came_from : {F : Type 0} (table : TableId) (system : SystemParts) (limit seed : ℕ) (journal : List Entry) (member : Member PassView F) (ended : Ended)
     → HasEnded table system limit seed (new_pass table 0) member → member.ended ≡ Some (Ok ended) → Grows member.pass.worker member.pass.seen journal
     → CameFrom system limit seed journal ended
 came_from table system limit seed journal member ended has is grows =
@@ -142,5 +127,52 @@ came_from table system limit seed journal member ended has is grows =
     }
 
 -- the journal begins with what the last of these passes had seen
-pub last_begins : (journal : List Entry) (passes : List PassView) (pass : PassView) → BeginsWithEach journal (passes ++ pass ∷ []) → Grows pass.worker pass.seen journal
+last_begins : (journal : List Entry) (passes : List PassView) (pass : PassView) → BeginsWithEach journal (passes ++ pass ∷ []) → Grows pass.worker pass.seen journal
 last_begins journal passes pass all = all_last (BeginsWith journal) passes pass all
+
+-- ---- what is left of a team
+
+module _ {F : Type 0} (table : TableId) (system : SystemParts) (limit seed number : ℕ) (some : 1 ≤ number) (begun : List PassView) (new : begun ≡ new_passes table number)
+    (members : List (Member PassView F)) (all : HaveEnded table system limit seed begun members) (passes : List PassView) (ended : Ended) (parted : IsParted members passes ended) where
+  have_ended : (first : (rest : List PassView) × (new_passes table number ≡ new_pass table 0 ∷ rest))
+      → HasEnded table system limit seed (new_pass table 0) parted.first × HaveEnded table system limit seed first.0 parted.others
+  have_ended first =
+      subst (λ (ms : List (Member PassView F)). HaveEnded table system limit seed (new_pass table 0 ∷ first.0) ms) parted.members_are
+      (subst (λ (ps : List PassView). HaveEnded table system limit seed ps members) (new ∙ first.1) all)
+
+  -- the passes are of the table
+  pub parted_of_table : OfTable table passes
+  parted_of_table =
+      let first = some_first table number some in
+      let parts = have_ended first in
+      let zero = parts.0 in
+      subst (λ (ps : List PassView). OfTable table ps) (sym parted.passes_are)
+      (all_snoc (λ (pass : PassView). pass.table ≡ table) (map pass_of parted.others) parted.first.pass
+      (ended_of_table table system limit seed first.0 parted.others parts.1) zero.of)
+
+  -- so worker 0 ended, seen from a journal that begins with what each pass had seen
+  pub parted_came : (journal : List Entry) → BeginsWithEach journal passes → CameFrom system limit seed journal ended
+  parted_came journal begins =
+      let parts = have_ended (some_first table number some) in
+      let each = subst (λ (ps : List PassView). BeginsWithEach journal ps) parted.passes_are begins in
+      came_from table system limit seed journal parted.first ended parts.0 parted.ended_is (last_begins journal (map pass_of parted.others) parted.first.pass each)
+
+-- members of which the first one was taken out
+pub parted_members : {F : Type 0} (before rest : List (Member PassView F)) (first : Member PassView F) (others passes : List PassView) (ended : Ended)
+    → 0 < length before → first ≡ get_or before 0 first → rest ≡ drop 1 before → first.ended ≡ Some (Ok ended) → others ≡ map pass_of rest
+    → passes ≡ others ++ first.pass ∷ [] → IsParted before passes ended
+parted_members before rest first others passes ended some value items is of pushed = record {
+  first = first;
+  others = rest;
+  members_are = first_of before first rest some value items;
+  passes_are = pushed ∙ ap (λ (ps : List PassView). ps ++ first.pass ∷ []) of;
+  ended_is = is;
+}
+
+-- there is a member that has run
+pub some_ended : {F : Type 0} (table : TableId) (system : SystemParts) (limit seed number : ℕ) (begun : List PassView) (members : List (Member PassView F))
+    → 1 ≤ number → begun ≡ new_passes table number → HaveEnded table system limit seed begun members → 0 < length members
+some_ended table system limit seed number begun [] some new all =
+    let first = some_first table number some in
+    absurd (subst (λ (ps : List PassView). HaveEnded table system limit seed ps []) (new ∙ first.1) all)
+some_ended table system limit seed number begun (m ∷ members) some new all = omega arith

@@ -1,5 +1,5 @@
 -- Teams of workers, one for each pass of a shared host.
-use Rattle.std.specs.Prelude.{◌≡◌, ℕ, List, [], ◌∷◌, Some, IfOk}
+use Rattle.std.specs.Prelude.{◌≡◌, ℕ, List, [], ◌∷◌, ◌++◌, map, Some, Ok, IfOk}
 use Rattle.std.specs.declared.result.Result.{Result}
 use Rattle.atomic_table.specs.Seated.{TableId}
 use Rattle.bg_cond.specs.Picks.{seeded}
@@ -41,3 +41,11 @@ HaveEnded table system limit seed [] [] = Unit {0}
 HaveEnded table system limit seed [] (member ∷ members) = ⊥
 HaveEnded table system limit seed (pass ∷ passes) [] = ⊥
 HaveEnded table system limit seed (pass ∷ passes) (member ∷ members) = HasEnded table system limit seed pass member × HaveEnded table system limit seed passes members
+
+-- members are parted: these are their passes, that of the first one last, and so the first one ended
+pub record IsParted {F : Type 0} (members : List (Member PassView F)) (passes : List PassView) (ended : Ended) : Type 0 where
+  pub first : Member PassView F
+  pub others : List (Member PassView F)
+  pub members_are : members ≡ first ∷ others
+  pub passes_are : passes ≡ map pass_of others ++ first.pass ∷ []
+  pub ended_is : first.ended ≡ Some (Ok ended)

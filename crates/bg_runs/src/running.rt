@@ -6,12 +6,12 @@ ghost use Rattle.bg_runs.specs.Finished.{CameFrom, IsFinished};
 ghost use Rattle.bg_shared.specs.Shared.{IsHistory};
 
 use crate::finishing::{FinishedRun, finish};
-use crate::teams::{end_of, passes_of, run_team, team_of};
+use crate::teams::{parted, run_team};
 use bg_cond::{Closed, Gate, HostName};
 use bg_lists::Mem;
 use bg_rules::System;
 use bg_shared::{HostParts, SharedHost};
-use bg_workers::{Ended, Member, Picker};
+use bg_workers::{Ended, Picker};
 use std::alloc::Global;
 use std::marker::Brand;
 use std::sync::Wait;
@@ -64,18 +64,8 @@ fn run_shared<N: HostName + Send + Sync, G: Gate + Sync, R: Threads + Wait + Syn
     ensures came { IfOk result (λ left. CameFrom parts.system limit seed left.0.journal left.2) }
 {
     let (host, passes) = SharedHost::<N>::start(parts);
-    let members = team_of(alloc, passes, seed)?;
-    let mut members = run_team(rt, alloc, &host, members, limit, gate);
-    let Member {
-        pass,
-        finder: _,
-        picker,
-        worker: _,
-        ended,
-    } = members.remove(0);
-    let ended = end_of(ended)?;
-    let mut passes = passes_of(alloc, members)?;
-    passes.push(pass)?;
+    let members = run_team(rt, alloc, &host, passes, limit, seed, gate)?;
+    let (passes, picker, ended) = parted(alloc, members)?;
     let closed = host.close(passes)?;
     Ok((closed, picker, ended))
 }

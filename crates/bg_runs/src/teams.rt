@@ -1,7 +1,8 @@
 //! Teams of workers, one for each pass of a shared host.
-ghost use Rattle.std.specs.Prelude.{◌≡◌, All, map, Some, Ok, IfOk};
-ghost use Rattle.bg_runs.specs.Teams.{IsTeam, pass_of};
+ghost use Rattle.std.specs.Prelude.{◌≡◌, ◌<◌, All, length, map, Some, Ok, IfOk};
+ghost use Rattle.bg_runs.specs.Teams.{HaveEnded, IsParted, IsTeam, pass_of};
 ghost use Rattle.bg_seats.specs.Histories.{PassView};
+ghost use Rattle.bg_shared.specs.Shared.{OfTable};
 ghost use Rattle.bg_workers.specs.Members.{IsReady, AllRun};
 
 use bg_cond::{Gate, HostName, PlainFinder};
@@ -17,7 +18,7 @@ use std::thread::Threads;
 pub(crate) type Worker = Member<Pass, PlainFinder>;
 
 /// A worker for each pass; the generator of each is made by the seed and its number.
-pub(crate) fn team_of(alloc: Global, passes: Vec<Pass>, seed: u64) -> Mem<Vec<Worker>>
+fn team_of(alloc: Global, passes: Vec<Pass>, seed: u64) -> Mem<Vec<Worker>>
     ensures { IfOk result (λ members. IsTeam seed passes.items members.items) }
 {
     let mut members = Vec::new(alloc);
@@ -34,8 +35,27 @@ pub(crate) fn team_of(alloc: Global, passes: Vec<Pass>, seed: u64) -> Mem<Vec<Wo
     Ok(members)
 }
 
-/// The team, after all its members have run.
+/// A team with these passes, after all its members have run.
 pub(crate) fn run_team<N: HostName + Send + Sync, G: Gate + Sync, R: Threads + Wait + Sync>(
+    rt: &R,
+    alloc: Global,
+    host: &SharedHost<N>,
+    passes: Vec<Pass>,
+    limit: u32,
+    seed: u64,
+    gate: &G,
+) -> Mem<Vec<Worker>>
+    requires limit { limit ≡ N.limit }
+    requires passes { OfTable N.table passes.items }
+    ensures { IfOk result (λ members. HaveEnded N.table N.system limit seed passes.items members.items) }
+{
+    let members = team_of(alloc, passes, seed)?;
+    let members = run_members(rt, alloc, host, members, limit, gate);
+    Ok(members)
+}
+
+/// The members, after all have run.
+fn run_members<N: HostName + Send + Sync, G: Gate + Sync, R: Threads + Wait + Sync>(
     rt: &R,
     alloc: Global,
     host: &SharedHost<N>,
@@ -59,8 +79,30 @@ pub(crate) fn run_team<N: HostName + Send + Sync, G: Gate + Sync, R: Threads + W
     members
 }
 
+/// What is left of members that have run: the passes, that of the first one last, and the generator and the end of the first
+/// one. It refuses where the first one had no memory.
+pub(crate) fn parted(
+    alloc: Global,
+    mut members: Vec<Worker>,
+) -> Mem<(Vec<Pass>, Picker, Ended)>
+    requires { 0 < length members.items }
+    ensures { IfOk result (λ left. IsParted members.items left.0.items left.2) }
+{
+    let Member {
+        pass,
+        finder: _,
+        picker,
+        worker: _,
+        ended,
+    } = members.remove(0);
+    let ended = end_of(ended)?;
+    let mut passes = passes_of(alloc, members)?;
+    passes.push(pass)?;
+    Ok((passes, picker, ended))
+}
+
 /// The passes of all members.
-pub(crate) fn passes_of(alloc: Global, members: Vec<Worker>) -> Mem<Vec<Pass>>
+fn passes_of(alloc: Global, members: Vec<Worker>) -> Mem<Vec<Pass>>
     ensures { IfOk result (λ passes. passes.items ≡ map pass_of members.items) }
 {
     let mut passes = Vec::new(alloc);
@@ -71,7 +113,7 @@ pub(crate) fn passes_of(alloc: Global, members: Vec<Worker>) -> Mem<Vec<Pass>>
 }
 
 /// How a member ended; it refuses where the member had no memory.
-pub(crate) fn end_of(ended: Option<Mem<Ended>>) -> Mem<Ended>
+fn end_of(ended: Option<Mem<Ended>>) -> Mem<Ended>
     ensures { IfOk result (λ end. ended ≡ Some (Ok end)) }
 {
     match ended {

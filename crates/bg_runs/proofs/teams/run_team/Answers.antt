@@ -1,15 +1,12 @@
-use Rattle.std.proofs.Common.{◌≡◌, ◌∙◌, ◌++◌, List, length, drop, take, vec_len, subst, sym, rules}
-use Rattle.bg_cond.specs.declared.finder.PlainFinder.{PlainFinder}
-use Rattle.bg_seats.specs.Histories.{PassView}
-use Rattle.bg_workers.specs.Members.{AllRun}
-use Rattle.bg_workers.specs.declared.ends.Member.{Member}
-use Rattle.bg_runs.proofs.TeamLaws.{written_whole}
+use Rattle.bg_runs.proofs.TeamLaws.{team_ready, all_ended}
 use Rattle.bg_runs.proofs.teams.run_team.Goals as goal
+
+pub run_members-members-requires-clause-members : goal.run_members-members-requires-clause-members
+run_members-members-requires-clause-members g c κs within =
+    team_ready c.args.seed g.N.HostName.table c.args.passes.items c.in_ok-members.members.items c.in_ok-members.ensures c.requires.passes
 
 pub returns : goal.returns
 returns g c =
-    let ran = rw (c.system.ensures, c.as_mut_slice.ensures.value) at c.run_workers.ensures in
-    let count : vec_len c.args.members ≡ length c.args.members.items = search rules in
-    let whole = written_whole (vec_len c.args.members) c.run_workers.new.members (drop (length c.run_workers.new.members) c.args.members.items) (count ∙ sym ran.count) in
-    subst (λ (members : List (Member PassView PlainFinder)). AllRun (λ (pass : PassView). pass.table ≡ g.N.HostName.table) (λ (pass : PassView). pass.worker) (λ (pass : PassView). pass.seen)
-    g.N.HostName.system c.args.limit c.args.members.items members) (sym whole) ran
+    let ran = c.run_members-members.ensures in
+    all_ended g.N.HostName.table g.N.HostName.system c.args.limit c.args.seed c.args.passes.items c.in_ok-members.members.items c.run_members-members.result.items
+    c.in_ok-members.ensures ran.count ran.each
