@@ -1,0 +1,5 @@
+mod Counting
+mod Lines
+mod OneText
+pub mod Settled
+mod Size
