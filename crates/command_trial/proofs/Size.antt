@@ -7,11 +7,11 @@ times_length zero text = refl
 times_length (suc count) text =
     length-append text (times count text) ∙ ap (λ n. length text + n) (times_length count text)
 
-front_length : length front ≡ 218
+front_length : length front ≡ 197
 unfolding front
 front_length = refl
 
-back_length : length back ≡ 172
+back_length : length back ≡ 156
 unfolding back
 back_length = refl
 

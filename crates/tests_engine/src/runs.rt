@@ -44,6 +44,10 @@ parameter\nbigraph 1\nsites 0\ninner 0\nouter 0\nedges 0\nnodes 1\n1 B r0\n";
 const RUN: &str = "journal 1\nstep 0 0 0\nend\nquiet\nhost 2 0\n\
 bigraph 1\nsites 0\ninner 0\nouter 0\nedges 0\nnodes 1\n1 B r0\n";
 
+/// The trial of one room and one agent; nothing is read.
+const TRIAL: &str = "trial 1\nnodes 4 edges 2\nrule 0 sit count 1\nrule 1 shut count 1\n\
+steps 2 quiet\nhost nodes 3 edges 2\n";
+
 /// A building with three rooms and two agents beside them.
 const BUILDING: &str = "ctrl Building = 0;\nctrl Room = 0;\natomic ctrl Agent = 1;\n\
 big hall = Building.(Room.1 | Room.1 | Room.1 | Agent{a} | Agent{b});\n\
@@ -90,12 +94,14 @@ fn end_of<R: Threads + Wait + Sync>(rt: &R, alloc: Global, run: &Run) -> Result<
     let bytes = run.input.as_bytes().to_vec(alloc)?;
     let mut source = MemorySource::new(bytes, 1, run.failing_reads.to_vec(alloc)?);
     let mut sink = MemorySink::new(alloc, 1, run.failing_writes.to_vec(alloc)?);
+    let mut watchers = Vec::new(alloc);
     let status = engine(
         rt,
         alloc,
         words.as_slice(),
         &mut source,
         &mut sink,
+        &mut watchers,
         &OpenGate,
     );
     Ok(End {
@@ -131,7 +137,7 @@ fn try_all<R: Abort + Threads + Wait + Sync>(
 }
 
 /// Each command, where nothing fails.
-const COMMANDS: [Run; 6] = [
+const COMMANDS: [Run; 7] = [
     Run {
         words: &["bigengine", "compose"],
         input: INPUT,
@@ -179,6 +185,14 @@ const COMMANDS: [Run; 6] = [
         failing_writes: &[],
         status: 0,
         written: RUN,
+    },
+    Run {
+        words: &["bigengine", "trial", "--size", "1"],
+        input: "",
+        failing_reads: &[1],
+        failing_writes: &[],
+        status: 0,
+        written: TRIAL,
     },
 ];
 
