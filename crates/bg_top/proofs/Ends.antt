@@ -10,13 +10,15 @@ use Rattle.bg_answers.specs.Refusal.{refusing}
 use Rattle.bg_answers.specs.declared.refusal.Refusal.{Refusal}
 use Rattle.bg_answers.specs.declared.status.Status.{Status}
 use Rattle.bg_answers.specs.declared.status.Status.TheVariants.{Done, Refused, WrongWords, TooMany, NoRun, TooLong, Unsorted}
-use Rattle.bg_top.specs.Ended.{Ended, IsStopped, ComesWhere}
+use Rattle.bg_top.specs.Ended.{Ended, SomeAnswer, IsStopped, ComesWhere}
 use Rattle.bg_top.specs.Numbers.{failed_read, failed_write, out_of_memory}
 use Rattle.bg_top.specs.Right.{promise_of, input_of, is_long, IsInput, IsReply, IsTaken, IsRefused, IsTooMuch, EndsWith, IsRight, IsAnsweredWith, AsksOf, Answers}
+use Rattle.bg_top.specs.Staying.{Stay, IsRightWith}
 use Rattle.bg_top.proofs.Right.{over, the_input, input_is, long_input}
 use Rattle.bg_watch.specs.Watching.{Watched}
 use Rattle.bg_top.proofs.Settled.{settled}
 use Rattle.bg_words.specs.declared.asking.Request.{Request}
+use Rattle.bg_words.specs.declared.command.Command.TheVariants.{Run}
 
 -- ---- statuses and their numbers
 
@@ -306,3 +308,22 @@ module _ (most : ℕ) (watchers : List Watched) (result : ℕ) (reads writes flu
       → (result ≡ out_of_memory) ⊎ AsksOf most asked input (EndsWith result watchers))
   complete_from asked None ended = tt
   complete_from asked (Some input) ended = accepted_ends asked input ended
+
+-- ---- watchers
+
+-- where no run is asked for, nothing is told
+stay_same : (asked : Option Request) (left : Option (List ℕ)) (watchers stay : List Watched) (answer : Answer) → IfSome asked (λ request. request.command ≢ Run)
+    → Stay asked left watchers stay answer → stay ≡ watchers
+stay_same None left watchers stay answer not is = is
+stay_same (Some request) left watchers stay answer not is = is.kept (inl not)
+
+pub untold_from : (most : ℕ) (asked : Option Request) (left : Option (List ℕ)) (watchers stay : List Watched) (result : ℕ) (reads writes flushed kept : Type 0)
+    (old new : Option (List ℕ)) → (kept → stay ≡ watchers) → Ended (IsRightWith most asked left watchers stay) result reads writes flushed kept old new
+    → IfSome asked (λ request. request.command ≢ Run) → stay ≡ watchers
+untold_from most asked left watchers stay result reads writes flushed kept old new same ended not =
+    ⊎_elim (λ stopped. ⊎_elim (λ is. same (ended.read_failure is).2)
+    (λ stopped. ⊎_elim (λ is. from (ended.write_failure is).1) (λ is. ⊎_elim (λ nothing. same nothing.1) (λ some. from some) (ended.no_memory is)) stopped) stopped)
+    (λ goes. from (ended.answered goes.0 goes.1 goes.2)) (stops result)
+  where
+    from : {P : Answer → Type 0} → SomeAnswer (IsRightWith most asked left watchers stay) P → stay ≡ watchers
+    from some = let right = some.1 in stay_same asked left watchers stay some.0 not right.1

@@ -93,6 +93,10 @@ pub fn engine<S: Source, K: Sink, G: Gate + Sync, R: Threads + Wait + Sync>(
     ensures statuses { IfSome (S.left source.old) (λ input. (status : Status) →
         ComesWhere result status (IsAnsweredWith most_bytes (asked words.now) (map (λ w. state w) watchers.old.items) (Some input) status)) }
 
+    // the watchers are told of runs alone
+    ensures untold { IfSome (asked words.now) (λ request. request.command ≢ Command.Run)
+        → map (λ w. state w) watchers.new.items ≡ map (λ w. state w) watchers.old.items }
+
     // the text that the command makes of an input is written
     ensures written { result ≡ number Status.Done →
         IsSomeAnd (asked words.now) (λ request. Answers (map (λ w. state w) watchers.old.items) request (S.left source.old) (K.held sink.old) (K.held sink.new)) }

@@ -1,3 +1,5 @@
+mod Answering
+mod Counted
 mod OneText
 pub mod Settled
 mod Telling

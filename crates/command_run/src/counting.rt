@@ -1,6 +1,6 @@
 //! How many nodes the hosts of a run have.
 ghost use Rattle.std.specs.Prelude.{IfOk, OnOk};
-ghost use Rattle.bg_cond.specs.Steps.{IsLegal, IsRun, LeadsTo, step_of};
+ghost use Rattle.bg_cond.specs.Steps.{IsLegal, IsRun, IsTooLarge, LeadsTo, step_of};
 ghost use Rattle.bg_rules.specs.Reaction.{HostState};
 ghost use Rattle.command_run.specs.Counts.{AreCounts};
 
@@ -26,7 +26,8 @@ pub(crate) fn counts_of(alloc: Global, system: &System, entries: &[Entry]) -> Me
 
 /// The host becomes that after the entry.
 fn make_step(alloc: Global, host: &mut Host, system: &System, entry: &Entry) -> Mem<()>
-    requires { IsLegal host.old system.now.rules (step_of entry.now) }
+    requires legal { IsLegal host.old system.now.rules (step_of entry.now) }
+    requires within { ¬ IsTooLarge host.old system.now.rules (step_of entry.now) }
     ensures { OnOk result (LeadsTo host.old system.now.rules (step_of entry.now) host.new) }
 {
     let step = Step {
@@ -36,7 +37,6 @@ fn make_step(alloc: Global, host: &mut Host, system: &System, entry: &Entry) -> 
     match take_step(alloc, host, system, &step) {
         Ok(()) => Ok(()),
         Err(ReactFault::OutOfMemory) => Err(OutOfMemory),
-        // The step of an entry passes no limit.
-        Err(ReactFault::Full) => Err(OutOfMemory),
+        Err(ReactFault::Full) => unreachable!("the step passes no limit"),
     }
 }

@@ -1,4 +1,4 @@
-use Rattle.bg_top.proofs.Ends.{words_from, long_from, refused_from, much_from, statuses_from, written_from, complete_from}
+use Rattle.bg_top.proofs.Ends.{words_from, long_from, refused_from, much_from, statuses_from, written_from, complete_from, untold_from}
 use Rattle.bg_top.proofs.Right.{ended_right}
 use Rattle.bg_top.proofs.top.engine.Goals as goal
 
@@ -22,3 +22,6 @@ returns-clause-written g c = written_from _ _ _ _ _ _ _ _ _ _ _ (ended_right _ _
 
 pub returns-clause-complete : goal.returns-clause-complete
 returns-clause-complete g c = complete_from _ _ _ _ _ _ _ _ _ _ _ (ended_right _ _ _ _ _ _ _ _ _ _ _ _ c.run.ensures.ended)
+
+pub returns-clause-untold : goal.returns-clause-untold
+returns-clause-untold g c = untold_from _ _ _ _ _ _ _ _ _ _ _ _ (search rules) c.run.ensures.ended
