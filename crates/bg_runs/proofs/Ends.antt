@@ -1,5 +1,5 @@
 -- How a run ends on the calling thread.
-use Rattle.std.proofs.Common.{◌≡◌, ◌≢◌, ℕ, suc, ◌+◌, ◌-◌, ◌<◌, ◌≤◌, List, [], ◌∷◌, ◌++◌, length, refl, sym, ap, subst, ◌∙◌, arith, length-append, append-nil, All}
+use Rattle.std.proofs.Common.{◌≡◌, ◌≢◌, ℕ, suc, ◌-◌, ◌<◌, List, [], ◌∷◌, ◌++◌, length, refl, sym, ap, subst, ◌∙◌, arith, append-nil}
 use Rattle.bg_base.specs.declared.history.Entry.{Entry}
 use Rattle.bg_base.specs.declared.history.Step.{Step}
 use Rattle.bg_cond.proofs.DrawnRuns.{drawn_once, drawn_run, drawn_own, drawn_end, end_behind, system_rules}
@@ -12,10 +12,8 @@ use Rattle.bg_cond.specs.declared.ending.End.TheVariants as run_end
 use Rattle.bg_lists.specs.Lists.{Mem, here, there}
 use Rattle.bg_rules.specs.Hosts.{IsHost}
 use Rattle.bg_rules.specs.Reaction.{HostState}
-use Rattle.bg_rules.specs.Rules.{IsRule}
 use Rattle.bg_rules.specs.Systems.{SystemParts, IsSystem}
 use Rattle.bg_runs.specs.Finished.{IsFinished, CameFrom}
-use Rattle.bg_runs.specs.declared.finishing.FinishedRun.{FinishedRun}
 use Rattle.bg_seats.proofs.Histories.{grown_whole, own_before, alone}
 use Rattle.bg_seats.specs.Histories.{Grows, WorkersBelow}
 use Rattle.bg_shared.specs.Shared.{IsHistory}

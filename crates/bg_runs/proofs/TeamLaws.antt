@@ -1,19 +1,17 @@
 -- Teams, and what becomes of their members.
-use Rattle.std.proofs.Common.{◌≡◌, ℕ, zero, suc, ◌+◌, ◌≤◌, ◌<◌, List, [], ◌∷◌, ◌++◌, length, get_or, map, take, drop, refl, sym, ap, ap₂, subst, ◌∙◌, arith, Some, Ok, slice_get, IfOk, take_at}
+use Rattle.std.proofs.Common.{◌≡◌, ℕ, zero, suc, ◌≤◌, ◌<◌, List, [], ◌∷◌, ◌++◌, length, get_or, map, take, drop, refl, sym, ap, ap₂, subst, ◌∙◌, arith, Some, Ok, slice_get, IfOk, take_at}
 use Rattle.std.specs.declared.option.Option.{Option}
 use Rattle.std.specs.declared.result.Result.{Result}
-use Rattle.std.specs.List.{AllByRecursion}
 use Rattle.atomic_table.specs.Seated.{TableId}
 use Rattle.bg_base.specs.declared.history.Entry.{Entry}
 use Rattle.bg_cond.specs.Picks.{seeded}
-use Rattle.bg_lists.specs.declared.memory.OutOfMemory.{OutOfMemory}
 use Rattle.bg_rules.specs.Systems.{SystemParts}
 use Rattle.bg_runs.specs.Finished.{CameFrom}
 use Rattle.bg_runs.specs.Teams.{pass_of, IsMember, IsTeam, HasEnded, HaveEnded, IsParted}
 use Rattle.bg_seats.specs.Histories.{PassView, Grows, new_pass, new_passes}
 use Rattle.bg_shared.proofs.Committing.{all_snoc, all_last}
 use Rattle.bg_shared.specs.Shared.{OfTable, BeginsWith, BeginsWithEach}
-use Rattle.bg_workers.specs.Members.{HasRun, AllRun}
+use Rattle.bg_workers.specs.Members.{HasRun}
 use Rattle.bg_workers.specs.Working.{IsEnded, IsOwn, IsDrawn}
 use Rattle.bg_workers.specs.declared.ends.Ended.{Ended}
 use Rattle.bg_workers.specs.declared.ends.Member.{Member}
@@ -171,8 +169,8 @@ parted_members before rest first others passes ended some value items is of push
 
 -- there is a member that has run
 pub some_ended : {F : Type 0} (table : TableId) (system : SystemParts) (limit seed number : ℕ) (begun : List PassView) (members : List (Member PassView F))
-    → 1 ≤ number → begun ≡ new_passes table number → HaveEnded table system limit seed begun members → 0 < length members
-some_ended table system limit seed number begun [] some new all =
+    → 1 ≤ number → begun ≡ new_passes table number → HaveEnded {F = F} table system limit seed begun members → 0 < length members
+some_ended {F} table system limit seed number begun [] some new all =
     let first = some_first table number some in
-    absurd (subst (λ (ps : List PassView). HaveEnded table system limit seed ps []) (new ∙ first.1) all)
+    absurd (subst (λ (ps : List PassView). HaveEnded {F = F} table system limit seed ps []) (new ∙ first.1) all)
 some_ended table system limit seed number begun (m ∷ members) some new all = omega arith

@@ -81,10 +81,7 @@ fn run_members<N: HostName + Send + Sync, G: Gate + Sync, R: Threads + Wait + Sy
 
 /// What is left of members that have run: the passes, that of the first one last, and the generator and the end of the first
 /// one. It refuses where the first one had no memory.
-pub(crate) fn parted(
-    alloc: Global,
-    mut members: Vec<Worker>,
-) -> Mem<(Vec<Pass>, Picker, Ended)>
+pub(crate) fn parted(alloc: Global, mut members: Vec<Worker>) -> Mem<(Vec<Pass>, Picker, Ended)>
     requires { 0 < length members.items }
     ensures { IfOk result (λ left. IsParted members.items left.0.items left.2) }
 {

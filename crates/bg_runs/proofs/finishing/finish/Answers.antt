@@ -1,4 +1,4 @@
-use Rattle.std.proofs.Common.{◌≡◌, ◌∙◌, ◌≢◌, ◌≤◌, ◌++◌, ◌-◌, ℕ, List, length, ap, subst}
+use Rattle.std.proofs.Common.{◌≡◌, ◌∙◌, ◌≢◌, ◌++◌, ◌-◌, ℕ, List, length, ap, subst}
 use Rattle.bg_base.specs.declared.history.Entry.{Entry}
 use Rattle.bg_base.specs.declared.history.Step.{Step}
 use Rattle.bg_cond.specs.Drawn.{Draws}

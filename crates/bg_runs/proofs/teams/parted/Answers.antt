@@ -3,5 +3,5 @@ use Rattle.bg_runs.proofs.teams.parted.Goals as goal
 
 pub returns : goal.returns
 returns c =
-    parted_members c.args.members.items c.remove.new.self.items c.remove.result c.in_ok-passes.passes.items _ c.in_ok-ended.ended c.requires
-    c.remove.ensures.value c.remove.ensures.items c.in_ok-ended.ensures c.in_ok-passes.ensures c.in_ok-push.ensures.items
+    parted_members c.args.members.items c.remove-pass.new.self.items c.remove-pass.result c.in_ok-passes.passes.items _ c.in_ok-ended.ended c.requires
+    c.remove-pass.ensures.value c.remove-pass.ensures.items c.in_ok-ended.ensures c.in_ok-passes.ensures c.in_ok-push.ensures.items

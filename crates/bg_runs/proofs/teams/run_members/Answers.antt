@@ -1,4 +1,4 @@
-use Rattle.std.proofs.Common.{◌≡◌, ◌∙◌, ◌++◌, List, length, drop, take, vec_len, subst, sym, rules}
+use Rattle.std.proofs.Common.{◌≡◌, ◌∙◌, List, length, drop, vec_len, subst, sym, rules}
 use Rattle.bg_cond.specs.declared.finder.PlainFinder.{PlainFinder}
 use Rattle.bg_seats.specs.Histories.{PassView}
 use Rattle.bg_workers.specs.Members.{AllRun}
