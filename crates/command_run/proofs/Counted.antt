@@ -1,10 +1,10 @@
 -- The hosts of a run are made once more, and their nodes counted.
-use Rattle.std.proofs.Common.{◌≡◌, ℕ, ◌+◌, ◌<◌, ◌≤◌, List, [], ◌∷◌, ◌++◌, length, drop, get_or, All, refl, sym, ap, subst, ◌∙◌, arith}
+use Rattle.std.proofs.Common.{◌≡◌, ℕ, suc, ◌+◌, ◌<◌, ◌≤◌, List, [], ◌∷◌, ◌++◌, length, drop, get_or, All, refl, sym, ap, subst, ◌∙◌}
 use Rattle.std.proofs.lemmas.List.{append_assoc, append-nil, drop_more, drop_all}
 use Rattle.bg_base.specs.declared.history.Entry.{Entry}
 use Rattle.bg_cond.proofs.DrawnRuns.{system_rules}
 use Rattle.bg_cond.proofs.Runs.{one_next, next_is_host, not_too_large}
-use Rattle.bg_cond.specs.Steps.{IsLegal, IsRun, ended, stepped, IsTooLarge, LeadsTo, step_of}
+use Rattle.bg_cond.specs.Steps.{IsLegal, IsRun, stepped, IsTooLarge, LeadsTo, step_of}
 use Rattle.bg_rules.specs.Hosts.{IsHost}
 use Rattle.bg_rules.specs.Reaction.{HostState}
 use Rattle.bg_rules.specs.Rules.{RuleParts, IsRule}
@@ -49,16 +49,16 @@ module _ (system : SystemParts) (is : IsSystem system) (entries : List Entry) (i
   pub next_within : ¬ IsTooLarge host system.rules (step_of entry)
   next_within = λ large.
       let first = first_of in
-      not_too_large system.rules (system_rules system is) host so_far.is_host (step_of entry) first.2.0 large
+      not_too_large system.rules (system_rules system is) host so_far.is_host (step_of entry) first.2 large
 
   pub counted_next : (next : HostState) (new : List ℕ) (count : ℕ) → LeadsTo host system.rules (step_of entry) next → count ≡ length next.big.nodes
       → new ≡ counts ++ count ∷ [] → AreCountedTo system.rules system.init entries (index + 1) next new last
   counted_next next new count leads nodes pushed =
       let rules : All IsRule system.rules = system_rules system is in
       let first = first_of in
-      let same : first.1 ≡ next = one_next system.rules rules host so_far.is_host (step_of entry) first.2.0 leads in record {
+      let same : first.1 ≡ next = one_next system.rules rules host so_far.is_host (step_of entry) first.2 leads in record {
         is_host = next_is_host system.rules rules host so_far.is_host (step_of entry) leads;
-        run = subst (λ (h : HostState). IsRun system.rules h (drop (index + 1) entries) last) same first.2.1;
+        run = subst (λ (h : HostState). IsRun system.rules h (drop (index + 1) entries) last) same first.3;
         continues = λ more counted.
             let all : AreCounts system.rules host (drop index entries) (count ∷ more) =
             subst (λ (xs : List Entry). AreCounts system.rules host xs (count ∷ more)) (sym here_on) (each_counted leads nodes counted) in
@@ -69,13 +69,13 @@ module _ (system : SystemParts) (is : IsSystem system) (entries : List Entry) (i
 pub counted_whole : (system : SystemParts) (entries : List Entry) (index : ℕ) (host last : HostState) (counts : List ℕ) → length entries ≤ index
     → AreCountedTo system.rules system.init entries index host counts last → AreCounts system.rules system.init entries counts
 counted_whole system entries index host last counts past so_far =
-    let none : drop index entries ≡ [] = drop_all entries index past in
+    let none : drop index entries ≡ [] = drop_all index entries past in
     subst (λ (ns : List ℕ). AreCounts system.rules system.init entries ns) (append-nil counts)
     (so_far.continues [] (subst (λ (xs : List Entry). AreCounts system.rules host xs []) (sym none) none_counted))
 
 pub counts_length : {rules : List RuleParts} {host : HostState} {entries : List Entry} {counts : List ℕ} → AreCounts rules host entries counts → length counts ≡ length entries
 counts_length none_counted = refl
-counts_length (each_counted leads nodes rest) = ap (λ n. n + 1) (counts_length rest)
+counts_length (each_counted leads nodes rest) = ap suc (counts_length rest)
 
 -- ---- one list of counts
 

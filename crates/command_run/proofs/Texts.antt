@@ -1,10 +1,8 @@
 -- The text that is written is that of the run.
 use Rattle.std.proofs.Common.{◌≡◌, ℕ, List, [], ◌++◌, Bool, refl, sym, ap, ap₂, subst, ◌∙◌}
-use Rattle.std.proofs.lemmas.List.{append_assoc}
 use Rattle.bg_base.specs.declared.history.Entry.{Entry}
 use Rattle.bg_cond.specs.Steps.{IsRun}
 use Rattle.bg_journal.specs.JournalText.{host_text}
-use Rattle.bg_rules.specs.declared.predicate.Predicate.{Predicate}
 use Rattle.bg_rules.specs.Systems.{SystemParts}
 use Rattle.bg_runs.specs.Finished.{IsFinished}
 use Rattle.bg_runs.specs.declared.finishing.FinishedRun.{FinishedRun}

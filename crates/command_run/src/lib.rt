@@ -5,8 +5,10 @@
 #![tactic(auto)]
 
 mod answer;
+mod counting;
 pub mod laws;
 mod predicates;
 mod text;
+mod watching;
 
 pub use answer::answer_run;

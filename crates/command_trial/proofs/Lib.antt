@@ -1,4 +1,4 @@
-mod Counting
+mod Totals
 mod Lines
 mod OneText
 pub mod Settled

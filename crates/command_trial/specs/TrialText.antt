@@ -30,11 +30,17 @@ rule_lines number [] counts = []
 rule_lines number (rule ∷ rules) [] = []
 rule_lines number (rule ∷ rules) (count ∷ counts) = rule_line number rule count ++ rule_lines (number + 1) rules counts
 
--- the size, the host at first, the rules, and how many steps were made, how they ended, and the host after them
-unfoldable pub trial_text : ℕ → SystemParts → List ℕ → List Entry → End → HostState → List ℕ
-trial_text size system counts entries end host =
-    codes "trial " ++ (decimal size ++ (codes "\n" ++ (size_text system.init.big ++ (rule_lines 0 system.rules counts
-    ++ (codes "steps " ++ (decimal (length entries) ++ (codes " " ++ (end_line end ++ (codes "host " ++ size_text host.big)))))))))
+-- the size, how large the host is at first, and the rules
+unfoldable pub front_text : ℕ → SystemParts → List ℕ → List ℕ
+front_text size system counts = codes "trial " ++ (decimal size ++ (codes "\n" ++ (size_text system.init.big ++ rule_lines 0 system.rules counts)))
+
+-- how many steps were made, how they ended, and how large the host is after them
+unfoldable pub end_text : List Entry → End → HostState → List ℕ
+end_text entries end host = codes "steps " ++ (decimal (length entries) ++ (codes " " ++ (end_line end ++ (codes "host " ++ size_text host.big))))
+
+-- the whole text
+abbrev pub trial_text : ℕ → SystemParts → List ℕ → List Entry → End → HostState → List ℕ
+trial_text size system counts entries end host = front_text size system counts ++ end_text entries end host
 
 -- ---- what it tells
 

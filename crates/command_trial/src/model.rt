@@ -6,10 +6,12 @@ use bg_lists::Mem;
 use std::alloc::Global;
 
 /// What stands in front of the rooms.
-const FRONT: &[u8] = b"ctrl Building = 0;\nctrl Closed = 0;\nctrl Room = 0;\natomic ctrl Agent = 1;\natomic ctrl Computer = 1;\natomic ctrl Seat = 2;\nbig room = Room.Computer{n};\nbig agent = /a Agent{a};\nbig s = /n Building.(";
+const FRONT: &[u8] =
+    b"ctrl Building = 0;\nctrl Closed = 0;\nctrl Room = 0;\natomic ctrl Agent = 1;\natomic ctrl Computer = 1;\natomic ctrl Seat = 2;\nbig room = Room.Computer{n};\nbig agent = /a Agent{a};\nbig s = /n Building.(";
 
 /// What stands behind the agents.
-const BACK: &[u8] = b");\nreact sit = Agent{x} | Room.Computer{n} --> Room.Seat{x,n};\nreact shut = Building.id --> Closed.id;\nbegin brs\n  init s;\n  rules = [ {sit}, {shut} ];\nend\n";
+const BACK: &[u8] =
+    b");\nreact sit = Agent{x} | Room.Computer{n} --> Room.Seat{x,n};\nreact shut = Building.id --> Closed.id;\nbegin brs\n  init s;\n  rules = [ {sit}, {shut} ];\nend\n";
 
 /// The model of that size: a building with so many rooms and so many agents. Costs time in proportion to the size.
 pub(crate) fn model_of(alloc: Global, size: u32) -> Mem<Vec<u8>>

@@ -24,28 +24,36 @@ pub(crate) fn summary_of(alloc: Global, system: &System, size: u32) -> Mem<Vec<u
     let host = system.init().copy(alloc)?;
     let run = draw(alloc, system, host, MOST_STEPS, &mut Picker::new(0, 0))?;
     let mut text = Vec::new(alloc);
-    put_trial(alloc, size, system, counts.as_slice(), &run, &mut text)?;
+    put_front(alloc, size, system, counts.as_slice(), &mut text)?;
+    put_end(alloc, &run, &mut text)?;
     Ok(text)
 }
 
-/// The text, behind what is there. After an error the bytes behind are of no use; so of the functions below.
-#[tactic(auto, unfolding(crate::specs::TrialText::trial_text))]
-fn put_trial(
+/// The size, how large the host is at first, and the rules, behind what is there. After an error the bytes behind are of no
+/// use; so of the functions below.
+#[tactic(auto, unfolding(crate::specs::TrialText::front_text))]
+fn put_front(
     alloc: Global,
     size: u32,
     system: &System,
     counts: &[usize],
-    run: &DrawnRun,
     out: &mut Vec<u8>,
 ) -> Mem<()>
     requires { length counts.now ≡ length system.now.rules }
-    ensures { OnOk result (out.new.items ≡ out.old.items ++ definition.trial_text size system.now counts.now run.now.journal run.now.end run.now.host) }
+    ensures { OnOk result (out.new.items ≡ out.old.items ++ definition.front_text size system.now counts.now) }
 {
     out.extend_from_slice(b"trial ")?;
     write_number(alloc, size, out)?;
     out.push(b'\n')?;
     put_size(alloc, system.init().big(), out)?;
-    put_rules(alloc, system.rules(), counts, out)?;
+    put_rules(alloc, system.rules(), counts, out)
+}
+
+/// How many steps were made, how they ended, and how large the host is after them.
+#[tactic(auto, unfolding(crate::specs::TrialText::end_text))]
+fn put_end(alloc: Global, run: &DrawnRun, out: &mut Vec<u8>) -> Mem<()>
+    ensures { OnOk result (out.new.items ≡ out.old.items ++ definition.end_text run.now.journal run.now.end run.now.host) }
+{
     out.extend_from_slice(b"steps ")?;
     write_number(alloc, run.journal.len(), out)?;
     out.push(b' ')?;

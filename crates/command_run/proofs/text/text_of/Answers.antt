@@ -5,7 +5,7 @@ pub text_of_run-requires : goal.text_of_run-requires
 text_of_run-requires g c =
     finished_run c.args.system c.args.most c.args.workers c.args.seed c.in_ok-finished.finished c.in_ok-finished.ensures
 
-pub returns : goal.returns
-returns g c =
-    finished_text c.args.system c.args.most c.args.workers c.args.seed c.in_ok-finished.finished c.in_ok-finished.ensures c.in_ok-text.text.items
-    c.in_ok-text.ensures
+pub returns-clause-text : goal.returns-clause-text
+returns-clause-text g c =
+    finished_text c.args.system c.args.most c.args.workers c.args.seed c.in_ok-finished.finished c.in_ok-finished.ensures _ _ c.in_ok-text.text.items
+    c.in_ok-text.ensures.text
