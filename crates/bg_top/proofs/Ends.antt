@@ -1,8 +1,8 @@
 -- Which status a call ends with, and what is then written.
-use Rattle.std.proofs.Common.{◌≡◌, ◌≢◌, ◌<◌, ◌≤◌, ℕ, List, ◌⊎◌, None, Some, true, false, Bool, nat_lt, length, inl, inr, refl, sym, subst, ap, ◌∙◌, ⊎_elim, MatchBool, IsTrue, arith, ◌==◌, if◌then◌else◌}
+use Rattle.std.proofs.Common.{◌≡◌, ◌≢◌, ℕ, List, ◌⊎◌, None, Some, true, false, Bool, inl, inr, refl, sym, subst, ap, ◌∙◌, ⊎_elim, MatchBool, IsTrue, arith, ◌==◌, if◌then◌else◌}
 use Rattle.std.specs.Prelude.{IfSome}
 use Rattle.std.specs.Option.{IsSomeAnd}
-use Rattle.std.proofs.lemmas.Bool.Decides.{nat_tests, eqb_tells, leb_tells}
+use Rattle.std.proofs.lemmas.Bool.Decides.{eqb_tells}
 use Rattle.std.specs.declared.option.Option.{Option}
 use Rattle.bg_answers.specs.Answer.{Answer, number, too_long}
 use Rattle.bg_answers.specs.Promise.{Promise, IsRightAnswer, made, refused, IsSettled}
@@ -12,7 +12,7 @@ use Rattle.bg_answers.specs.declared.status.Status.{Status}
 use Rattle.bg_answers.specs.declared.status.Status.TheVariants.{Done, Refused, WrongWords, TooMany, NoRun, TooLong, Unsorted}
 use Rattle.bg_top.specs.Ended.{Ended, SomeAnswer, IsStopped, ComesWhere}
 use Rattle.bg_top.specs.Numbers.{failed_read, failed_write, out_of_memory}
-use Rattle.bg_top.specs.Right.{promise_of, input_of, is_long, IsInput, IsReply, IsTaken, IsRefused, IsTooMuch, EndsWith, IsRight, IsAnsweredWith, AsksOf, Answers}
+use Rattle.bg_top.specs.Right.{promise_of, input_of, is_long, IsReply, IsTaken, IsRefused, IsTooMuch, EndsWith, IsRight, IsAnsweredWith, AsksOf, Answers}
 use Rattle.bg_top.specs.Staying.{Stay, IsRightWith}
 use Rattle.bg_top.proofs.Right.{over, the_input, input_is, long_input}
 use Rattle.bg_watch.specs.Watching.{Watched}
@@ -95,9 +95,11 @@ module _ (watchers : List Watched) where
 
   fits : (most : ℕ) (request : Request) (bytes : List ℕ) (answer : Answer) → is_long most request bytes ≡ false
       → IsReply request watchers (input_of request bytes) answer → IsRight most (Some request) watchers (Some bytes) answer
-  fits most request bytes answer few right =
-      (input_of request bytes, the_input request bytes,
-      subst (IsMatched most request (input_of request bytes) answer) (sym (long_input most request bytes ∙ few)) right)
+  fits most request bytes answer few right = (
+    input_of request bytes,
+    the_input request bytes,
+    subst (IsMatched most request (input_of request bytes) answer) (sym (long_input most request bytes ∙ few)) right,
+  )
 
   judged_at : (most : ℕ) (request : Request) (bytes : List ℕ) (answer : Answer) → IsRight most (Some request) watchers (Some bytes) answer
       → Judged most request (input_of request bytes) answer
@@ -254,9 +256,10 @@ module _ (most : ℕ) (watchers : List Watched) (result : ℕ) (reads writes flu
       of : (answer : Answer) → Judged watchers most request (input_of request bytes) answer → answer.status ≡ TooMany
           → (is_long most request bytes ≡ false) × IsTooMuch watchers request (input_of request bytes)
       of answer (long same past) e = let both = sym e ∙ ap (λ (a : Answer). a.status) same in absurd cc
-      of answer (short few right) e =
-          (sym (long_input most request bytes) ∙ few,
-          (answer, made_of (promise_of request watchers) (input_of request bytes) right (λ r. let both = sym e ∙ r in absurd cc), e))
+      of answer (short few right) e = (
+        sym (long_input most request bytes) ∙ few,
+        (answer, made_of (promise_of request watchers) (input_of request bytes) right (λ r. let both = sym e ∙ r in absurd cc), e),
+      )
 
   there_much : (asked : Option Request) (bytes : List ℕ) → AsksOf most asked bytes (IsTooMuch watchers) → IsAnsweredWith most asked watchers (Some bytes) TooMany
   there_much None bytes asks = absurd asks

@@ -1,5 +1,5 @@
 -- Answers that are right, and ends of calls with them.
-use Rattle.std.proofs.Common.{◌≡◌, ◌<◌, ◌+◌, ◌≢◌, ◌&&◌, ℕ, List, Bool, None, Some, true, false, nat_lt, length, inl, inr, refl, sym, subst, ap, ◌∙◌, ⊎_elim, MatchBool, if◌then◌else◌, arith, length-append}
+use Rattle.std.proofs.Common.{◌≡◌, ◌<◌, ◌+◌, ◌≢◌, ◌&&◌, ℕ, List, [], Bool, None, Some, true, false, nat_lt, length, inl, inr, refl, sym, subst, ap, ◌∙◌, ⊎_elim, MatchBool, if◌then◌else◌, arith, length-append}
 use Rattle.std.proofs.lemmas.Bool.Decides.{nat_tests}
 use Rattle.std.specs.declared.option.Option.{Option}
 use Rattle.bg_io.specs.Transfers.{ConsumesExactly}
@@ -114,10 +114,34 @@ pub right_request : (most : ℕ) (asked : Option Request) (request : Request) (w
     → IsReply request watchers (input_of request bytes) answer → StayFor request (Some bytes) watchers stay answer
     → IsRightWith most asked left watchers stay answer
 right_request most asked request watchers stay left bytes answer is few input whole right stays =
-    subst (λ o. IsRightWith most o left watchers stay answer) (sym is)
-    ((input_of request bytes, input,
-    subst (λ b. MatchBool b (answer ≡ too_long) (IsReply request watchers (input_of request bytes) answer)) (sym (long_input most request bytes ∙ few)) right),
-    record {
-      told = λ run done. let some = stays.told run done in (some.0, subst (IsLeft left) (sym some.1) whole, some.2);
-      kept = stays.kept;
-    })
+    subst (λ o. IsRightWith most o left watchers stay answer) (sym is) (
+      (
+        input_of request bytes,
+        input,
+        subst (λ b. MatchBool b (answer ≡ too_long) (IsReply request watchers (input_of request bytes) answer)) (sym (long_input most request bytes ∙ few)) right,
+      ),
+      record {
+        told = λ run done. let some = stays.told run done in (some.0, subst (IsLeft left) (sym some.1) whole, some.2);
+        kept = stays.kept;
+      },
+    )
+
+-- of a request that reads nothing
+pub right_unread : (most : ℕ) (asked : Option Request) (request : Request) (watchers stay : List Watched) (left : Option (List ℕ)) (answer : Answer)
+    → asked ≡ Some request → is_reading request.command ≡ false → IsReply request watchers (input_of request []) answer
+    → StayFor request (Some []) watchers stay answer → IsRightWith most asked left watchers stay answer
+right_unread most asked request watchers stay left answer is unread right stays =
+    let input = input_of request [] in
+    let model : input ≡ trial_model request.size = ap (λ b. if b then [] else trial_model request.size) unread in
+    let short : is_long most request input ≡ false = subst (λ b. (b && nat_lt most (length input)) ≡ false) (sym unread) refl in
+    subst (λ o. IsRightWith most o left watchers stay answer) (sym is) (
+      (
+        input,
+        subst (λ b. MatchBool b (IsLeft left input) (input ≡ trial_model request.size)) (sym unread) model,
+        subst (λ b. MatchBool b (answer ≡ too_long) (IsReply request watchers input answer)) (sym short) right,
+      ),
+      record {
+        told = λ run done. let both = sym (ap is_reading run) ∙ unread in absurd cc;
+        kept = stays.kept;
+      },
+    )

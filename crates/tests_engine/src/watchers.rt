@@ -15,14 +15,15 @@ const COUNTER: &str = "fun atomic ctrl K(x) = 0; big s = K(0); fun react r(x) = 
 begin brs int n = [0:1:4]; init s; rules = [ {r(n)} ]; end";
 
 /// What stands before the lines of the watchers, and behind them.
-const STEPS: &str = "journal 1\nstep 0 0 0\nstep 0 1 1\nstep 0 2 2\nstep 0 3 3\nstep 0 4 4\nend\nquiet\n";
-const LAST: &str =
-    "host 6 0\nbigraph 1\nsites 0\ninner 0\nouter 0\nedges 0\nnodes 1\n5 K(5) r0\n";
+const STEPS: &str =
+    "journal 1\nstep 0 0 0\nstep 0 1 1\nstep 0 2 2\nstep 0 3 3\nstep 0 4 4\nend\nquiet\n";
+
+const LAST: &str = "host 6 0\nbigraph 1\nsites 0\ninner 0\nouter 0\nedges 0\nnodes 1\n5 K(5) r0\n";
 
 /// The same where no step is made.
 const NO_STEP: &str = "journal 1\nend\nlimit\n";
-const FIRST: &str =
-    "host 1 0\nbigraph 1\nsites 0\ninner 0\nouter 0\nedges 0\nnodes 1\n0 K(0) r0\n";
+
+const FIRST: &str = "host 1 0\nbigraph 1\nsites 0\ninner 0\nouter 0\nedges 0\nnodes 1\n0 K(0) r0\n";
 
 /// How a call ended: the status, the bytes that the sink then held, and the lines of the watchers that are left.
 #[derive(Drop)]

@@ -1,3 +1,4 @@
+use Rattle.std.proofs.Common.{rules}
 use Rattle.bg_top.proofs.Ends.{words_from, long_from, refused_from, much_from, statuses_from, written_from, complete_from, untold_from}
 use Rattle.bg_top.proofs.Right.{ended_right}
 use Rattle.bg_top.proofs.top.engine.Goals as goal
