@@ -26,24 +26,26 @@ fn words(rt: &HostRuntime) -> io::Result<Vec<String>> {
     Ok(words)
 }
 
-/// The watchers of a run: its number of entries, the rule of the last one, and the most nodes of a host.
-fn watchers(rt: &HostRuntime) -> io::Result<Vec<Box<dyn Watcher>>> {
-    let alloc = rt.alloc();
-    let mut watchers: Vec<Box<dyn Watcher>> = Vec::new(alloc);
-    watchers.push(Box::new(alloc, Tally::new())?)?;
-    watchers.push(Box::new(alloc, LastRule::new())?)?;
-    watchers.push(Box::new(alloc, Peak::new())?)?;
-    Ok(watchers)
-}
-
-/// The status with which the program ends; it fails where there is no memory for its words or its watchers.
-fn status(rt: &HostRuntime) -> io::Result<u8> {
-    let words = words(rt)?;
-    let mut watchers = watchers(rt)?;
+fn main(rt: HostRuntime) -> ExitCode {
     let mut source = StdSource::new(rt.stdin());
     let mut sink = StdSink::new(rt.stdout());
-    Ok(engine(
-        rt,
+    let mut watchers: Vec<Box<dyn Watcher>> = Vec::new(rt.alloc());
+    let (Ok(words), Ok(tally), Ok(last_rule), Ok(peak)) = (
+        words(&rt),
+        Box::new(rt.alloc(), Tally::new()),
+        Box::new(rt.alloc(), LastRule::new()),
+        Box::new(rt.alloc(), Peak::new()),
+    ) else {
+        return ExitCode::from(NO_MEMORY);
+    };
+    if watchers.push(tally).is_err()
+        || watchers.push(last_rule).is_err()
+        || watchers.push(peak).is_err()
+    {
+        return ExitCode::from(NO_MEMORY);
+    }
+    ExitCode::from(engine(
+        &rt,
         rt.alloc(),
         &words,
         &mut source,
@@ -51,11 +53,4 @@ fn status(rt: &HostRuntime) -> io::Result<u8> {
         &mut watchers,
         &OpenGate,
     ))
-}
-
-fn main(rt: HostRuntime) -> ExitCode {
-    match status(&rt) {
-        Ok(status) => ExitCode::from(status),
-        Err(_) => ExitCode::from(NO_MEMORY),
-    }
 }

@@ -1,6 +1,4 @@
 //! `engine` with watchers of a program's own: who is told of what, and who is left.
-ghost use Rattle.std.specs.Prelude.{◌≤◌};
-
 use bg_cond::OpenGate;
 use bg_io::{MemorySink, MemorySource};
 use bg_top::{NO_MEMORY, engine};
@@ -102,18 +100,11 @@ fn expect(
     Ok(())
 }
 
-/// A budget of so many entries.
-fn budget(alloc: Global, most: u32) -> Result<Box<dyn Watcher>, AllocError>
-    requires { 1 ≤ most }
-{
-    Box::new(alloc, Budget::new(most))
-}
-
 #[test]
 fn a_budget_writes_its_line_and_goes(rt: HostRuntime) -> Result<(), AllocError> {
     let alloc = rt.alloc();
     let mut watchers: Vec<Box<dyn Watcher>> = Vec::new(alloc);
-    watchers.push(budget(alloc, 2)?)?;
+    watchers.push(Box::new(alloc, Budget::new(2))?)?;
     watchers.push(Box::new(alloc, Tally::new())?)?;
     let end = end_of(&rt, alloc, "1000", watchers, &[])?;
     let lines = "watch budget 2\nwatch tally 5\n";
@@ -124,8 +115,8 @@ fn a_budget_writes_its_line_and_goes(rt: HostRuntime) -> Result<(), AllocError> 
 fn two_budgets_go_at_one_entry(rt: HostRuntime) -> Result<(), AllocError> {
     let alloc = rt.alloc();
     let mut watchers: Vec<Box<dyn Watcher>> = Vec::new(alloc);
-    watchers.push(budget(alloc, 1)?)?;
-    watchers.push(budget(alloc, 1)?)?;
+    watchers.push(Box::new(alloc, Budget::new(1))?)?;
+    watchers.push(Box::new(alloc, Budget::new(1))?)?;
     watchers.push(Box::new(alloc, Tally::new())?)?;
     let end = end_of(&rt, alloc, "1000", watchers, &[])?;
     let lines = "watch budget 1\nwatch budget 1\nwatch tally 5\n";
@@ -142,7 +133,7 @@ fn no_watcher_writes_no_line(rt: HostRuntime) -> Result<(), AllocError> {
 fn of_no_step_all_watchers_are_told_nothing(rt: HostRuntime) -> Result<(), AllocError> {
     let alloc = rt.alloc();
     let mut watchers: Vec<Box<dyn Watcher>> = Vec::new(alloc);
-    watchers.push(budget(alloc, 1)?)?;
+    watchers.push(Box::new(alloc, Budget::new(1))?)?;
     watchers.push(Box::new(alloc, Tally::new())?)?;
     watchers.push(Box::new(alloc, LastRule::new())?)?;
     watchers.push(Box::new(alloc, Peak::new())?)?;
