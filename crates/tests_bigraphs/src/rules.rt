@@ -5,9 +5,9 @@ ghost use Rattle.bg_rules.specs.Rules.{IsNumberedFromZero};
 
 use crate::made::{big_of, label, plain_name};
 use bg_algebra::{atom, ion};
-use bg_base::Big;
+use bg_base::{Big, Label, Map};
 use bg_lists::{Duplicate, Mem, OutOfMemory, Rows};
-use bg_rules::{Pattern, Rule, first_unsolid, unsolid_clause};
+use bg_rules::{Pattern, Rule, RuleFault, first_unsolid, unsolid_clause};
 use std::alloc::Global;
 
 /// The controls of these cases by number: A without ports, K with one.
@@ -123,40 +123,71 @@ fn room_pattern(alloc: Global) -> Mem<Pattern> {
     }
 }
 
+/// How many nodes the copy of a pattern has.
+fn nodes_of_copy(alloc: Global, pattern: &Pattern) -> Mem<u32> {
+    let copy = pattern.copy(alloc)?;
+    Ok(copy.big().nodes.len())
+}
+
 #[test]
 fn the_copy_of_a_pattern_is_a_pattern(rt: HostRuntime) -> Mem<()> {
-    let copy = room_pattern(rt.alloc())?.copy(rt.alloc())?;
-    assert!(rt; copy.big().nodes.len() == 1);
+    let pattern = room_pattern(rt.alloc())?;
+    assert!(rt; nodes_of_copy(rt.alloc(), &pattern)? == 1);
     Ok(())
 }
 
-/// The number of the refusal of a rule whose redex is a room, with that reactum and that map; 0 where it is taken.
-fn refusal_of(alloc: Global, reactum: Big, map: &[u32]) -> Mem<u8>
-    requires valid { IsValid reactum }
-    requires numbered { IsNumberedFromZero reactum }
+/// The map with these entries.
+fn map_of(alloc: Global, entries: &[u32]) -> Mem<Map> {
+    Rows::try_from_vec(Vec::from_slice(alloc, entries)?)
+}
+
+/// The number of the refusal of the rule of these parts, where there is memory for them; 0 where it is taken.
+fn refusal_of(
+    alloc: Global,
+    label: Mem<Label>,
+    redex: Mem<Pattern>,
+    reactum: Mem<Big>,
+    map: Mem<Map>,
+) -> Mem<u8>
+    requires valid { IfOk reactum IsValid }
+    requires numbered { IfOk reactum IsNumberedFromZero }
 {
-    let label = label(alloc, "r")?;
-    let entries = Rows::try_from_vec(Vec::from_slice(alloc, map)?)?;
-    let redex = room_pattern(alloc)?;
-    match Rule::new(
-        label,
-        redex,
-        reactum,
-        entries,
-        Rows::from_vec(Vec::new(alloc)),
-        0,
-    ) {
-        Ok(_rule) => Ok(0),
-        Err(fault) => Ok(fault.number()),
+    match (label, redex, reactum, map) {
+        (Ok(label), Ok(redex), Ok(reactum), Ok(map)) => {
+            let conditions = Rows::from_vec(Vec::new(alloc));
+            Ok(number_of(Rule::new(label, redex, reactum, map, conditions, 0)))
+        }
+        _ => Err(OutOfMemory),
     }
+}
+
+fn number_of(made: Result<Rule, RuleFault>) -> u8 {
+    match made {
+        Ok(_rule) => 0,
+        Err(fault) => fault.number(),
+    }
+}
+
+/// The same of a rule whose redex is a room, with that reactum and that map.
+fn refusal_with(alloc: Global, reactum: Mem<Big>, entries: &[u32]) -> Mem<u8>
+    requires valid { IfOk reactum IsValid }
+    requires numbered { IfOk reactum IsNumberedFromZero }
+{
+    refusal_of(
+        alloc,
+        label(alloc, "r"),
+        room_pattern(alloc),
+        reactum,
+        map_of(alloc, entries),
+    )
 }
 
 #[test]
 fn sides_have_the_same_names_and_a_map_leads_to_sites(rt: HostRuntime) -> Mem<()> {
     let alloc = rt.alloc();
-    assert!(rt; refusal_of(alloc, room(alloc)?, &[0])? == 0);
-    assert!(rt; refusal_of(alloc, tied(alloc)?, &[])? == 47);
-    assert!(rt; refusal_of(alloc, room(alloc)?, &[1])? == 48);
-    assert!(rt; refusal_of(alloc, room(alloc)?, &[])? == 48);
+    assert!(rt; refusal_with(alloc, room(alloc), &[0])? == 0);
+    assert!(rt; refusal_with(alloc, tied(alloc), &[])? == 47);
+    assert!(rt; refusal_with(alloc, room(alloc), &[1])? == 48);
+    assert!(rt; refusal_with(alloc, room(alloc), &[])? == 48);
     Ok(())
 }
