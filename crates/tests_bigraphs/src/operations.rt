@@ -1,5 +1,5 @@
 //! Composition, products, nesting and closure by `bg_algebra`: what they make, by its number of nodes, and why they refuse.
-ghost use Rattle.std.specs.Prelude.{◌↔◌, ◌<◌, IfOk, IsTrue, length};
+ghost use Rattle.std.specs.Prelude.{◌↔◌, ◌<◌, IsTrue, length};
 ghost use Rattle.bg_base.specs.Bigraph.{IsValid};
 
 use crate::made::{big_of, plain_name};
@@ -113,23 +113,20 @@ fn told(made: &Result<Big, AlgebraFault>) -> Mem<u32> {
     }
 }
 
-/// What is told of the operation on two bigraphs, where there is memory for them.
-fn told_of(alloc: Global, op: Op, left: Mem<Big>, right: Mem<Big>) -> Mem<u32>
-    requires left_valid { IfOk left IsValid }
-    requires right_valid { IfOk right IsValid }
-{
-    match (left, right) {
-        (Ok(f), Ok(g)) => told(&made(alloc, op, &f, &g)),
-        _ => Err(OutOfMemory),
-    }
+/// What is told of the operation on two listings.
+fn told_of(alloc: Global, op: Op, left: &str, right: &str) -> Mem<u32> {
+    let f = big_of(alloc, left)?;
+    let g = big_of(alloc, right)?;
+    told(&made(alloc, op, &f, &g))
 }
 
 #[test]
 fn bigraphs_are_put_together(rt: HostRuntime) -> Mem<()> {
     for &(op, left, right, wanted) in CASES.iter() {
-        let f = big_of(rt.alloc(), left);
-        let g = big_of(rt.alloc(), right);
-        assert!(rt; told_of(rt.alloc(), op, f, g)? == wanted, "{left}{right}");
+        assert!(rt;
+            told_of(rt.alloc(), op, left, right)? == wanted,
+            "{left}{right}"
+        );
     }
     Ok(())
 }
