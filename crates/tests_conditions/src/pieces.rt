@@ -1,11 +1,13 @@
 //! The pieces of a host at an occurrence, and whether the rule is enabled there. What conditions find in pieces is shown by
 //! `run`.
+ghost use Rattle.bg_rules.specs.Decomposition.{Occurs};
+
 use crate::models::{first_rule, system_of};
 use bg_base::Big;
 use bg_cond::{context_piece, enabled, param_piece};
 use bg_lists::{Mem, OutOfMemory};
 use bg_match::embeds;
-use bg_rules::{Host, Rule};
+use bg_rules::{Host, Rule, System};
 use std::alloc::Global;
 
 /// How many nodes, edges and outer names a piece has.
@@ -48,22 +50,43 @@ fn counts_of(piece: &Big) -> Counts {
     (piece.nodes.len(), piece.edges.len(), piece.outer.len())
 }
 
+/// What the parameter piece has.
+fn parameter_counts(alloc: Global, host: &Host, rule: &Rule, nodes: &[u32]) -> Mem<Counts>
+    requires occurs { Occurs host.now.big rule.now.redex nodes.now }
+{
+    let piece = param_piece(alloc, host, rule, nodes)?;
+    Ok(counts_of(&piece))
+}
+
+/// What the context piece has.
+fn context_counts(alloc: Global, host: &Host, rule: &Rule, nodes: &[u32]) -> Mem<Counts>
+    requires occurs { Occurs host.now.big rule.now.redex nodes.now }
+{
+    let piece = context_piece(alloc, host, rule, nodes)?;
+    Ok(counts_of(&piece))
+}
+
 /// What the pieces have at the occurrence, and whether the rule is enabled there.
 fn found_at(alloc: Global, host: &Host, rule: &Rule, nodes: &[u32]) -> Mem<(Counts, Counts, bool)> {
     if !embeds(host.big(), rule.redex(), nodes) {
         return Err(OutOfMemory);
     }
-    let parameter = counts_of(&param_piece(alloc, host, rule, nodes)?);
-    let context = counts_of(&context_piece(alloc, host, rule, nodes)?);
+    let parameter = parameter_counts(alloc, host, rule, nodes)?;
+    let context = context_counts(alloc, host, rule, nodes)?;
     let enabled = enabled(alloc, host, rule, nodes)?;
     Ok((parameter, context, enabled))
+}
+
+/// The same of the system's rule.
+fn found(alloc: Global, system: &System, nodes: &[u32]) -> Mem<(Counts, Counts, bool)> {
+    let rule = first_rule(system)?;
+    found_at(alloc, system.init(), rule, nodes)
 }
 
 /// The same of the model's rule.
 fn found_in(alloc: Global, model: &str, nodes: &[u32]) -> Mem<(Counts, Counts, bool)> {
     let system = system_of(alloc, model)?;
-    let rule = first_rule(&system)?;
-    found_at(alloc, system.init(), rule, nodes)
+    found(alloc, &system, nodes)
 }
 
 #[test]

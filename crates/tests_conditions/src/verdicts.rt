@@ -1,7 +1,9 @@
 //! What is said of steps, and the first class. Legal steps are shown by `run`.
 use crate::models::{step_of, system_of};
+use bg_base::Step;
 use bg_cond::{Verdict, first_class, judge};
 use bg_lists::Mem;
+use bg_rules::System;
 use std::alloc::Global;
 
 /// A guard in the context, or in the parameter, or nowhere.
@@ -68,20 +70,36 @@ fn said_by(verdict: &Verdict) -> Said {
     }
 }
 
-/// What is said of the step, and the first class.
-fn judged(alloc: Global, model: &str, rule: u32, nodes: &[u32]) -> Mem<(Said, Option<u32>)> {
-    let system = system_of(alloc, model)?;
+/// What is said of the step.
+fn said_of(alloc: Global, system: &System, step: &Step) -> Mem<Said> {
+    let verdict = judge(alloc, system.init(), system, step)?;
+    Ok(said_by(&verdict))
+}
+
+/// The same of the step of the rule at the nodes.
+fn said_at(alloc: Global, system: &System, rule: u32, nodes: &[u32]) -> Mem<Said> {
     let step = step_of(alloc, rule, nodes)?;
-    let class = first_class(alloc, system.init(), &system)?;
-    let verdict = judge(alloc, system.init(), &system, &step)?;
-    Ok((said_by(&verdict), class))
+    said_of(alloc, system, &step)
+}
+
+/// What is said of the step, and the first class.
+fn judged(alloc: Global, system: &System, rule: u32, nodes: &[u32]) -> Mem<(Said, Option<u32>)> {
+    let class = first_class(alloc, system.init(), system)?;
+    let said = said_at(alloc, system, rule, nodes)?;
+    Ok((said, class))
+}
+
+/// The same in the model's system.
+fn judged_in(alloc: Global, model: &str, rule: u32, nodes: &[u32]) -> Mem<(Said, Option<u32>)> {
+    let system = system_of(alloc, model)?;
+    judged(alloc, &system, rule, nodes)
 }
 
 #[test]
 fn steps_have_the_verdict_of_the_first_reason_against_them(rt: HostRuntime) -> Mem<()> {
     for &(model, rule, nodes, said, class) in CASES.iter() {
         assert!(rt;
-            judged(rt.alloc(), model, rule, nodes)? == (said, class),
+            judged_in(rt.alloc(), model, rule, nodes)? == (said, class),
             "{model}"
         );
     }

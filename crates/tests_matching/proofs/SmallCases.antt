@@ -1,5 +1,5 @@
 -- What the tests want: room for the copies of a small parameter, and hosts with higher counters.
-use Rattle.std.proofs.Common.{ℕ, ◌+◌, ◌*◌, ◌<◌, ◌≤◌, ◌^◌, List, [], ◌∷◌, length, filter, arith}
+use Rattle.std.proofs.Common.{◌≡◌, ℕ, ◌+◌, ◌*◌, ◌<◌, ◌≤◌, ◌^◌, List, [], ◌∷◌, length, filter, arith, sym, subst}
 use Rattle.bg_lists.proofs.Words.{length-filter}
 use Rattle.bg_base.specs.declared.names.Place.TheVariants.{Node}
 use Rattle.bg_base.specs.declared.big.NodeRow.{NodeRow}
@@ -35,10 +35,12 @@ room_for_few parameter entries next few short small =
 
 -- ---- higher counters
 
-pub with_higher_counters : (host : HostState) (next_node next_edge : ℕ) → IsHost host → host.next_node ≤ next_node → host.next_edge ≤ next_edge
-    → next_node ≤ 2147483648 → next_edge ≤ 2147483648 → IsHost (record { big = host.big; next_node = next_node; next_edge = next_edge })
-with_higher_counters host next_node next_edge is nodes edges few_nodes few_edges =
-    record {
+pub with_higher_counters : (host : HostState) (big : Big) (next_node next_edge : ℕ) → big ≡ host.big → IsHost host → host.next_node ≤ next_node
+    → host.next_edge ≤ next_edge → next_node ≤ 2147483648 → next_edge ≤ 2147483648
+    → IsHost (record { big = big; next_node = next_node; next_edge = next_edge })
+with_higher_counters host big next_node next_edge same is nodes edges few_nodes few_edges =
+    subst (λ (other : Big). IsHost (record { big = other; next_node = next_node; next_edge = next_edge })) (sym same)
+    (record {
       fits = is.fits;
       numbered = record {
         ground = is.fits.ground;
@@ -50,4 +52,4 @@ with_higher_counters host next_node next_edge is nodes edges few_nodes few_edges
         few_edges = is.within.few_edges;
         counters_small = record { next_node_small = few_nodes; next_edge_small = few_edges };
       };
-    }
+    })

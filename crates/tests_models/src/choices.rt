@@ -1,6 +1,6 @@
 use bg_base::Value;
 use bg_elab::choice;
-use bg_lists::Mem;
+use bg_lists::{Mem, OutOfMemory};
 use bg_values::ParameterValues;
 use std::alloc::Global;
 
@@ -31,10 +31,16 @@ fn digits_of(values: &[Value]) -> i64 {
     digits
 }
 
+/// The digits of the choice with that number of one value of 1, 2; of 3; and of 4, 5, 6.
+fn of_three(alloc: Global, number: u32) -> Mem<Option<i64>> {
+    match (list(alloc, 1, 2), list(alloc, 3, 1), list(alloc, 4, 3)) {
+        (Ok(first), Ok(second), Ok(third)) => chosen(alloc, &[first, second, third], number),
+        _ => Err(OutOfMemory),
+    }
+}
+
 #[test]
 fn there_are_as_many_choices_as_values_by_values(rt: HostRuntime) -> Mem<()> {
-    let alloc = rt.alloc();
-    let lists = [list(alloc, 1, 2)?, list(alloc, 3, 1)?, list(alloc, 4, 3)?];
     for &(number, digits) in [
         (0, Some(134)),
         (2, Some(136)),
@@ -45,16 +51,21 @@ fn there_are_as_many_choices_as_values_by_values(rt: HostRuntime) -> Mem<()> {
     ]
     .iter()
     {
-        assert!(rt; chosen(alloc, &lists, number)? == digits);
+        assert!(rt; of_three(rt.alloc(), number)? == digits);
     }
     Ok(())
+}
+
+/// The digits of the first choice of an empty list.
+fn of_none(alloc: Global) -> Mem<Option<i64>> {
+    let lists = [list(alloc, 1, 0)?];
+    chosen(alloc, &lists, 0)
 }
 
 #[test]
 fn of_no_lists_there_is_one_choice_and_of_an_empty_one_none(rt: HostRuntime) -> Mem<()> {
     assert!(rt; chosen(rt.alloc(), &[], 0)? == Some(0));
     assert!(rt; chosen(rt.alloc(), &[], 1)? == None);
-    let lists = [list(rt.alloc(), 1, 0)?];
-    assert!(rt; chosen(rt.alloc(), &lists, 0)? == None);
+    assert!(rt; of_none(rt.alloc())? == None);
     Ok(())
 }
