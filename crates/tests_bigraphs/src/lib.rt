@@ -1,15 +1,10 @@
-//! What only calls show of bigraphs: lists, names and signatures, places, links, elementary bigraphs, operations, also in
-//! place, rules.
+//! What only calls show of bigraphs: names and signatures, places, links, refused operations, rules.
 #![tactic(auto)]
 
 #[cfg(test)]
 mod bigraphs;
 #[cfg(test)]
-mod elementary;
-#[cfg(test)]
 mod links;
-#[cfg(test)]
-mod lists;
 #[cfg(test)]
 mod made;
 #[cfg(test)]

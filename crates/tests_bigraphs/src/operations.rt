@@ -1,16 +1,15 @@
-//! Composition, products and nesting by `bg_algebra` and by `bg_builder`, by their listings.
-ghost use Rattle.std.specs.Prelude.{◌≡◌, ◌↔◌, ◌<◌, true, IsTrue, length};
+//! Composition, products, nesting and closure by `bg_algebra`: what they make, by its number of nodes, and why they refuse.
+ghost use Rattle.std.specs.Prelude.{◌↔◌, ◌<◌, IsTrue, length};
 ghost use Rattle.bg_base.specs.Bigraph.{IsValid};
 
-use crate::made::{Ended, big_of, expect_listing, plain_name, told};
-use bg_algebra::{AlgebraFault, compose, merge, nest, parallel, tensor};
+use crate::made::{big_of, plain_name};
+use bg_algebra::{AlgebraFault, close, compose, merge, nest, parallel, tensor};
 use bg_base::Big;
-use bg_builder::Builder;
+use bg_lists::{Mem, OutOfMemory};
 use std::alloc::Global;
-use std::process::Abort;
 
 /// An operation on two bigraphs.
-#[derive(Clone, Copy, Debug, PartialEq, Eq)]
+#[derive(Clone, Copy)]
 enum Op {
     Compose,
     Tensor,
@@ -21,9 +20,6 @@ enum Op {
 
 /// `0`
 const NOTHING: &str = "bigraph 0\nsites 0\ninner 0\nouter 0\nedges 0\nnodes 0\n";
-
-/// `1`
-const BARREN: &str = "bigraph 1\nsites 0\ninner 0\nouter 0\nedges 0\nnodes 0\n";
 
 /// `A.id`
 const ROOM: &str = "bigraph 1\nsites 1\nn0\ninner 0\nouter 0\nedges 0\nnodes 1\n0 A r0\n";
@@ -42,12 +38,6 @@ const WIRING: &str =
 const WIRED: &str =
     "bigraph 1\nsites 0\ninner 1\nw =y\nouter 2\nx\ny\nedges 1\n7\nnodes 1\n3 C r0 =x =y\n";
 
-/// `merge(2)`
-const MERGER: &str = "bigraph 1\nsites 2\nr0\nr0\ninner 0\nouter 0\nedges 0\nnodes 0\n";
-
-/// `A.1 || A.1`
-const APART: &str = "bigraph 2\nsites 0\ninner 0\nouter 0\nedges 0\nnodes 2\n1 A r0\n2 A r1\n";
-
 /// `K{x}.1`
 const AT_X: &str = "bigraph 1\nsites 0\ninner 0\nouter 1\nx\nedges 0\nnodes 1\n0 K r0 =x\n";
 
@@ -63,69 +53,29 @@ const AT_Y: &str = "bigraph 1\nsites 0\ninner 0\nouter 1\ny\nedges 0\nnodes 1\n0
 /// `id{x}`
 const WIRE: &str = "bigraph 0\nsites 0\ninner 1\nx =x\nouter 1\nx\nedges 0\nnodes 0\n";
 
-/// An operation on the bigraphs of two listings, of which the second has the higher numbers, and the listing of what
-/// it makes, or the number of its refusal.
-const CASES: [(Op, &str, &str, &str); 15] = [
-    (
-        Op::Compose,
-        ROOM,
-        AGENT,
-        "bigraph 1\nsites 0\ninner 0\nouter 0\nedges 0\nnodes 2\n0 A r0\n1 B n0\n",
-    ),
-    (
-        Op::Compose,
-        WIRING,
-        WIRED,
-        "bigraph 1\nsites 0\ninner 1\nw =z\nouter 1\nz\nedges 2\n0\n7\nnodes 1\n3 C r0 #0 =z\n",
-    ),
-    (
-        Op::Compose,
-        MERGER,
-        APART,
-        "bigraph 1\nsites 0\ninner 0\nouter 0\nedges 0\nnodes 2\n1 A r0\n2 A r0\n",
-    ),
-    (Op::Compose, AT_X, AGENT, "11"),
-    (Op::Compose, WIRING, AGENT, "11"),
-    (
-        Op::Tensor,
-        AT_X,
-        NEXT_AT_Y,
-        "bigraph 2\nsites 0\ninner 0\nouter 2\nx\ny\nedges 0\nnodes 2\n0 K r0 =x\n1 K r1 =y\n",
-    ),
-    (Op::Tensor, AT_X, NEXT_AT_X, "13"),
-    (
-        Op::Parallel,
-        AT_X,
-        NEXT_AT_X,
-        "bigraph 2\nsites 0\ninner 0\nouter 1\nx\nedges 0\nnodes 2\n0 K r0 =x\n1 K r1 =x\n",
-    ),
-    (Op::Parallel, WIRE, WIRE, "14"),
-    (
-        Op::Merge,
-        AT_X,
-        NEXT_AT_X,
-        "bigraph 1\nsites 0\ninner 0\nouter 1\nx\nedges 0\nnodes 2\n0 K r0 =x\n1 K r0 =x\n",
-    ),
-    (Op::Merge, NOTHING, NOTHING, BARREN),
-    (Op::Merge, WIRE, WIRE, "14"),
-    (
-        Op::Nest,
-        ROOM,
-        NEXT_AT_X,
-        "bigraph 1\nsites 0\ninner 0\nouter 1\nx\nedges 0\nnodes 2\n0 A r0\n1 K n0 =x\n",
-    ),
-    (Op::Nest, WIRE, AGENT, "17"),
-    (Op::Nest, AT_X, AGENT, "15"),
-];
-
-/// Bigraphs that share a number.
-const MEETING: [(Op, &str, &str, &str); 6] = [
-    (Op::Compose, ROOM, FIRST_AGENT, "12"),
-    (Op::Tensor, AT_X, AT_Y, "12"),
-    (Op::Tensor, AT_X, AT_X, "13"),
-    (Op::Parallel, AT_X, AT_X, "12"),
-    (Op::Merge, AT_X, AT_X, "12"),
-    (Op::Nest, ROOM, FIRST_AGENT, "12"),
+/// An operation on the bigraphs of two listings, and how many nodes it makes, or the number of its refusal. Names and
+/// widths go before nodes that are in both.
+const CASES: [(Op, &str, &str, u32); 20] = [
+    (Op::Compose, ROOM, AGENT, 2),
+    (Op::Compose, WIRING, WIRED, 1),
+    (Op::Compose, AT_X, AGENT, 11),
+    (Op::Compose, WIRING, AGENT, 11),
+    (Op::Compose, ROOM, FIRST_AGENT, 12),
+    (Op::Tensor, AT_X, NEXT_AT_Y, 2),
+    (Op::Tensor, AT_X, NEXT_AT_X, 13),
+    (Op::Tensor, AT_X, AT_X, 13),
+    (Op::Tensor, AT_X, AT_Y, 12),
+    (Op::Parallel, AT_X, NEXT_AT_X, 2),
+    (Op::Parallel, WIRE, WIRE, 14),
+    (Op::Parallel, AT_X, AT_X, 12),
+    (Op::Merge, AT_X, NEXT_AT_X, 2),
+    (Op::Merge, NOTHING, NOTHING, 0),
+    (Op::Merge, WIRE, WIRE, 14),
+    (Op::Merge, AT_X, AT_X, 12),
+    (Op::Nest, ROOM, NEXT_AT_X, 2),
+    (Op::Nest, WIRE, AGENT, 17),
+    (Op::Nest, AT_X, AGENT, 15),
+    (Op::Nest, ROOM, FIRST_AGENT, 12),
 ];
 
 /// Whether a product with another such one fits the numbers.
@@ -135,13 +85,14 @@ fn is_small(big: &Big) -> bool
     big.regions < 1000 && big.sites.len() < 1000
 }
 
-/// The call of `bg_algebra`, on small bigraphs.
-fn by_algebra(rt: &impl Abort, alloc: Global, op: Op, f: &Big, g: &Big) -> Result<Big, AlgebraFault>
+/// What the operation makes of small bigraphs.
+fn made(alloc: Global, op: Op, f: &Big, g: &Big) -> Result<Big, AlgebraFault>
     requires f_valid { IsValid f.now }
     requires g_valid { IsValid g.now }
 {
-    assert!(rt; is_small(f));
-    assert!(rt; is_small(g));
+    if !is_small(f) || !is_small(g) {
+        return Err(AlgebraFault::OutOfMemory);
+    }
     match op {
         Op::Compose => compose(alloc, f, g),
         Op::Tensor => tensor(alloc, f, g),
@@ -151,114 +102,59 @@ fn by_algebra(rt: &impl Abort, alloc: Global, op: Op, f: &Big, g: &Big) -> Resul
     }
 }
 
-/// The call of `bg_builder`, on small bigraphs whose numbers follow.
-fn by_builder(
-    rt: &impl Abort,
-    alloc: Global,
-    op: Op,
-    f: Builder,
-    g: Builder,
-) -> Result<Builder, AlgebraFault> {
-    assert!(rt; f.follows(&g));
-    assert!(rt; f.regions() < 1000);
-    assert!(rt; g.regions() < 1000);
-    match op {
-        Op::Compose => f.compose(alloc, g),
-        Op::Tensor => f.tensor(g),
-        Op::Parallel => f.parallel(g),
-        Op::Merge => f.merge(g),
-        Op::Nest => f.nest(g),
+/// How many nodes were made, or the number of the refusal.
+fn told(made: &Result<Big, AlgebraFault>) -> Mem<u32> {
+    match made {
+        Ok(big) => Ok(big.nodes.len()),
+        Err(fault) => match fault.number() {
+            Some(number) => Ok(u32::from(number)),
+            None => Err(OutOfMemory),
+        },
     }
 }
 
-/// What `bg_algebra` makes of two listings.
-fn told_by_algebra(
-    rt: &impl Abort,
-    alloc: Global,
-    op: Op,
-    left: &str,
-    right: &str,
-) -> Result<Vec<u8>, Ended> {
+/// What is told of the operation on two listings.
+fn told_of(alloc: Global, op: Op, left: &str, right: &str) -> Mem<u32> {
     let f = big_of(alloc, left)?;
     let g = big_of(alloc, right)?;
-    let made = by_algebra(rt, alloc, op, &f, &g);
-    told(alloc, &made)
+    told(&made(alloc, op, &f, &g))
 }
 
 #[test]
-fn copies_are_put_together(rt: HostRuntime) -> Result<(), Ended> {
-    for &(op, left, right, text) in CASES.iter() {
-        let told = told_by_algebra(&rt, rt.alloc(), op, left, right)?;
-        assert!(rt; told.as_slice() == text.as_bytes(), "{op:?} {text}");
+fn bigraphs_are_put_together(rt: HostRuntime) -> Mem<()> {
+    for &(op, left, right, wanted) in CASES.iter() {
+        assert!(rt;
+            told_of(rt.alloc(), op, left, right)? == wanted,
+            "{left}{right}"
+        );
     }
     Ok(())
 }
 
-#[test]
-fn names_go_before_nodes(rt: HostRuntime) -> Result<(), Ended> {
-    for &(op, left, right, text) in MEETING.iter() {
-        let told = told_by_algebra(&rt, rt.alloc(), op, left, right)?;
-        assert!(rt; told.as_slice() == text.as_bytes(), "{op:?} {text}");
-    }
-    Ok(())
-}
+/// Node 0 of control C on outer name x and on edge 7.
+const ON_EDGE: &str =
+    "bigraph 1\nsites 0\ninner 0\nouter 1\nx\nedges 1\n7\nnodes 1\n0 C r0 =x #7\n";
 
-/// The bigraph of a listing in the making.
-fn begun(alloc: Global, text: &str) -> Result<Builder, Ended> {
+/// What is told of the closure of the name in a listing, by that edge.
+fn told_closed(alloc: Global, text: &str, name: &str, edge: u32) -> Mem<u32> {
     let big = big_of(alloc, text)?;
-    Ok(Builder::of(alloc, big)?)
-}
-
-/// The bigraph that was in the making.
-fn finished(
-    alloc: Global,
-    made: Result<Builder, AlgebraFault>,
-) -> Result<Result<Big, AlgebraFault>, Ended> {
-    match made {
-        Ok(whole) => Ok(Ok(whole.finish(alloc)?)),
-        Err(fault) => Ok(Err(fault)),
-    }
-}
-
-/// What `bg_builder` makes of two listings.
-fn told_by_builder(
-    rt: &impl Abort,
-    alloc: Global,
-    op: Op,
-    left: &str,
-    right: &str,
-) -> Result<Vec<u8>, Ended> {
-    let f = begun(alloc, left)?;
-    let g = begun(alloc, right)?;
-    let made = finished(alloc, by_builder(rt, alloc, op, f, g))?;
-    told(alloc, &made)
+    let name = plain_name(alloc, name)?;
+    told(&close(alloc, &big, &name, edge))
 }
 
 #[test]
-fn bigraphs_are_put_together_in_place(rt: HostRuntime) -> Result<(), Ended> {
-    for &(op, left, right, text) in CASES.iter() {
-        let told = told_by_builder(&rt, rt.alloc(), op, left, right)?;
-        assert!(rt; told.as_slice() == text.as_bytes(), "{op:?} {text}");
-    }
+fn a_name_that_is_there_is_closed_by_a_new_edge(rt: HostRuntime) -> Mem<()> {
+    assert!(rt; told_closed(rt.alloc(), ON_EDGE, "x", 3)? == 1);
+    assert!(rt; told_closed(rt.alloc(), ON_EDGE, "y", 7)? == 16);
+    assert!(rt; told_closed(rt.alloc(), ON_EDGE, "x", 7)? == 12);
     Ok(())
 }
 
-/// The name x is closed in place, by edge 3.
-fn closed(rt: &impl Abort, alloc: Global, f: Builder) -> Result<Big, Ended> {
-    let word = plain_name(alloc, "x")?;
-    assert!(rt; f.has_outer(&word));
-    assert!(rt; f.lies_behind(3));
-    let made = f.close(alloc, &word, 3)?;
-    Ok(made.finish(alloc)?)
-}
-
 #[test]
-fn a_name_is_closed_in_place(rt: HostRuntime) -> Result<(), Ended> {
-    let f = begun(rt.alloc(), AT_X)?;
-    assert!(rt; f.nodes() == 1);
-    assert!(rt; f.edges() == 0);
-    assert!(rt; f.sites() == 0);
-    let whole = closed(&rt, rt.alloc(), f)?;
-    let text = "bigraph 1\nsites 0\ninner 0\nouter 0\nedges 1\n3\nnodes 1\n0 K r0 #3\n";
-    expect_listing(&rt, rt.alloc(), &whole, text)
+fn a_refusal_has_a_text(rt: HostRuntime) -> Mem<()> {
+    let Ok(text) = format!(in rt.alloc(); "{}", AlgebraFault::SupportMeets) else {
+        return Err(OutOfMemory);
+    };
+    assert!(rt; text.as_str() == "a node or an edge is in both bigraphs");
+    Ok(())
 }

@@ -1,6 +1,7 @@
-//! A forest, by its listing, and what is known of it by hand.
-use crate::made::{Ended, big_of};
+//! What no command asks of a forest, by a listing, and what is known of it by hand.
+use crate::made::big_of;
 use bg_base::Place;
+use bg_lists::Mem;
 use bg_place::Forest;
 use std::alloc::Global;
 
@@ -9,14 +10,19 @@ use std::alloc::Global;
 const TWO_REGIONS: &str =
     "bigraph 2\nsites 4\nn3\nr1\nn0\nn3\ninner 0\nouter 0\nedges 0\nnodes 5\n0 A r0\n3 A n0\n5 A r1\n7 A n3\n9 A n0\n";
 
-fn forest(alloc: Global) -> Result<Forest, Ended> {
+fn forest(alloc: Global) -> Mem<Forest> {
     let big = big_of(alloc, TWO_REGIONS)?;
     let forest = Forest::of(alloc, &big)?;
     Ok(forest)
 }
 
+/// Whether the node lies in that place, at that depth.
+fn lies_in(forest: &Forest, node: u32, parent: Place, depth: u32) -> bool {
+    forest.contains(node) && forest.parent(node) == parent && forest.depth(node) == depth
+}
+
 #[test]
-fn a_node_has_its_place_and_depth(rt: HostRuntime) -> Result<(), Ended> {
+fn a_node_has_its_place_and_depth(rt: HostRuntime) -> Mem<()> {
     let forest = forest(rt.alloc())?;
     for &(node, parent, depth) in [
         (0, Place::Region(0), 0),
@@ -26,27 +32,14 @@ fn a_node_has_its_place_and_depth(rt: HostRuntime) -> Result<(), Ended> {
     ]
     .iter()
     {
-        assert!(rt; forest.contains(node));
-        assert!(rt; forest.parent(node) == parent);
-        assert!(rt; forest.depth(node) == depth);
+        assert!(rt; lies_in(&forest, node, parent, depth));
     }
     assert!(rt; !forest.contains(4));
     Ok(())
 }
 
 #[test]
-fn a_place_has_its_children_and_sites(rt: HostRuntime) -> Result<(), Ended> {
-    let forest = forest(rt.alloc())?;
-    assert!(rt; forest.children(Place::Node(0)) == [3, 9].as_slice());
-    assert!(rt; forest.children(Place::Region(1)) == [5].as_slice());
-    assert!(rt; forest.children(Place::Node(4)).len() == 0);
-    assert!(rt; forest.child_sites(Place::Node(3)) == [0, 3].as_slice());
-    assert!(rt; forest.child_sites(Place::Region(0)).len() == 0);
-    Ok(())
-}
-
-#[test]
-fn a_node_lies_in_others_and_not_in_itself(rt: HostRuntime) -> Result<(), Ended> {
+fn a_node_lies_in_others_and_not_in_itself(rt: HostRuntime) -> Mem<()> {
     let forest = forest(rt.alloc())?;
     for &(upper, lower, lies) in [(0, 7, true), (3, 7, true), (7, 7, false), (9, 7, false)].iter() {
         assert!(rt; forest.is_ancestor(upper, lower) == lies);
@@ -55,7 +48,7 @@ fn a_node_lies_in_others_and_not_in_itself(rt: HostRuntime) -> Result<(), Ended>
 }
 
 #[test]
-fn a_subtree_has_nodes_of_every_depth(rt: HostRuntime) -> Result<(), Ended> {
+fn a_subtree_has_nodes_of_every_depth(rt: HostRuntime) -> Mem<()> {
     let forest = forest(rt.alloc())?;
     assert!(rt; forest.contains(0));
     assert!(rt; forest.subtree(rt.alloc(), 0)?.as_slice() == [0, 3, 7, 9].as_slice());

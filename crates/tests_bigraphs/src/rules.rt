@@ -1,15 +1,14 @@
-//! Solid bigraphs and those that are not, rules that are refused, and the counters of a host.
+//! Solid bigraphs and those that are not, and rules that are refused.
 ghost use Rattle.std.specs.Prelude.{◌≡◌, [], IfOk};
 ghost use Rattle.bg_base.specs.Bigraph.{IsValid};
 ghost use Rattle.bg_rules.specs.Rules.{IsNumberedFromZero};
 
-use crate::made::{Ended, big_of, label, plain_name};
-use bg_algebra::{atom, barren, ion};
-use bg_base::{Big, Name, Signature};
+use crate::made::{big_of, label, plain_name};
+use bg_algebra::{atom, ion};
+use bg_base::{Big, Label, Map};
 use bg_lists::{Duplicate, Mem, OutOfMemory, Rows};
-use bg_rules::{Host, Pattern, Rule, RuleFault, System, first_unsolid, unsolid_clause};
+use bg_rules::{Pattern, Rule, RuleFault, first_unsolid, unsolid_clause};
 use std::alloc::Global;
-use std::process::Abort;
 
 /// The controls of these cases by number: A without ports, K with one.
 const A: u32 = 0;
@@ -80,12 +79,16 @@ const SOLID: [(&str, Option<u8>); 12] = [
     ),
 ];
 
+/// Whether that is the least clause that fails, by both calls.
+fn fails_first(alloc: Global, text: &str, clause: Option<u8>) -> Mem<bool> {
+    let big = big_of(alloc, text)?;
+    Ok(first_unsolid(&big) == clause && unsolid_clause(alloc, &big)? == clause)
+}
+
 #[test]
-fn the_least_clause_is_named(rt: HostRuntime) -> Result<(), Ended> {
+fn the_least_clause_is_named(rt: HostRuntime) -> Mem<()> {
     for &(text, clause) in SOLID.iter() {
-        let big = big_of(rt.alloc(), text)?;
-        assert!(rt; first_unsolid(&big) == clause, "{text}");
-        assert!(rt; unsolid_clause(rt.alloc(), &big)? == clause, "{text}");
+        assert!(rt; fails_first(rt.alloc(), text, clause)?, "{text}");
     }
     Ok(())
 }
@@ -120,103 +123,71 @@ fn room_pattern(alloc: Global) -> Mem<Pattern> {
     }
 }
 
+/// How many nodes the copy of a pattern has.
+fn nodes_of_copy(alloc: Global, pattern: &Pattern) -> Mem<u32> {
+    let copy = pattern.copy(alloc)?;
+    Ok(copy.big().nodes.len())
+}
+
 #[test]
 fn the_copy_of_a_pattern_is_a_pattern(rt: HostRuntime) -> Mem<()> {
-    let copy = room_pattern(rt.alloc())?.copy(rt.alloc())?;
-    assert!(rt; copy.big().nodes.len() == 1);
-    assert!(rt; copy.big().sites.len() == 1);
+    let pattern = room_pattern(rt.alloc())?;
+    assert!(rt; nodes_of_copy(rt.alloc(), &pattern)? == 1);
     Ok(())
 }
 
-/// The rule whose redex is a room, with that reactum and that map.
-fn rule_of(alloc: Global, reactum: Big, map: Vec<u32>) -> Mem<Result<Rule, RuleFault>>
-    requires valid { IsValid reactum }
-    requires numbered { IsNumberedFromZero reactum }
+/// The map with these entries.
+fn map_of(alloc: Global, entries: &[u32]) -> Mem<Map> {
+    Rows::try_from_vec(Vec::from_slice(alloc, entries)?)
+}
+
+/// The number of the refusal of the rule of these parts, where there is memory for them; 0 where it is taken.
+fn refusal_of(
+    alloc: Global,
+    label: Mem<Label>,
+    redex: Mem<Pattern>,
+    reactum: Mem<Big>,
+    map: Mem<Map>,
+) -> Mem<u8>
+    requires valid { IfOk reactum IsValid }
+    requires numbered { IfOk reactum IsNumberedFromZero }
 {
-    let label = label(alloc, "r")?;
-    let entries = Rows::try_from_vec(map)?;
-    let conditions = Rows::from_vec(Vec::new(alloc));
-    match Pattern::new(room(alloc)?) {
-        Ok(redex) => Ok(Rule::new(label, redex, reactum, entries, conditions, 0)),
-        Err(_fault) => Err(OutOfMemory),
+    match (label, redex, reactum, map) {
+        (Ok(label), Ok(redex), Ok(reactum), Ok(map)) => {
+            let conditions = Rows::from_vec(Vec::new(alloc));
+            Ok(number_of(Rule::new(label, redex, reactum, map, conditions, 0)))
+        }
+        _ => Err(OutOfMemory),
     }
 }
 
-/// What a rule of a room and a room has.
-fn expect_rooms(rt: &impl Abort, rule: &Rule) {
-    assert!(rt; rule.redex().big().nodes.len() == 1);
-    assert!(rt; rule.reactum().sites.len() == 1);
-    assert!(rt; rule.map().len() == 1);
-    assert!(rt; rule.conditions().len() == 0);
-    assert!(rt; rule.class() == 0);
-    assert!(rt; rule.label().args.len() == 0);
-}
-
-#[test]
-fn a_rule_keeps_its_parts(rt: HostRuntime) -> Mem<()> {
-    let alloc = rt.alloc();
-    match rule_of(alloc, room(alloc)?, vec![in alloc; 0]?)? {
-        Ok(rule) => expect_rooms(&rt, &rule),
-        Err(fault) => assert!(rt; fault.number() == 0),
+fn number_of(made: Result<Rule, RuleFault>) -> u8 {
+    match made {
+        Ok(_rule) => 0,
+        Err(fault) => fault.number(),
     }
-    Ok(())
 }
 
-#[test]
-fn sides_have_the_same_names(rt: HostRuntime) -> Mem<()> {
-    let alloc = rt.alloc();
-    let rule = rule_of(alloc, tied(alloc)?, Vec::new(alloc))?;
-    assert!(rt; rule.err().map(|fault| fault.number()) == Some(47));
-    Ok(())
-}
-
-#[test]
-fn a_map_leads_to_sites(rt: HostRuntime) -> Mem<()> {
-    let alloc = rt.alloc();
-    let beyond = rule_of(alloc, room(alloc)?, vec![in alloc; 1]?)?;
-    assert!(rt; beyond.err() == Some(RuleFault::BadMap));
-    let short = rule_of(alloc, room(alloc)?, Vec::new(alloc))?;
-    assert!(rt; short.err() == Some(RuleFault::BadMap));
-    Ok(())
-}
-
-/// The host that is one node, with that number.
-#[tactic(auto, unfolding(bg_base::specs::Elementary::atom))]
-fn host_of(alloc: Global, node: u32) -> Mem<Host> {
-    if node >= 2_147_483_648 {
-        return Err(OutOfMemory);
-    }
-    let big = atom(alloc, A, node, &[])?;
-    Ok(Host::new(big))
-}
-
-#[test]
-fn counters_are_past_the_numbers(rt: HostRuntime) -> Mem<()> {
-    let host = host_of(rt.alloc(), 7)?.copy(rt.alloc())?;
-    assert!(rt; host.next_node() == 8);
-    assert!(rt; host.next_edge() == 0);
-    assert!(rt; host.big().nodes.len() == 1);
-    Ok(())
-}
-
-/// The system without controls, rules and predicates, with so many classes.
-fn bare_system(alloc: Global, classes: u32) -> System {
-    let init = Host::with_counters(barren(alloc), 5, 6);
-    System::new(
-        Signature::new(alloc),
-        init,
-        Rows::from_vec(Vec::new(alloc)),
-        classes,
-        Rows::from_vec(Vec::new(alloc)),
+/// The same of a rule whose redex is a room, with that reactum and that map.
+fn refusal_with(alloc: Global, reactum: Mem<Big>, entries: &[u32]) -> Mem<u8>
+    requires valid { IfOk reactum IsValid }
+    requires numbered { IfOk reactum IsNumberedFromZero }
+{
+    refusal_of(
+        alloc,
+        label(alloc, "r"),
+        room_pattern(alloc),
+        reactum,
+        map_of(alloc, entries),
     )
 }
 
 #[test]
-fn a_system_keeps_its_parts(rt: HostRuntime) -> Mem<()> {
-    let system = bare_system(rt.alloc(), 3);
-    assert!(rt; system.classes() == 3);
-    assert!(rt; system.init().next_edge() == 6);
-    assert!(rt; system.signature().len() == 0);
-    assert!(rt; system.rules().len() + system.preds().len() == 0);
+fn sides_have_the_same_names_and_a_map_leads_to_sites(rt: HostRuntime) -> Mem<()> {
+    let alloc = rt.alloc();
+    assert!(rt; refusal_with(alloc, room(alloc), &[0])? == 0);
+    assert!(rt; refusal_with(alloc, tied(alloc), &[])? == 47);
+    assert!(rt; refusal_with(alloc, room(alloc), &[1])? == 48);
+    assert!(rt; refusal_with(alloc, room(alloc), &[])? == 48);
     Ok(())
 }

@@ -1,8 +1,6 @@
-//! What only calls show of conditions: the pieces at an occurrence, verdicts, and that both ways of asking agree.
+//! What only calls show of conditions: verdicts on steps, the first class, whether a rule is enabled, the pieces of a host.
 #![tactic(auto)]
 
-#[cfg(test)]
-mod alike;
 #[cfg(test)]
 mod models;
 #[cfg(test)]

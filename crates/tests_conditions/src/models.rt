@@ -1,19 +1,26 @@
 //! Systems of models, and steps.
 use bg_base::Step;
-use bg_elab::{ModelFault, read};
+use bg_elab::read;
 use bg_lists::{Mem, OutOfMemory, Rows};
-use bg_rules::System;
+use bg_rules::{Rule, System};
 use std::alloc::Global;
-use std::process::Abort;
 
-/// The system that the text describes.
-pub(crate) fn system_of(rt: &impl Abort, alloc: Global, text: &str) -> Mem<System> {
-    let bytes = text.as_bytes();
-    assert!(rt; bytes.len() < 1_000_000);
-    match read(alloc, bytes) {
+/// The system that the text describes. A text that describes none ends the test as want of memory does.
+pub(crate) fn system_of(alloc: Global, text: &str) -> Mem<System> {
+    if text.len() > 1_000 {
+        return Err(OutOfMemory);
+    }
+    match read(alloc, text.as_bytes()) {
         Ok(system) => Ok(system),
-        Err(ModelFault::OutOfMemory) => Err(OutOfMemory),
-        Err(ModelFault::Bad { .. }) => panic!(rt; "a model is refused"),
+        Err(_fault) => Err(OutOfMemory),
+    }
+}
+
+/// The system's first rule.
+pub(crate) fn first_rule(system: &System) -> Mem<&Rule> {
+    match system.rules().first() {
+        Some(rule) => Ok(rule),
+        None => Err(OutOfMemory),
     }
 }
 

@@ -1,34 +1,10 @@
-//! What is said of steps, and which steps are legal.
+//! What is said of steps, and the first class. Legal steps are shown by `run`.
 use crate::models::{step_of, system_of};
 use bg_base::Step;
-use bg_cond::{Verdict, first_class, judge, steps};
+use bg_cond::{Verdict, first_class, judge};
 use bg_lists::Mem;
+use bg_rules::System;
 use std::alloc::Global;
-use std::process::Abort;
-
-/// A step by its rule and its nodes.
-#[derive(Clone, Copy)]
-struct At(u32, &'static [u32]);
-
-/// A model, the step that is asked for, what is said of it, the first class, and the legal steps.
-#[derive(Clone, Copy)]
-struct Case {
-    model: &'static str,
-    step: At,
-    verdict: Said,
-    class: Option<u32>,
-    legal: &'static [At],
-}
-
-/// A verdict.
-#[derive(Clone, Copy)]
-enum Said {
-    Legal,
-    NoRule,
-    NotEmbedding,
-    ConditionFails(u32),
-    HigherClass(At),
-}
 
 /// A guard in the context, or in the parameter, or nowhere.
 const GUARD_BESIDE: &str = "ctrl Box = 0; atomic ctrl Guard = 0; big s = Box.1 | Guard;
@@ -55,147 +31,77 @@ react r = Box.id --> Box.id if A in param, B in param, !B in ctx; begin brs init
 const NOTHING_INSIDE: &str = "atomic ctrl A = 0; big s = A | A;
 react r = A --> A if !A in param; react q = A --> A if A in param; begin brs init s; rules = [ {r, q} ]; end";
 
-const CASES: [Case; 10] = [
-    Case {
-        model: GUARD_BESIDE,
-        step: At(0, &[0]),
-        verdict: Said::ConditionFails(0),
-        class: None,
-        legal: &[],
-    },
-    Case {
-        model: GUARD_INSIDE,
-        step: At(0, &[0]),
-        verdict: Said::Legal,
-        class: Some(0),
-        legal: &[At(0, &[0])],
-    },
-    Case {
-        model: GUARD_INSIDE,
-        step: At(0, &[1]),
-        verdict: Said::NotEmbedding,
-        class: Some(0),
-        legal: &[At(0, &[0])],
-    },
-    Case {
-        model: GUARD_INSIDE,
-        step: At(1, &[0]),
-        verdict: Said::NoRule,
-        class: Some(0),
-        legal: &[At(0, &[0])],
-    },
-    Case {
-        model: SECOND_CLASS,
-        step: At(0, &[0]),
-        verdict: Said::ConditionFails(0),
-        class: Some(1),
-        legal: &[At(1, &[0])],
-    },
-    Case {
-        model: SECOND_CLASS,
-        step: At(1, &[0]),
-        verdict: Said::Legal,
-        class: Some(1),
-        legal: &[At(1, &[0])],
-    },
-    Case {
-        model: FIRST_CLASS,
-        step: At(1, &[2]),
-        verdict: Said::HigherClass(At(0, &[0])),
-        class: Some(0),
-        legal: &[At(0, &[0])],
-    },
-    Case {
-        model: THIRD_FAILS_TOO,
-        step: At(0, &[0]),
-        verdict: Said::ConditionFails(1),
-        class: None,
-        legal: &[],
-    },
-    Case {
-        model: NOTHING_INSIDE,
-        step: At(1, &[0]),
-        verdict: Said::ConditionFails(0),
-        class: Some(0),
-        legal: &[At(0, &[0]), At(0, &[1])],
-    },
-    Case {
-        model: NOTHING_INSIDE,
-        step: At(0, &[1, 1]),
-        verdict: Said::NotEmbedding,
-        class: Some(0),
-        legal: &[At(0, &[0]), At(0, &[1])],
-    },
+/// What is said of a step.
+#[derive(Clone, Copy, PartialEq, Eq)]
+enum Said {
+    Legal,
+    NoRule,
+    NotEmbedding,
+    ConditionFails(u32),
+    /// The rule and the one node of the first legal step.
+    HigherClass(u32, u32),
+}
+
+/// A model, a step by its rule and its nodes, what is said of it, and the first class.
+const CASES: [(&str, u32, &[u32], Said, Option<u32>); 10] = [
+    (GUARD_BESIDE, 0, &[0], Said::ConditionFails(0), None),
+    (GUARD_INSIDE, 0, &[0], Said::Legal, Some(0)),
+    (GUARD_INSIDE, 0, &[1], Said::NotEmbedding, Some(0)),
+    (GUARD_INSIDE, 1, &[0], Said::NoRule, Some(0)),
+    (SECOND_CLASS, 0, &[0], Said::ConditionFails(0), Some(1)),
+    (SECOND_CLASS, 1, &[0], Said::Legal, Some(1)),
+    (FIRST_CLASS, 1, &[2], Said::HigherClass(0, 0), Some(0)),
+    (THIRD_FAILS_TOO, 0, &[0], Said::ConditionFails(1), None),
+    (NOTHING_INSIDE, 1, &[0], Said::ConditionFails(0), Some(0)),
+    (NOTHING_INSIDE, 0, &[1, 1], Said::NotEmbedding, Some(0)),
 ];
 
-/// The step is that one.
-fn is_at(step: &Step, wanted: At) -> bool {
-    step.rule == wanted.0 && step.map.as_slice() == wanted.1
-}
-
-/// The verdict says that.
-fn is_said(verdict: &Verdict, said: Said) -> bool {
-    match (verdict, said) {
-        (Verdict::Legal, Said::Legal) => true,
-        (Verdict::NoRule, Said::NoRule) => true,
-        (Verdict::NotEmbedding, Said::NotEmbedding) => true,
-        (Verdict::ConditionFails { number }, Said::ConditionFails(wanted)) => *number == wanted,
-        (Verdict::HigherClass { step }, Said::HigherClass(wanted)) => is_at(step, wanted),
-        _ => false,
+/// What the verdict says.
+fn said_by(verdict: &Verdict) -> Said {
+    match verdict {
+        Verdict::Legal => Said::Legal,
+        Verdict::NoRule => Said::NoRule,
+        Verdict::NotEmbedding => Said::NotEmbedding,
+        Verdict::ConditionFails { number } => Said::ConditionFails(*number),
+        Verdict::HigherClass { step } => match step.map.as_slice() {
+            [node] => Said::HigherClass(step.rule, *node),
+            _ => Said::NoRule,
+        },
     }
 }
 
-/// The steps are these.
-fn are_at(found: &[Step], wanted: &[At]) -> bool {
-    found.len() == wanted.len()
-        && found
-            .iter()
-            .zip(wanted.iter())
-            .all(|(step, at)| is_at(step, *at))
+/// What is said of the step.
+fn said_of(alloc: Global, system: &System, step: &Step) -> Mem<Said> {
+    let verdict = judge(alloc, system.init(), system, step)?;
+    Ok(said_by(&verdict))
 }
 
-/// The step of the case has its verdict.
-fn try_verdict(rt: &impl Abort, alloc: Global, case: &Case) -> Mem<()> {
-    let system = system_of(rt, alloc, case.model)?;
-    let step = step_of(alloc, case.step.0, case.step.1)?;
-    let verdict = judge(alloc, system.init(), &system, &step)?;
-    assert!(rt; is_said(&verdict, case.verdict));
-    Ok(())
+/// The same of the step of the rule at the nodes.
+fn said_at(alloc: Global, system: &System, rule: u32, nodes: &[u32]) -> Mem<Said> {
+    let step = step_of(alloc, rule, nodes)?;
+    said_of(alloc, system, &step)
 }
 
-/// The first class and the legal steps are those of the case.
-fn try_steps(rt: &impl Abort, alloc: Global, case: &Case) -> Mem<()> {
-    let system = system_of(rt, alloc, case.model)?;
-    assert!(rt; first_class(alloc, system.init(), &system)? == case.class);
-    let found = steps(alloc, system.init(), &system, 100)?;
-    assert!(rt; are_at(found.as_slice(), case.legal));
-    Ok(())
+/// What is said of the step, and the first class.
+fn judged(alloc: Global, system: &System, rule: u32, nodes: &[u32]) -> Mem<(Said, Option<u32>)> {
+    let class = first_class(alloc, system.init(), system)?;
+    let said = said_at(alloc, system, rule, nodes)?;
+    Ok((said, class))
 }
 
-/// Each case holds.
-fn try_all(rt: &impl Abort, alloc: Global, cases: &[Case]) -> Mem<()> {
-    for case in cases {
-        try_verdict(rt, alloc, case)?;
-        try_steps(rt, alloc, case)?;
-    }
-    Ok(())
+/// The same in the model's system.
+fn judged_in(alloc: Global, model: &str, rule: u32, nodes: &[u32]) -> Mem<(Said, Option<u32>)> {
+    let system = system_of(alloc, model)?;
+    judged(alloc, &system, rule, nodes)
 }
 
 #[test]
 fn steps_have_the_verdict_of_the_first_reason_against_them(rt: HostRuntime) -> Mem<()> {
-    try_all(&rt, rt.alloc(), &CASES)
-}
-
-/// As many steps come as are asked for.
-fn try_most(rt: &impl Abort, alloc: Global, model: &str, most: u32) -> Mem<()> {
-    let system = system_of(rt, alloc, model)?;
-    let found = steps(alloc, system.init(), &system, most)?;
-    assert!(rt; found.len() == most as usize);
+    for &(model, rule, nodes, said, class) in CASES.iter() {
+        assert!(rt;
+            judged_in(rt.alloc(), model, rule, nodes)? == (said, class),
+            "{model}"
+        );
+    }
     Ok(())
-}
-
-#[test]
-fn as_many_steps_come_as_are_asked_for(rt: HostRuntime) -> Mem<()> {
-    try_most(&rt, rt.alloc(), NOTHING_INSIDE, 0)?;
-    try_most(&rt, rt.alloc(), NOTHING_INSIDE, 1)
 }

@@ -1,40 +1,15 @@
--- What the tests want of small lists: numbers from 0, and room for the copies of a small parameter.
-use Rattle.std.proofs.Common.{◌≡◌, ℕ, ◌+◌, ◌*◌, ◌<◌, ◌≤◌, ◌^◌, List, [], ◌∷◌, length, slice_index_or, get_or, filter, refl, ap, arith}
+-- What the tests want: room for the copies of a small parameter, and hosts with higher counters.
+use Rattle.std.proofs.Common.{◌≡◌, ℕ, ◌+◌, ◌*◌, ◌<◌, ◌≤◌, ◌^◌, List, [], ◌∷◌, length, filter, arith, sym, subst}
 use Rattle.bg_lists.proofs.Words.{length-filter}
 use Rattle.bg_base.specs.declared.names.Place.TheVariants.{Node}
 use Rattle.bg_base.specs.declared.big.NodeRow.{NodeRow}
 use Rattle.bg_base.specs.declared.big.Big.{Big}
-use Rattle.bg_base.specs.Elementary.{counted}
-use Rattle.bg_base.specs.Translation.{node_numbers}
+use Rattle.bg_rules.specs.Hosts.{IsHost}
 use Rattle.bg_rules.specs.Instantiation.{part, next_after}
+use Rattle.bg_rules.specs.Reaction.{HostState}
 use Rattle.bg_rules.proofs.ParameterParts.{is_in_part}
 use Rattle.bg_react.specs.Counting.{copied_nodes}
 use Rattle.bg_react.proofs.CopiedNodes.{copied_none, copied_cons, late-copied}
-
--- ---- no number, or 0
-
-pub no_number : (numbers : List ℕ) → length numbers < 1 → numbers ≡ counted 0 (length numbers)
-unfolding counted
-no_number [] few = refl
-no_number (number ∷ numbers) few = absurd (omega (arith, few))
-
-pub one_number : (numbers : List ℕ) → 1 ≤ length numbers → length numbers < 2 → slice_index_or numbers 0 0 ≡ 0 → numbers ≡ counted 0 (length numbers)
-unfolding counted
-one_number [] some few e = absurd (omega (arith, some))
-one_number (number ∷ []) some few e = ap (λ n. n ∷ []) e
-one_number (number ∷ other ∷ numbers) some few e = absurd (omega (arith, few))
-
-pub no_row : (rows : List NodeRow) → length rows < 1 → node_numbers rows ≡ counted 0 (length rows)
-unfolding counted
-no_row [] few = refl
-no_row (row ∷ rows) few = absurd (omega (arith, few))
-
-pub one_row : (rows : List NodeRow) (other : NodeRow) → 1 ≤ length rows → length rows < 2 → (get_or rows 0 other).id ≡ 0
-    → node_numbers rows ≡ counted 0 (length rows)
-unfolding counted
-one_row [] other some few e = absurd (omega (arith, some))
-one_row (row ∷ []) other some few e = ap (λ n. n ∷ []) e
-one_row (row ∷ next ∷ rows) other some few e = absurd (omega (arith, few))
 
 -- ---- few copies of few nodes
 
@@ -57,3 +32,24 @@ room_for_few parameter entries next few short small =
     let late = late-copied parameter [] entries in
     let copied = copied_few parameter entries few in
     omega (arith, late, copied, short, small)
+
+-- ---- higher counters
+
+pub with_higher_counters : (host : HostState) (big : Big) (next_node next_edge : ℕ) → big ≡ host.big → IsHost host → host.next_node ≤ next_node
+    → host.next_edge ≤ next_edge → next_node ≤ 2147483648 → next_edge ≤ 2147483648
+    → IsHost (record { big = big; next_node = next_node; next_edge = next_edge })
+with_higher_counters host big next_node next_edge same is nodes edges few_nodes few_edges =
+    subst (λ (other : Big). IsHost (record { big = other; next_node = next_node; next_edge = next_edge })) (sym same)
+    (record {
+      fits = is.fits;
+      numbered = record {
+        ground = is.fits.ground;
+        nodes_below = λ k d below. let less = is.numbered.nodes_below k d below in omega (arith, less, nodes);
+        edges_below = λ k d below. let less = is.numbered.edges_below k d below in omega (arith, less, edges);
+      };
+      within = record {
+        few_nodes = is.within.few_nodes;
+        few_edges = is.within.few_edges;
+        counters_small = record { next_node_small = few_nodes; next_edge_small = few_edges };
+      };
+    })

@@ -1,4 +1,5 @@
-//! What only calls show of occurrences and reactions: maps that no command makes, walks, decompositions, reactions.
+//! What only calls show of occurrences and reactions: maps that no command makes, walks, decompositions that are joined
+//! again, instances, counters near their limit.
 #![tactic(auto)]
 
 #[cfg(test)]
@@ -6,6 +7,6 @@ mod decompositions;
 #[cfg(test)]
 mod embeddings;
 #[cfg(test)]
-mod listed;
+mod models;
 #[cfg(test)]
 mod reactions;

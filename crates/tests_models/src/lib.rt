@@ -1,12 +1,7 @@
-//! What only calls show of models: names, the code of an expression, the spaces of names, choices of values, the place
-//! of a refusal, and a system that is read and written.
+//! What only calls show of models: tables of names, a number without digits, choices of values past their end.
 #![tactic(auto)]
 
 #[cfg(test)]
-mod code;
-#[cfg(test)]
-mod elaboration;
-#[cfg(test)]
-mod statements;
+mod choices;
 #[cfg(test)]
 mod values;

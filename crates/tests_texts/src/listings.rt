@@ -1,54 +1,6 @@
-use bg_base::{Big, CheckFault, Signature};
-use bg_listing::*;
+use bg_listing::{read_label, read_number, write_label, write_number};
+use bg_lists::Mem;
 use std::alloc::Global;
-
-const START: Cursor = Cursor { offset: 0, line: 1 };
-
-/// A signature, and `A` with a site in it.
-const ONE_BIGRAPH: &str = "signature 2\nA 0 normal\nB 0 atomic\n\
-    bigraph 1\nsites 1\nn0\ninner 0\nouter 0\nedges 0\nnodes 1\n0 A r0\n";
-
-/// Every spelling of a listing, one after the other.
-const SPELLINGS: &str =
-    "signature 5\nK 0 normal\nK(3) 2 normal\nK(-9223372036854775808,\"a, b) \",\"\") 0 atomic\nRoom'_2 16 normal\nAgent 4 atomic\n\
-    bigraph 3\nsites 2\nn4\nr2\ninner 3\nx =y'_A1\n@2.0 #1\n@10.0 =@0.1\nouter 4\ny'_A1\n@0.1\n@2147483647.0\n~5\n\
-    edges 2\n1\n2147483647\nnodes 3\n1 K r0\n4 K(3) n1 #1 =~5\n7 Agent n4 #2147483647 =y'_A1 =@0.1 #1\n";
-
-/// The signature and the bigraph of a text, one after the other, and the cursor behind them.
-fn read_both(alloc: Global, text: &[u8]) -> Result<(Signature, Big, Cursor), ListingFault> {
-    if text.len() > 1_000_000 {
-        return Err(ListingFault::OutOfMemory);
-    }
-    let (signature, at) = read_signature(alloc, text, START)?;
-    let (big, end) = read_big(alloc, text, at, &signature)?;
-    Ok((signature, big, end))
-}
-
-/// The listing of a signature and of a bigraph, where it is valid under the signature.
-fn written(alloc: Global, signature: &Signature, big: &Big) -> Result<Vec<u8>, ListingFault> {
-    let mut written = Vec::new(alloc);
-    write_signature(alloc, signature, &mut written)?;
-    match big.check(alloc, signature) {
-        Ok(()) => write_big(alloc, signature, big, &mut written)?,
-        Err(CheckFault::Malformed { .. }) => {}
-        Err(CheckFault::OutOfMemory) => return Err(ListingFault::OutOfMemory),
-    }
-    Ok(written)
-}
-
-/// Texts that are read to their end, and the line behind it.
-const READ: [(&str, u32); 2] = [(SPELLINGS, 27), (ONE_BIGRAPH, 12)];
-
-#[test]
-fn writes_what_it_reads(rt: HostRuntime) -> Result<(), ListingFault> {
-    for &(text, line) in READ.iter() {
-        let (signature, big, end) = read_both(rt.alloc(), text.as_bytes())?;
-        assert!(rt; end.offset as usize == text.len());
-        assert!(rt; end.line == line);
-        assert!(rt; written(rt.alloc(), &signature, &big)?.as_slice() == text.as_bytes());
-    }
-    Ok(())
-}
 
 /// Texts, and the labels that they begin with.
 const LABELS: [(&str, &str); 12] = [
@@ -66,9 +18,8 @@ const LABELS: [(&str, &str); 12] = [
     ("K(3 )", "K"),
 ];
 
-/// The label that the text begins with, as it is written, where as many bytes of the text were read; none where the
-/// text begins with none.
-fn label_in(alloc: Global, text: &str) -> Result<Option<Vec<u8>>, ListingFault> {
+/// The label that the text begins with, as it is written, and how many bytes of the text were read.
+fn label_in(alloc: Global, text: &str) -> Mem<Option<(Vec<u8>, u32)>> {
     if text.len() > 1_000 {
         return Ok(None);
     }
@@ -77,24 +28,29 @@ fn label_in(alloc: Global, text: &str) -> Result<Option<Vec<u8>>, ListingFault> 
     };
     let mut written = Vec::new(alloc);
     write_label(alloc, &label, &mut written)?;
-    if written.len() == end as usize {
-        Ok(Some(written))
-    } else {
-        Ok(None)
+    Ok(Some((written, end)))
+}
+
+/// Whether the text begins with that label, and as many bytes were read as it has.
+fn begins_with(alloc: Global, text: &str, label: &str) -> Mem<bool> {
+    match label_in(alloc, text)? {
+        Some((written, end)) => {
+            Ok(written.as_slice() == label.as_bytes() && end as usize == label.len())
+        }
+        None => Ok(false),
     }
 }
 
 #[test]
-fn reads_the_longest_label(rt: HostRuntime) -> Result<(), ListingFault> {
+fn reads_the_longest_label(rt: HostRuntime) -> Mem<()> {
     for &(text, label) in LABELS.iter() {
-        let written = label_in(rt.alloc(), text)?.expect(&rt, "a label");
-        assert!(rt; written.as_slice() == label.as_bytes(), "{text}");
+        assert!(rt; begins_with(rt.alloc(), text, label)?, "{text}");
     }
     Ok(())
 }
 
 #[test]
-fn reads_no_label(rt: HostRuntime) -> Result<(), ListingFault> {
+fn reads_no_label(rt: HostRuntime) -> Mem<()> {
     for &text in ["", "k", "3", "'K", "(3)"].iter() {
         assert!(rt; label_in(rt.alloc(), text)?.is_none(), "{text}");
     }
@@ -124,10 +80,9 @@ fn reads_numbers(rt: HostRuntime) {
 }
 
 #[test]
-fn writes_numbers(rt: HostRuntime) -> Result<(), ListingFault> {
+fn writes_the_largest_number(rt: HostRuntime) -> Mem<()> {
     let mut written = Vec::new(rt.alloc());
     write_number(rt.alloc(), 4294967295, &mut written)?;
-    write_number(rt.alloc(), 0, &mut written)?;
-    assert!(rt; written.as_slice() == b"42949672950".as_slice());
+    assert!(rt; written.as_slice() == b"4294967295".as_slice());
     Ok(())
 }
