@@ -1,5 +1,13 @@
-//! What only calls show of the history that threads share.
+//! Tests of hosts that threads share: their history, the host behind the lock, workers, and runs.
 #![tactic(auto)]
 
 #[cfg(test)]
+mod boards;
+#[cfg(test)]
 mod histories;
+#[cfg(test)]
+mod hosts;
+#[cfg(test)]
+mod meeting;
+#[cfg(test)]
+mod models;
