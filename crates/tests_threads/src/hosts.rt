@@ -6,7 +6,7 @@ ghost use Rattle.bg_cond.specs.Steps.{IsLegal};
 ghost use Rattle.bg_shared.specs.Shared.{OfTable};
 
 use crate::models::{Model, step_of, system_of};
-use bg_base::Entry;
+use bg_base::{Entry, Journal};
 use bg_cond::{Closed, Commit, Found, HostName, Verdict, View, judge};
 use bg_lists::Mem;
 use bg_rules::System;
@@ -98,11 +98,11 @@ struct Answers {
     version: u32,
 }
 
-/// What two passes are answered, and what is left of their host.
+/// What two passes are answered, and the journal that is left of their host.
 #[derive(Drop)]
 struct Met {
     answers: Answers,
-    closed: Closed,
+    journal: Journal,
 }
 
 /// Both find a step, and then both commit; nothing where a step is not legal.
@@ -179,8 +179,13 @@ fn close_after<N: HostName, R: Wait>(
     };
     passes.push(zero)?;
     passes.push(one)?;
-    let closed = host.close(passes)?;
-    Ok(Some(Met { answers, closed }))
+    let journal = journal_of(host.close(passes)?);
+    Ok(Some(Met { answers, journal }))
+}
+
+/// The journal alone.
+fn journal_of(closed: Closed) -> Journal {
+    closed.journal
 }
 
 /// Two passes on the building, on which so many entries may be.
@@ -197,30 +202,40 @@ fn is_entry(entry: &Entry, worker: u32, rule: u32, nodes: &[u32]) -> bool {
     entry.worker == worker && entry.rule == rule && entry.map.as_slice() == nodes
 }
 
+/// Both entries were committed, the second when it was found once more.
+fn are_two(met: &Option<Met>) -> bool {
+    let Some(Met { answers, journal }) = met else {
+        return false;
+    };
+    let entries = journal.as_slice();
+    answers.first == Commit::Done { version: 1 }
+        && answers.late == Commit::Again { version: 1 }
+        && answers.again == Some(Commit::Done { version: 2 })
+        && answers.version == 2
+        && entries.len() == 2
+        && is_entry(&entries[0], 0, 0, &[4, 1])
+        && is_entry(&entries[1], 1, 0, &[5, 2])
+}
+
 #[test]
 fn of_two_steps_that_were_found_at_one_version_one_is_committed(rt: HostRuntime) -> Mem<()> {
-    let Some(met) = meeting_at(&rt, rt.alloc(), 10)? else {
-        panic!(rt; "the steps are legal")
-    };
-    assert!(rt; met.answers.first == Commit::Done { version: 1 });
-    assert!(rt; met.answers.late == Commit::Again { version: 1 });
-    assert!(rt; met.answers.again == Some(Commit::Done { version: 2 }));
-    assert!(rt; met.answers.version == 2);
-    let journal = met.closed.journal.as_slice();
-    assert!(rt; journal.len() == 2);
-    assert!(rt; is_entry(&journal[0], 0, 0, &[4, 1]));
-    assert!(rt; is_entry(&journal[1], 1, 0, &[5, 2]));
+    let met = meeting_at(&rt, rt.alloc(), 10)?;
+    assert!(rt; are_two(&met));
     Ok(())
+}
+
+/// One entry was committed, and there is no room for another.
+fn is_one(met: &Option<Met>) -> bool {
+    let Some(Met { answers, journal }) = met else {
+        return false;
+    };
+    answers.again == Some(Commit::Spent { limit: 1 }) && answers.version == 1 && journal.len() == 1
 }
 
 #[test]
 fn a_step_past_the_limit_is_spent(rt: HostRuntime) -> Mem<()> {
-    let Some(met) = meeting_at(&rt, rt.alloc(), 1)? else {
-        panic!(rt; "the steps are legal")
-    };
-    assert!(rt; met.answers.again == Some(Commit::Spent { limit: 1 }));
-    assert!(rt; met.answers.version == 1);
-    assert!(rt; met.closed.journal.len() == 1);
+    let met = meeting_at(&rt, rt.alloc(), 1)?;
+    assert!(rt; is_one(&met));
     Ok(())
 }
 
