@@ -13,7 +13,9 @@ use Rattle.bg_lists.specs.Lists.{Mem, here, there}
 use Rattle.bg_rules.specs.Hosts.{IsHost}
 use Rattle.bg_rules.specs.Reaction.{HostState}
 use Rattle.bg_rules.specs.Systems.{SystemParts, IsSystem}
-use Rattle.bg_runs.specs.Finished.{IsFinished, CameFrom}
+use Rattle.bg_cond.specs.declared.commits.Closed.{Closed}
+use Rattle.bg_runs.specs.Finished.{IsFinished, IsDrawnOn, CameFrom}
+use Rattle.bg_runs.specs.declared.finishing.FinishedRun.{FinishedRun}
 use Rattle.bg_seats.proofs.Histories.{grown_whole, own_before, alone}
 use Rattle.bg_seats.specs.Histories.{Grows, WorkersBelow}
 use Rattle.bg_shared.specs.Shared.{IsHistory}
@@ -88,7 +90,7 @@ module _ (system : SystemParts) (is : IsSystem system) (most workers seed : ℕ)
   still state (Full version step) right other = absurd (other version step refl right.number)
 
   -- the calling thread has gone on as worker 0
-  pub drawn_finished : (ended : Ended) → CameFrom system most seed journal ended
+  drawn_finished : (ended : Ended) → CameFrom system most seed journal ended
       → ((version : ℕ) (step : Step) → ended ≡ Full version step → version ≢ length journal) → 0 < workers
       → (state : Lcg) (rest all : List Entry) (end : End) (after : HostState) → Draws system.rules 0 (most - length journal) host state rest end after
       → all ≡ journal ++ rest → (left : SystemParts) → left ≡ system
@@ -111,6 +113,11 @@ module _ (system : SystemParts) (is : IsSystem system) (most workers seed : ℕ)
         (subst (λ (h : HostState). Draws system.rules 0 most system.init (seeded seed 0) journal (end_of ended) h) same.2 (drawn_here ended came whole one)));
   }
 
--- the end is not of this version
-pub other_version : (one other : ℕ) (step twin : Step) (ended : Ended) (count : ℕ) → ended ≡ Full one step → one ≢ count → ended ≡ Full other twin → other ≢ count
-other_version one other step twin ended count e not f = λ same. let equal : one ≡ other = cc in not (equal ∙ same)
+-- what is drawn on is finished
+pub drawn_on_finished : (closed : Closed) (most workers seed : ℕ) → IsSystem closed.system → IsRun closed.system.rules closed.system.init closed.journal closed.host
+    → IsHistory closed.system most workers closed.journal → (ended : Ended) → CameFrom closed.system most seed closed.journal ended
+    → ((version : ℕ) (step : Step) → ended ≡ Full version step → version ≢ length closed.journal) → 0 < workers → (state : Lcg) (run : FinishedRun)
+    → IsDrawnOn closed most state run → IsFinished closed.system most workers seed run
+drawn_on_finished closed most workers seed is ran history ended came other some state run drawn =
+    drawn_finished closed.system is most workers seed closed.journal closed.host ran history ended came other some state drawn.rest run.journal run.end run.host
+    drawn.drawn drawn.appended run.system drawn.same

@@ -1,14 +1,16 @@
 -- Runs by workers that were finished on the calling thread.
-use Rattle.std.specs.Prelude.{◌≡◌, ℕ, List}
+use Rattle.std.specs.Prelude.{◌≡◌, ℕ, ◌-◌, List, ◌++◌, length}
 use Rattle.bg_base.specs.declared.history.Entry.{Entry}
 use Rattle.bg_cond.specs.Drawn.{Draws, IsEndOf}
 use Rattle.bg_cond.specs.Picks.{seeded}
 use Rattle.bg_cond.specs.Steps.{IsRun}
+use Rattle.bg_cond.specs.declared.commits.Closed.{Closed}
 use Rattle.bg_rules.specs.Systems.{SystemParts}
 use Rattle.bg_runs.specs.declared.finishing.FinishedRun.{FinishedRun}
 use Rattle.bg_seats.specs.Histories.{Grows, WorkersBelow}
 use Rattle.bg_workers.specs.Working.{IsEnded, IsOwn, IsDrawn}
 use Rattle.bg_workers.specs.declared.ends.Ended.{Ended}
+use Rattle.rand_pcg.specs.Lcg.{Lcg}
 
 -- what was run is a run of the system by so many workers, of at most so many entries, with its end; with one worker it is the
 -- run that the seed draws
@@ -25,3 +27,10 @@ pub record CameFrom (system : SystemParts) (limit seed : ℕ) (journal : List En
   pub grows : Grows 0 seen journal
   pub right : IsEnded system limit seen ended
   pub drawn : IsOwn 0 seen → IsDrawn system limit 0 (seeded seed 0) seen ended
+
+-- the run goes on from what is closed, to so many entries at most, with the words of the generator from that state on
+pub record IsDrawnOn (closed : Closed) (limit : ℕ) (state : Lcg) (run : FinishedRun) : Type 0 where
+  pub same : run.system ≡ closed.system
+  pub rest : List Entry
+  pub drawn : Draws closed.system.rules 0 (limit - length closed.journal) closed.host state rest run.end run.host
+  pub appended : run.journal ≡ closed.journal ++ rest

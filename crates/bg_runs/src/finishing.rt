@@ -1,11 +1,14 @@
 //! How a run is finished on the calling thread.
-ghost use Rattle.std.specs.Prelude.{◌≡◌, ◌≤◌, ◌<◌, ◌++◌, length, IfOk};
+ghost use Rattle.std.specs.Prelude.{◌≡◌, ◌≢◌, ◌≤◌, ◌<◌, ◌++◌, ℕ, length, IfOk, MatchOption};
 ghost use Rattle.bg_base.specs.Limits.{most_steps};
+ghost use Rattle.bg_base.specs.declared.history.Step.{Step as StepValue};
 ghost use Rattle.bg_cond.specs.Steps.{IsRun};
-ghost use Rattle.bg_runs.specs.Finished.{CameFrom, IsFinished};
+ghost use Rattle.bg_cond.specs.declared.ending.End.TheVariants as run_end;
+ghost use Rattle.bg_runs.specs.Finished.{CameFrom, IsDrawnOn, IsFinished};
 ghost use Rattle.bg_shared.specs.Shared.{IsHistory};
+ghost use Rattle.bg_workers.specs.declared.ends.Ended.TheVariants.{Full};
 
-use bg_base::{Entry, Journal};
+use bg_base::{Journal, Step};
 use bg_cond::{Closed, End};
 use bg_lists::{Mem, Rows};
 use bg_rules::{Host, System};
@@ -28,7 +31,7 @@ pub struct FinishedRun {
 pub(crate) fn finish(
     alloc: Global,
     closed: Closed,
-    mut picker: Picker,
+    picker: Picker,
     ended: Ended,
     limit: u32,
     workers: u32,
@@ -43,44 +46,80 @@ pub(crate) fn finish(
 {
     // These two are named by contracts alone.
     let _ = (workers, seed);
+    let _signature = closed.system.signature();
+    match full_at(ended, closed.journal.len()) {
+        Some(step) => Ok(ended_full(closed, step)),
+        None => {
+            let run = drawn_on(alloc, closed, picker, limit)?;
+            Ok(run)
+        }
+    }
+}
+
+/// The step whose result passes a limit, where the worker found one after so many entries.
+fn full_at(ended: Ended, count: u32) -> Option<Step>
+    ensures { MatchOption result ((version : ℕ) (step : StepValue) → ended ≡ Full version step → version ≢ count) (λ step. ended ≡ Full count step) }
+{
+    if let Ended::Full { version, step } = ended {
+        if version == count {
+            return Some(step);
+        }
+    }
+    None
+}
+
+/// The run that ends with that step.
+fn ended_full(closed: Closed, step: Step) -> FinishedRun
+    ensures { result ≡ record { system = closed.system; journal = closed.journal; end = run_end.Full step; host = closed.host } }
+{
     let Closed {
         system,
         host,
         journal,
     } = closed;
-    let _signature = system.signature();
-    let count = journal.len();
-    if let Ended::Full { version, step } = ended {
-        if version == count {
-            return Ok(FinishedRun {
-                system,
-                journal,
-                end: End::Full { step },
-                host,
-            });
-        }
+    FinishedRun {
+        system,
+        journal,
+        end: End::Full { step },
+        host,
     }
-    let rest = draw(alloc, &system, host, limit - count, &mut picker)?;
+}
+
+/// Worker 0 goes on drawing, until there are so many entries at most.
+fn drawn_on(alloc: Global, closed: Closed, mut picker: Picker, limit: u32) -> Mem<FinishedRun>
+    requires limit { limit ≤ most_steps }
+    requires few { length closed.journal ≤ limit }
+    ensures { IfOk result (λ run. IsDrawnOn closed limit picker run) }
+{
+    let Closed {
+        system,
+        host,
+        journal,
+    } = closed;
+    let room = limit - journal.len();
+    let rest = draw(alloc, &system, host, room, &mut picker)?;
     let DrawnRun {
         journal: more,
         end,
         host,
     } = rest;
-    let journal = joined(journal.into_vec(), more.into_vec())?;
+    let journal = joined(journal, more)?;
     Ok(FinishedRun {
         system,
-        journal: Rows::try_from_vec(journal)?,
+        journal,
         end,
         host,
     })
 }
 
 /// The entries of both, one behind the other.
-fn joined(mut entries: Vec<Entry>, more: Vec<Entry>) -> Mem<Vec<Entry>>
-    ensures { IfOk result (λ all. all.items ≡ entries.items ++ more.items) }
+fn joined(journal: Journal, more: Journal) -> Mem<Journal>
+    ensures { IfOk result (λ all. all ≡ journal ++ more) }
 {
-    for entry in more {
+    let mut entries = journal.into_vec();
+    for entry in more.into_vec() {
         entries.push(entry)?;
     }
-    Ok(entries)
+    let all = Rows::try_from_vec(entries)?;
+    Ok(all)
 }

@@ -3,4 +3,4 @@ use Rattle.bg_runs.proofs.finishing.joined.Given as goal
 
 -- those so far stand behind the first ones
 abbrev pub invariant-loop-entry : goal.invariant-loop-entry
-invariant-loop-entry l = l.entries.items ≡ l.fn.entries.items ++ l.yielded
+invariant-loop-entry l = l.entries.items ≡ l.fn.journal ++ l.yielded
