@@ -1,7 +1,8 @@
-"""The cases made by hand: models, listings and words."""
+"""The cases made by hand: models, runs, listings and words."""
 from .model_cases import EMPTY_BLOCK, entries, model_cases
 from .mutations import listing_bytes
 from .rows import EMPTY, listing
+from .run_cases import run_cases
 
 SMALL = ['signature 2', 'A 0 normal', 'B 0 atomic', *listing(1, ['n0'], [], [], [], ['0 A r0']),
          *listing(1, [], [], [], [], ['1 B r0'])]
@@ -76,7 +77,7 @@ def listing_cases():
 
 def cases():
     """Each case: its words and its input."""
-    found = model_cases()
+    found = model_cases() + run_cases()
     found += [(['compose'], listing_bytes(lines)) for lines in listing_cases()]
     found += [(words.split(), f'big s = 1; {EMPTY_BLOCK}'.encode()) for words in WORDS]
     found += [(words, b'') for words in (['check', ''], ['', 'check'], ['check', '--most', ''], ['check', '--most', '\u0665'])]
