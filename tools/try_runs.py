@@ -19,12 +19,13 @@ import itertools
 import multiprocessing
 import pathlib
 import random
+import signal
 import subprocess
 import sys
 
 from reference.draws import run_case
-from reference.engine import engine
 from reference.judging import Wrong, judge_run
+from reference.runs import drawn_run, run_lines
 from reference.statements import system_of
 
 EXAMPLES = pathlib.Path(__file__).parents[1] / 'examples'
@@ -54,8 +55,9 @@ def judge(program, name, data, workers, steps, seed):
     if run.returncode or run.stderr:
         return f'{told}: status {run.returncode}, {text[:SHOWN]!r} {run.stderr[:SHOWN]!r}', 0, 'none'
     try:
-        judge_run(described(data), workers, steps, text)
-        if workers == 1 and engine(words, data)[1] != run.stdout:
+        system = described(data)
+        judge_run(system, workers, steps, text)
+        if workers == 1 and '\n'.join(run_lines(system, drawn_run(system, seed, steps)) + ['']) != text:
             raise Wrong('it is a run, and not the one that the seed draws')
     except Wrong as wrong:
         return f'{told}: {wrong}\n{text[:SHOWN]}', 0, 'none'
@@ -75,12 +77,9 @@ def stored_models():
 
 def random_models(chance, count):
     """The same of models made at random, with so few steps that their hosts stay small; the name is the text."""
-    while count > 0:
+    for _ in range(count):
         words, data = run_case(chance)
-        status, _ = engine(['check'], data)
-        if status == 0:
-            count -= 1
-            yield data.decode(), data, [min(int(words[2]), FEW)]
+        yield data.decode(), data, [min(int(words[2]), FEW)]
 
 
 def tasks_of(program, count, models, seed):
@@ -89,8 +88,7 @@ def tasks_of(program, count, models, seed):
     for name, data, numbers in itertools.chain(stored_models(), random_models(chance, models)):
         for workers, steps in itertools.product(WORKERS, numbers):
             seeds = FIRST_SEEDS + [chance.randrange(1 << 64) for _ in range(count)]
-            for each in seeds[:count]:
-                yield program, name, data, workers, steps, each
+            yield from ((program, name, data, workers, steps, each) for each in seeds[:count])
 
 
 def arguments():
@@ -107,7 +105,7 @@ def main():
     given = arguments()
     tried = wrong = steps = 0
     ends = collections.Counter()
-    with multiprocessing.Pool(given.jobs) as pool:
+    with multiprocessing.Pool(given.jobs, signal.signal, (signal.SIGINT, signal.SIG_IGN)) as pool:
         try:
             tasks = tasks_of(given.program, given.count, given.models, given.seed)
             for told, count, end in pool.imap_unordered(judged, tasks, chunksize=8):
