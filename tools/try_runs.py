@@ -30,7 +30,7 @@ from reference.statements import system_of
 
 EXAMPLES = pathlib.Path(__file__).parents[1] / 'examples'
 WORKERS = [1, 2, 4, 8, 64]
-STEPS = [0, 1, 2, 13, 60, 200]
+STEPS = [0, 1, 2, 13, 60, 400]
 FIRST_SEEDS = [0, 18446744073709551615]
 SECONDS = 120
 SHOWN = 3000
