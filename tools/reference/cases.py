@@ -1,7 +1,8 @@
-"""The cases made by hand: models, listings and words."""
+"""The cases made by hand: models, runs, listings and words."""
 from .model_cases import EMPTY_BLOCK, entries, model_cases
 from .mutations import listing_bytes
 from .rows import EMPTY, listing
+from .run_cases import run_cases
 
 SMALL = ['signature 2', 'A 0 normal', 'B 0 atomic', *listing(1, ['n0'], [], [], [], ['0 A r0']),
          *listing(1, [], [], [], [], ['1 B r0'])]
@@ -36,6 +37,8 @@ WORDS = ['', 'check check', '-- check', 'check --', '-- -- check', '-- check --'
          'check --steps 0', 'check --seed 18446744073709551616', 'check --seed 018446744073709551615', 'check --size 301',
          'check --most 000000000000001000000', 'check --explain --explain', 'check --explain=', 'check --help', 'check --mos 5',
          'check --most +5', 'check --most=5=6', '--most check 5', 'check -- --most 5', 'check --most --workers 5', 'run',
+         'run --workers 64', 'run --workers 0', 'run --steps 100001', 'run --seed 18446744073709551616', 'run -- --seed 1', 'run run',
+         'trial --size 0', 'trial --size 301', 'trial trial', 'trial --size 3 --workers 64 --explain',
          'Check', 'check --most 5 --workers 2 --steps 3 --seed 4 --size 5 --explain']
 ROOMS = ('ctrl Building = 0; ctrl Room = 0; atomic ctrl Agent = 1; '
          'big s = Building.(Room.1 | Room.1 | Room.1 | Agent{a} | Agent{b}); react a = Building.id --> Building.id; '
@@ -76,7 +79,7 @@ def listing_cases():
 
 def cases():
     """Each case: its words and its input."""
-    found = model_cases()
+    found = model_cases() + run_cases()
     found += [(['compose'], listing_bytes(lines)) for lines in listing_cases()]
     found += [(words.split(), f'big s = 1; {EMPTY_BLOCK}'.encode()) for words in WORDS]
     found += [(words, b'') for words in (['check', ''], ['', 'check'], ['check', '--most', ''], ['check', '--most', '\u0665'])]

@@ -1,12 +1,15 @@
-"""The four commands: exit status and standard output for some words and some input, by docs/USAGE.md."""
+"""The commands: exit status and standard output for some words and some input, by docs/USAGE.md."""
 import sys
 
 from .bigraphs import compose
+from .judging import judge_run
 from .listings import Lines, read_bigraph, read_signature
 from .occurrences import decompose, occurrences, occurrences_by_decomposition
 from .refusals import LISTING_CODES, MODEL_CODES, BadListing, Fault, Refusal
+from .runs import drawn_run, run_lines
 from .spelling import bigraph_lines, numbers_line, system_lines
 from .statements import system_of
+from .trials import trial_lines
 from .words import request_of
 
 MOST_BYTES = 8388608
@@ -21,14 +24,17 @@ class TooMany(Exception):
 
 
 def engine(words, data, checks_itself=False):
-    """The status and the bytes written. Where it checks itself, small searches are done a second way too."""
+    """The status and the bytes written; of `run`, whatever the number of workers is, the run of one. Where it checks itself,
+    small searches are done a second way too, and a run is judged."""
     request = request_of(words)
     if request is None:
         return 2, b'words\n'
-    if len(data) > MOST_BYTES:
+    if len(data) > MOST_BYTES and request.command != 'trial':
         return 8, b'too long\n'
     try:
-        if request.command == 'compose':
+        if request.command == 'trial':
+            written = trial_lines(request.size)
+        elif request.command == 'compose':
             written = composed(data)
         else:
             written = of_system(request, system_of(data), checks_itself)
@@ -61,6 +67,15 @@ def of_system(request, system, checks_itself):
                 f'preds {len(system.predicates)} nodes {len(system.host.nodes)} edges {len(system.host.edges)}']
     if request.command == 'show':
         return system_lines(system)
+    if request.command == 'run':
+        lines = run_lines(system, drawn_run(system, request.seed, request.steps))
+        if checks_itself:
+            judge_run(system, 1, request.steps, ''.join(line + '\n' for line in lines))
+        return lines
+    return match_lines(request, system, checks_itself)
+
+
+def match_lines(request, system, checks_itself):
     lines = []
     for number, rule in enumerate(system.rules):
         found = occurrences(system.host, rule.redex, request.most)

@@ -27,7 +27,7 @@ def host_of(random):
 
 def text_inside(random, nodes, place, sites):
     """What lies in a place, as a text."""
-    parts = ['id'] * (place in sites)
+    parts = ['id'] * sum(each == place for each in sites)
     for node, (control, above, names) in enumerate(nodes):
         if above == place:
             text = CONTROLS[control][0] + ('{' + ','.join(names) + '}' if names else '')
@@ -88,8 +88,8 @@ def names_changed(random, pattern, names, chance):
                 links[place] = random.choice(names)
 
 
-def redex_of(random, nodes, closed):
-    """The text of a redex, the number of its regions, and its outer names."""
+def redex_parts(random, nodes, closed):
+    """A redex: its nodes, the number of its regions, the places that have a site, its edges and its outer names."""
     pattern, regions, sites = cut_out(random, nodes, chosen_nodes(random, nodes))
     if random.random() < 0.3:
         names_changed(random, pattern, ['x', 'y', 'z'], 0.4)
@@ -108,18 +108,24 @@ def redex_of(random, nodes, closed):
         all_points, points = (sum(names.count(name) for _, _, names in rows) for rows in (nodes, pattern))
         if name in closed and all_points == points and random.random() < 0.7 or random.random() < 0.08:
             edges.add(name)
-    return text_of(random, pattern, regions, sites, edges), regions, [name for name in used if name not in edges]
+    return pattern, regions, sites, edges, [name for name in used if name not in edges]
+
+
+def beginning(random, nodes, regions, closed):
+    """The lines of a model that define its controls and its host."""
+    lines = [('atomic ' if kind == 'atomic' else '') + f'ctrl {name} = {arity};' for name, arity, kind in CONTROLS]
+    idle = '{u} || ' if random.random() < 0.1 else ''
+    return lines + [f'big s = {idle}{text_of(random, nodes, regions, set(), closed)};']
 
 
 def host_model(random):
     """The lines of a model with a host and one to four redexes."""
     nodes, regions, closed = host_of(random)
-    lines = [('atomic ' if kind == 'atomic' else '') + f'ctrl {name} = {arity};' for name, arity, kind in CONTROLS]
-    idle = '{u} || ' if random.random() < 0.1 else ''
-    lines.append(f'big s = {idle}{text_of(random, nodes, regions, set(), closed)};')
+    lines = beginning(random, nodes, regions, closed)
     count = random.randint(1, 4)
     for number in range(count):
-        redex, width, names = redex_of(random, nodes, closed)
+        pattern, width, sites, edges, names = redex_parts(random, nodes, closed)
+        redex = text_of(random, pattern, width, sites, edges)
         reactum = ' || '.join(['{' + ','.join(names) + '}'] + ['1'] * width)
         lines.append(f'react r{number} = {redex} --> {reactum} @ [];')
     rules = ', '.join(f'r{number}' for number in range(count))

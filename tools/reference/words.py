@@ -1,14 +1,19 @@
 """The words of the command line, by docs/USAGE.md."""
 from typing import NamedTuple
 
-COMMANDS = ('compose', 'check', 'show', 'match')
+COMMANDS = ('compose', 'check', 'show', 'match', 'run', 'trial')
 RANGES = {'most': (1, 1000000), 'workers': (1, 64), 'steps': (0, 100000), 'seed': (0, 18446744073709551615),
           'size': (1, 300)}
+DEFAULTS = {'most': 100000, 'workers': 1, 'steps': 1000, 'seed': 0, 'size': 10, 'explain': False}
 
 
 class Request(NamedTuple):
     command: str
     most: int
+    workers: int
+    steps: int
+    seed: int
+    size: int
     is_explained: bool
 
 
@@ -42,7 +47,7 @@ def request_of(words):
             commands.append(word)
     if len(commands) != 1 or commands[0] not in COMMANDS:
         return None
-    return Request(commands[0], given.get('most', 100000), given.get('explain', False))
+    return Request(commands[0], *[given.get(name, number) for name, number in DEFAULTS.items()])
 
 
 def number_of(word, least, most):
