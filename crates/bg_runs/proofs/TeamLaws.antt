@@ -7,7 +7,7 @@ use Rattle.bg_base.specs.declared.history.Entry.{Entry}
 use Rattle.bg_cond.specs.Picks.{seeded}
 use Rattle.bg_rules.specs.Systems.{SystemParts}
 use Rattle.bg_runs.specs.Finished.{CameFrom}
-use Rattle.bg_runs.specs.Teams.{pass_of, IsMember, IsTeam, HasEnded, HaveEnded, IsParted}
+use Rattle.bg_runs.specs.Teams.{pass_of, IsMember, IsTeam, HasEnd, HaveEnds, HasEnded, HaveEnded, IsParted}
 use Rattle.bg_seats.specs.Histories.{PassView, Grows, new_pass, new_passes}
 use Rattle.bg_shared.proofs.Committing.{all_snoc, all_last}
 use Rattle.bg_shared.specs.Shared.{OfTable, BeginsWith, BeginsWithEach}
@@ -158,13 +158,14 @@ module _ {F : Type 0} (table : TableId) (system : SystemParts) (limit seed numbe
 -- members of which the first one was taken out
 pub parted_members : {F : Type 0} (before rest : List (Member PassView F)) (first : Member PassView F) (others passes : List PassView) (ended : Ended)
     → 0 < length before → first ≡ get_or before 0 first → rest ≡ drop 1 before → first.ended ≡ Some (Ok ended) → others ≡ map pass_of rest
-    → passes ≡ others ++ first.pass ∷ [] → IsParted before passes ended
-parted_members before rest first others passes ended some value items is of pushed = record {
+    → passes ≡ others ++ first.pass ∷ [] → HaveEnds rest → IsParted before passes ended
+parted_members before rest first others passes ended some value items is of pushed all = record {
   first = first;
   others = rest;
   members_are = first_of before first rest some value items;
   passes_are = pushed ∙ ap (λ (ps : List PassView). ps ++ first.pass ∷ []) of;
   ended_is = is;
+  others_ended = all;
 }
 
 -- there is a member that has run

@@ -1,5 +1,6 @@
 -- Teams of workers, one for each pass of a shared host.
 use Rattle.std.specs.Prelude.{◌≡◌, ℕ, List, [], ◌∷◌, ◌++◌, map, Some, Ok, IfOk}
+use Rattle.std.specs.List.{AllByRecursion}
 use Rattle.std.specs.declared.result.Result.{Result}
 use Rattle.atomic_table.specs.Seated.{TableId}
 use Rattle.bg_cond.specs.Picks.{seeded}
@@ -42,10 +43,18 @@ HaveEnded table system limit seed [] (member ∷ members) = ⊥
 HaveEnded table system limit seed (pass ∷ passes) [] = ⊥
 HaveEnded table system limit seed (pass ∷ passes) (member ∷ members) = HasEnded table system limit seed pass member × HaveEnded table system limit seed passes members
 
--- members are parted: these are their passes, that of the first one last, and so the first one ended
+-- the member came to an end; and so did each
+abbrev pub HasEnd : {F : Type 0} → Member PassView F → Type 0
+HasEnd member = (ended : Ended) × (member.ended ≡ Some (Ok ended))
+
+abbrev pub HaveEnds : {F : Type 0} → List (Member PassView F) → Type 0
+HaveEnds members = AllByRecursion HasEnd members
+
+-- members are parted: all came to an end, these are their passes, that of the first one last, and so the first one ended
 pub record IsParted {F : Type 0} (members : List (Member PassView F)) (passes : List PassView) (ended : Ended) : Type 0 where
   pub first : Member PassView F
   pub others : List (Member PassView F)
   pub members_are : members ≡ first ∷ others
   pub passes_are : passes ≡ map pass_of others ++ first.pass ∷ []
   pub ended_is : first.ended ≡ Some (Ok ended)
+  pub others_ended : HaveEnds others

@@ -1,6 +1,6 @@
 //! Teams of workers, one for each pass of a shared host.
-ghost use Rattle.std.specs.Prelude.{◌≡◌, ◌<◌, All, length, map, Some, Ok, IfOk};
-ghost use Rattle.bg_runs.specs.Teams.{HaveEnded, IsParted, IsTeam, pass_of};
+ghost use Rattle.std.specs.Prelude.{◌≡◌, ◌<◌, All, length, map, Some, Ok, IfOk, OnOk};
+ghost use Rattle.bg_runs.specs.Teams.{HasEnd, HaveEnds, HaveEnded, IsParted, IsTeam, pass_of};
 ghost use Rattle.bg_seats.specs.Histories.{PassView};
 ghost use Rattle.bg_shared.specs.Shared.{OfTable};
 ghost use Rattle.bg_workers.specs.Members.{IsReady, AllRun};
@@ -80,7 +80,7 @@ fn run_members<N: HostName + Send + Sync, G: Gate + Sync, R: Threads + Wait + Sy
 }
 
 /// What is left of members that have run: the passes, that of the first one last, and the generator and the end of the first
-/// one. It refuses where the first one had no memory.
+/// one. It refuses where one of them had no memory.
 pub(crate) fn parted(alloc: Global, mut members: Vec<Worker>) -> Mem<(Vec<Pass>, Picker, Ended)>
     requires { 0 < length members.items }
     ensures { IfOk result (λ left. IsParted members.items left.0.items left.2) }
@@ -98,15 +98,32 @@ pub(crate) fn parted(alloc: Global, mut members: Vec<Worker>) -> Mem<(Vec<Pass>,
     Ok((passes, picker, ended))
 }
 
-/// The passes of all members.
+/// The passes of all members; it refuses where one of them had no memory.
 fn passes_of(alloc: Global, members: Vec<Worker>) -> Mem<Vec<Pass>>
-    ensures { IfOk result (λ passes. passes.items ≡ map pass_of members.items) }
+    ensures passes { IfOk result (λ passes. passes.items ≡ map pass_of members.items) }
+    ensures ended { OnOk result (HaveEnds members.items) }
 {
     let mut passes = Vec::new(alloc);
     for member in members {
-        passes.push(member.pass)?;
+        passes.push(pass_of_ended(member)?)?;
     }
     Ok(passes)
+}
+
+/// The pass of the member; it refuses where the member had no memory.
+fn pass_of_ended(member: Worker) -> Mem<Pass>
+    ensures pass { IfOk result (λ pass. pass ≡ member.pass) }
+    ensures ended { OnOk result (HasEnd member) }
+{
+    let Member {
+        pass,
+        finder: _,
+        picker: _,
+        worker: _,
+        ended,
+    } = member;
+    end_of(ended)?;
+    Ok(pass)
 }
 
 /// How a member ended; it refuses where the member had no memory.

@@ -5,6 +5,8 @@ use Rattle.atomic_table.specs.Seated.{TableId}
 use Rattle.bg_base.specs.Limits.{most_steps}
 use Rattle.bg_base.specs.declared.history.Entry.{Entry}
 use Rattle.bg_cond.specs.Steps.{IsRun}
+use Rattle.bg_cond.specs.declared.commits.Commit.{Commit}
+use Rattle.bg_cond.specs.declared.commits.Commit.TheVariants.{Done, Again, Spent, Full}
 use Rattle.bg_rules.specs.Reaction.{HostState}
 use Rattle.bg_rules.specs.Systems.{SystemParts, IsSystem}
 use Rattle.bg_seats.specs.Histories.{PassView, TurnView, Grows, WorkersBelow, new_passes}
@@ -15,6 +17,13 @@ use Rattle.bg_seats.specs.Histories.{PassView, TurnView, Grows, WorkersBelow, ne
 pub record CoreView : Type 0 where
   pub journal : List Entry
   pub host : HostState
+
+-- journal and host stay where the step was not done
+abbrev pub StaysUnlessDone : Commit → CoreView → CoreView → Type 0
+StaysUnlessDone (Done version) before after = Unit {0}
+StaysUnlessDone (Again version) before after = after ≡ before
+StaysUnlessDone (Spent told) before after = after ≡ before
+StaysUnlessDone Full before after = after ≡ before
 
 -- the parts of a shared host: its table and its system, how many entries there may be, how many passes there are
 pub record PartsView : Type 0 where

@@ -109,7 +109,7 @@ impl<N: HostName> SharedHost<N> {
     /// What is left when no thread shares the host any more: its system, its host and its journal. The journal is a run
     /// from the system's first host to the last one, and begins with all that each of these passes had seen; no entry
     /// behind that is of the pass's worker, so it has each entry for which the pass was answered `Done` once. It refuses
-    /// for want of memory alone, and takes none.
+    /// for want of memory alone.
     pub fn close(self, passes: Vec<Pass>) -> Mem<Closed>
         requires { OfTable N.table passes.items }
         ensures system { IfOk result (λ closed. closed.system ≡ N.system) }

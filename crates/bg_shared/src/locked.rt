@@ -4,7 +4,7 @@ ghost use Rattle.bg_cond.specs.Boards.{Shows, IsFound, IsCommitted};
 ghost use Rattle.bg_cond.specs.Drawn.{entry_of};
 ghost use Rattle.bg_cond.specs.Steps.{IsLegal, LeadsTo, IsTooLarge, IsRun};
 ghost use Rattle.bg_seats.specs.Histories.{Grows};
-ghost use Rattle.bg_shared.specs.Shared.{IsHistory};
+ghost use Rattle.bg_shared.specs.Shared.{IsHistory, StaysUnlessDone};
 
 use bg_base::{Entry, Step};
 use bg_cond::{Commit, Found, HostName, View, take_step};
@@ -52,8 +52,8 @@ impl<N: HostName> Core<N> {
         Ok(View { version, host })
     }
 
-    /// Commits a step that was found at a version which the pass has seen. The pass has then seen the whole journal. It
-    /// refuses for want of memory alone: all of it is taken before the first change, so that then journal, host and pass
+    /// Commits a step that was found at a version which the pass has seen. The pass has then seen the whole journal; journal
+    /// and host stay, unless the step is done. It refuses for want of memory alone: all of it is taken before the first change, so that then journal, host and pass
     /// are as they were. Costs a copy of the host and a reaction, where it comes to that.
     pub fn commit(
         &mut self,
@@ -71,6 +71,7 @@ impl<N: HostName> Core<N> {
         ensures grows { OnOk result (Grows pass.old.worker pass.old.seen self.old.journal) }
         ensures run { IsRun N.system.rules N.system.init self.new.journal self.new.host }
         ensures history { IsHistory N.system N.limit N.passes self.new.journal }
+        ensures still { IfOk result (λ answer. StaysUnlessDone answer self.old self.new) }
         ensures no_memory { OnErr result ((pass.new ≡ pass.old) × (self.new ≡ self.old)) }
     {
         table.compare(pass, &mut self.turn);

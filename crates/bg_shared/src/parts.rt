@@ -10,8 +10,8 @@ use std::alloc::Global;
 use std::marker::Model;
 
 /// The parts of a shared host that has no name yet: its history table, its passes and its turn, its system, the host that
-/// a run begins with, and its empty journal. A contract sees the table, the system, how many entries there may be, and how many passes there
-/// are.
+/// a run begins with, and its empty journal. A contract sees the table, the system, how many entries there may be, and how
+/// many passes there are.
 #[derive(Drop)]
 pub struct HostParts {
     pub(crate) table: HistoryTable,

@@ -91,7 +91,7 @@ IsRight most asked watchers left answer =
 abbrev pub IsAnsweredWith : ℕ → Option Request → List Watched → Option (List ℕ) → Status → Type 0
 IsAnsweredWith most asked watchers left status = SomeAnswer (IsRight most asked watchers left) (λ answer. answer.status ≡ status)
 
--- the words ask for a command that has an input, where these bytes are left, and P holds of it
+-- the words ask for a command that has an input, where these bytes are left; it is not too long, and P holds of it
 abbrev pub AsksOf : ℕ → Option Request → List ℕ → (Request → List ℕ → Type 0) → Type 0
 AsksOf most asked bytes P = IsSomeAnd asked (λ request. (is_long most request bytes ≡ false) × P request (input_of request bytes))
 

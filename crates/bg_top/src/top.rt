@@ -40,8 +40,9 @@ pub const NO_MEMORY: u8 = 5;
 /// Does all that the program does: reads the words, then the source, and writes the answer to the sink.
 ///
 /// `words` are those of the command line, the program's name first; `watchers` are told of the entries of a run, and those
-/// that stay are left in the list; `gate` is told of the moments of the workers of a run. The answer is made whole before its first byte is written, each written line ends with a line feed, and at every
-/// status but 3, 4 and 5 the sink was flushed after the last byte. It may wait: the workers of a run do.
+/// that stay are left in the list; `gate` is told of moments of the workers of a run. The answer is made whole before its
+/// first byte is written, each written line ends with a line feed, and at every status but 3, 4 and 5 the sink was flushed
+/// after the last byte. It may wait: the workers of a run do.
 ///
 /// | Status | Written | When |
 /// |---|---|---|
@@ -55,7 +56,8 @@ pub const NO_MEMORY: u8 = 5;
 /// | 8 | `too long` | exactly where the source gave `MOST_BYTES + 1` bytes |
 ///
 /// 3, 4 and 5 come before the others: "exactly where" is said of the calls that end with none of them. The watchers are told
-/// of a run that is answered with 0, or whose text is not written whole, 4 or 5; else they stay as they are.
+/// of a run that is answered with 0, or of which a prefix is written, 4 or 5; with 5 it may also be that they were told of
+/// nothing. Else they stay as they are.
 pub fn engine<S: Source, K: Sink, G: Gate + Sync, R: Threads + Wait + Sync>(
     rt: &R,
     alloc: Global,
@@ -65,7 +67,7 @@ pub fn engine<S: Source, K: Sink, G: Gate + Sync, R: Threads + Wait + Sync>(
     watchers: &mut Vec<Box<dyn Watcher>>,
     gate: &G,
 ) -> u8
-    // every status, what is written with it, and which watchers are left
+    // every status, what is written with it, and which watchers stay
     ensures ended { Ended (IsRightWith most_bytes (asked words.now) (S.left source.old)
         (map (λ w. state w) watchers.old.items) (map (λ w. state w) watchers.new.items)) result
         (Rose (S.faults source.old) (S.faults source.new)) (Rose (K.faults sink.old) (K.faults sink.new))
@@ -109,7 +111,7 @@ pub fn engine<S: Source, K: Sink, G: Gate + Sync, R: Threads + Wait + Sync>(
     run(rt, alloc, words, source, sink, watchers, gate)
 }
 
-/// The body of `engine`, whose other clauses follow from this one.
+/// The body of `engine`, whose other clauses follow from these.
 fn run<S: Source, K: Sink, G: Gate + Sync, R: Threads + Wait + Sync>(
     rt: &R,
     alloc: Global,

@@ -13,7 +13,7 @@ use clap::ArgMatches;
 pub struct Request {
     /// What is to be done.
     pub command: Command,
-    /// How many occurrences of a rule are listed at most, from 1 to 1,000,000; 100,000 where it is not given.
+    /// How many occurrences a rule may have that are listed, from 1 to 1,000,000; 100,000 where it is not given.
     pub most: u32,
     /// How many workers there are, from 1 to 64; 1 where it is not given.
     pub workers: u32,

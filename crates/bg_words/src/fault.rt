@@ -2,7 +2,7 @@
 use std::alloc::AllocError;
 use thiserror::Error;
 
-/// Why words ask for nothing.
+/// Why words gave no request.
 #[derive(Clone, Copy, Debug, PartialEq, Eq, Error)]
 pub enum WordsFault {
     /// They name no command, or more than one; or an option is unknown, stands twice, or has no number of its form and in

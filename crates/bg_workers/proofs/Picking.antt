@@ -29,7 +29,7 @@ module _ {host : HostState} {rules : List RuleParts} {candidates : List Step} (a
 
   -- what is picked of the first legal steps is the pick of the generator
   pub picks : (state later : Lcg) (chosen : Option Step)
-      → MatchOption chosen (candidates ≡ []) (λ step. At step (picked state (length candidates)) candidates × (later ≡ next_state state))
-      → MatchOption chosen (HasNoStep host rules) (λ step. IsPick host rules state step × (later ≡ next_state state))
-  picks state later None is = no_candidates is
+      → MatchOption chosen ((candidates ≡ []) × (later ≡ state)) (λ step. At step (picked state (length candidates)) candidates × (later ≡ next_state state))
+      → MatchOption chosen (HasNoStep host rules × (later ≡ state)) (λ step. IsPick host rules state step × (later ≡ next_state state))
+  picks state later None is = (no_candidates is.0, is.1)
   picks state later (Some step) is = (record { candidates = candidates; are = are; at = is.0 }, is.1)

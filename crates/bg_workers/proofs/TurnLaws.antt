@@ -79,6 +79,7 @@ module _ (system : SystemParts) (is : IsSystem system) where
           let long : length after ≡ length between + 1 = ap length done.appended ∙ length-append between (entry ∷ []) in record {
             room = omega (arith, shorter, room);
             longer = omega (arith, shorter, long);
+            later_is = later_is;
             drawn = λ own.
                 let same : between ≡ before = none_came (entry ∷ []) after done.appended own in
                 let host_is : view.host ≡ done.host = one_host shows.run done.run in record {
@@ -93,15 +94,16 @@ module _ (system : SystemParts) (is : IsSystem system) where
                 };
           }
 
-      pub goes_on_again : (later : Lcg) (number : ℕ) → view.version < most → IsAgain worker between after found number
+      pub goes_on_again : (later : Lcg) (number : ℕ) → later ≡ next_state state → view.version < most → IsAgain worker between after found number
           → GoesOn system most worker before state after later
-      goes_on_again later number less again =
+      goes_on_again later number later_is less again =
           let shorter = grown_longer grows in
           let version = shows.version in
           let newer = again.newer in
           let all = again.number in record {
             room = omega (arith, shorter, version, less);
             longer = omega (arith, shorter, version, at, newer, all);
+            later_is = later_is;
             drawn = λ own.
                 let same = ap length (own_before [] after again.grows (sym (append-nil after)) own) in
                 absurd (omega (arith, same, version, at, newer, all));

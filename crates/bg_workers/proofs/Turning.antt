@@ -1,6 +1,6 @@
 -- What is drawn one turn after another is one run.
 use Rattle.std.proofs.Common.{◌≡◌, ℕ, zero, suc, ◌<◌, ◌≤◌, List, [], ◌∷◌, ◌++◌, length, refl, sym, ap, subst, ◌∙◌, arith}
-use Rattle.std.proofs.lemmas.List.{append_assoc, append-nil}
+use Rattle.std.proofs.lemmas.List.{append_assoc, append-nil, length-append}
 use Rattle.bg_base.specs.Limits.{most_steps}
 use Rattle.bg_base.specs.declared.history.Entry.{Entry}
 use Rattle.bg_cond.proofs.DrawnRuns.{drawn_few}
@@ -10,7 +10,7 @@ use Rattle.bg_cond.specs.declared.ending.End.{End}
 use Rattle.bg_cond.specs.declared.ending.End.TheVariants.{Quiet, Limit, Full}
 use Rattle.bg_rules.specs.Reaction.{HostState}
 use Rattle.bg_rules.specs.Rules.{RuleParts}
-use Rattle.bg_workers.specs.Turns.{GoesOn, IsStop, Stops, Continues}
+use Rattle.bg_workers.specs.Turns.{after_words, IsLater, behind_end, TakesStep, IsStop, TakesNone, Continues}
 use Rattle.bg_workers.specs.declared.drawing.DrawnRun.{DrawnRun}
 use Rattle.rand_pcg.specs.Lcg.{Lcg}
 
@@ -29,7 +29,7 @@ module _ (rules : List RuleParts) (worker most : ℕ) (first : HostState) (seed 
   }
 
   pub goes_on : (room left : ℕ) (host next : HostState) (state later : Lcg) (entries more : List Entry) → room ≡ suc left
-      → Continues rules worker most first seed room host state entries → GoesOn rules worker host state entries next later more
+      → Continues rules worker most first seed room host state entries → TakesStep rules worker host state entries next later more
       → Continues rules worker most first seed left next later more
   goes_on room left host next state later entries more e so_far turn = record {
     continues = λ rest end after more_drawn.
@@ -41,11 +41,11 @@ module _ (rules : List RuleParts) (worker most : ℕ) (first : HostState) (seed 
         (sym (ap (λ (xs : List Entry). xs ++ rest) turn.appended ∙ append_assoc entries (entry_of worker turn.step ∷ []) rest)) whole;
   }
 
-  pub stops : (room : ℕ) (host next : HostState) (state : Lcg) (entries more journal : List Entry) (end : End) → 0 < room
-      → Continues rules worker most first seed room host state entries → Stops rules host state entries next more end → journal ≡ more
+  pub stops : (room : ℕ) (host next : HostState) (state later : Lcg) (entries more journal : List Entry) (end : End) → 0 < room
+      → Continues rules worker most first seed room host state entries → TakesNone rules host state entries next later more end → journal ≡ more
       → Draws rules worker most first seed journal end next
-  stops zero host next state entries more journal end less so_far turn e = elim less [ ]
-  stops (suc room) host next state entries more journal end less so_far turn e =
+  stops zero host next state later entries more journal end less so_far turn e = elim less [ ]
+  stops (suc room) host next state later entries more journal end less so_far turn e =
       let stopped : (end : End) → IsStop rules host state end → Draws rules worker (suc room) host state [] end next = λ end stop. stop_drawn rules worker room host next state end turn.host_is stop in
       subst (λ (xs : List Entry). Draws rules worker most first seed xs end next) (append-nil entries ∙ sym (e ∙ turn.same))
       (so_far.continues [] end next (stopped end turn.stop))
@@ -55,6 +55,47 @@ module _ (rules : List RuleParts) (worker most : ℕ) (first : HostState) (seed 
   spent room host state entries journal e so_far f =
       subst (λ (xs : List Entry). Draws rules worker most first seed xs Limit host) (append-nil entries ∙ sym f)
       (so_far.continues [] Limit host (subst (λ (n : ℕ). Draws rules worker n host state [] Limit host) (sym e) (limit refl)))
+
+-- ---- the words that are taken
+
+after_more : (count : ℕ) (state : Lcg) → after_words (suc count) state ≡ next_state (after_words count state)
+after_more zero state = refl
+after_more (suc count) state = after_more count (next_state state)
+
+later_after : (count more : ℕ) (state : Lcg) → (both : ℕ) × (after_words more (after_words count state) ≡ after_words both state)
+later_after zero more state = (more, refl)
+later_after (suc count) more state = let w = later_after count more (next_state state) in (suc w.0, w.1)
+
+-- no word, one word, and words behind words
+pub no_word : {state later : Lcg} → later ≡ state → IsLater state later
+no_word e = (0, e)
+
+pub one_word : {state later : Lcg} → later ≡ next_state state → IsLater state later
+one_word e = (1, e)
+
+pub later_still : {state later more : Lcg} → IsLater state later → IsLater later more → IsLater state more
+later_still {state} {later} {more} w v =
+    let both = later_after w.0 v.0 state in (both.0, v.1 ∙ ap (after_words v.0) w.1 ∙ both.1)
+
+module _ (rules : List RuleParts) (worker : ℕ) (seed : Lcg) (host next : HostState) (state later : Lcg) (entries more : List Entry)
+    (so_far : state ≡ after_words (length entries) seed) where
+  pub words_on : TakesStep rules worker host state entries next later more → later ≡ after_words (length more) seed
+  words_on turn =
+      let long : length more ≡ suc (length entries) =
+      let whole = ap length turn.appended ∙ length-append entries (entry_of worker turn.step ∷ []) in omega (arith, whole) in
+      turn.later_is ∙ ap next_state so_far ∙ sym (after_more (length entries) seed) ∙ ap (λ n. after_words n seed) (sym long)
+
+  pub words_end : (journal : List Entry) (end other : End) → TakesNone rules host state entries next later more end → journal ≡ more → other ≡ end
+      → later ≡ behind_end other (after_words (length journal) seed)
+  words_end journal end other turn e f =
+      turn.later_is ∙ ap (behind_end end) so_far ∙ ap (λ (xs : List Entry). behind_end end (after_words (length xs) seed)) (sym (e ∙ turn.same))
+      ∙ ap (λ (x : End). behind_end x (after_words (length journal) seed)) (sym f)
+
+pub words_spent : (seed state : Lcg) (entries journal : List Entry) (end : End) → state ≡ after_words (length entries) seed → journal ≡ entries
+    → end ≡ Limit → state ≡ behind_end end (after_words (length journal) seed)
+words_spent seed state entries journal end so_far e f =
+    so_far ∙ ap (λ (xs : List Entry). after_words (length xs) seed) (sym e)
+    ∙ ap (λ (x : End). behind_end x (after_words (length journal) seed)) (sym f)
 
 -- ---- the run that is made
 

@@ -75,10 +75,11 @@ pub record IsDrawnEnd (system : SystemParts) (limit worker : ℕ) (before : List
   pub run : IsRun system.rules system.init before host
   pub draws : Draws system.rules worker (limit - length before) host state [] (end_of ended) host
 
--- more entries are there now; where they are all of the worker, it has drawn one
+-- more entries are there now, and one word was taken; where the entries are all of the worker, it has drawn one
 pub record GoesOn (system : SystemParts) (limit worker : ℕ) (before : List Entry) (state : Lcg) (after : List Entry) (later : Lcg) : Type 0 where
   pub room : length before < limit
   pub longer : length before < length after
+  pub later_is : later ≡ next_state state
   pub drawn : IsOwn worker after → IsDrawnStep system worker before state after later
 
 -- the worker ends; where all entries are its own, no other came

@@ -10,7 +10,7 @@ use bg_base::Step;
 /// The candidate at the place that the next word gives; none where there is no candidate, and then no word is taken.
 pub(crate) fn pick_step(mut candidates: Vec<Step>, picker: &mut Picker) -> Option<Step>
     requires { length candidates.items ≤ most_candidates }
-    ensures { MatchOption result (candidates.items ≡ []) (λ step. At step (picked picker.old (length candidates.items)) candidates.items × (picker.new ≡ next_state picker.old)) }
+    ensures { MatchOption result ((candidates.items ≡ []) × (picker.new ≡ picker.old)) (λ step. At step (picked picker.old (length candidates.items)) candidates.items × (picker.new ≡ next_state picker.old)) }
 {
     if candidates.is_empty() {
         return None;

@@ -4,7 +4,7 @@ ghost use Rattle.bg_base.specs.Limits.{most_steps};
 ghost use Rattle.bg_cond.specs.Drawn.{Draws, IsPick};
 ghost use Rattle.bg_cond.specs.Picks.{next_state};
 ghost use Rattle.bg_cond.specs.Steps.{HasNoStep};
-ghost use Rattle.bg_workers.specs.Turns.{Turns};
+ghost use Rattle.bg_workers.specs.Turns.{Turns, after_words, behind_end};
 
 use crate::choosing::pick_step;
 use crate::picker::Picker;
@@ -26,7 +26,8 @@ pub struct DrawnRun {
 
 /// The run that the generator draws from the host on, of at most so many entries, all of worker 0: at each host the first
 /// 4,096 legal steps are the candidates, and the next word of the generator, modulo their number, is the place of the one
-/// that is taken. Each turn costs what [`steps`] and [`take_step`] cost.
+/// that is taken. The generator is then a word further for each entry, and one more where the picked step passes a limit.
+/// Each turn costs what [`steps`] and [`take_step`] cost.
 pub fn draw(
     alloc: Global,
     system: &System,
@@ -35,7 +36,8 @@ pub fn draw(
     picker: &mut Picker,
 ) -> Mem<DrawnRun>
     requires { most ≤ most_steps }
-    ensures { IfOk result (λ run. Draws system.now.rules 0 most host picker.old run.journal run.end run.host) }
+    ensures drawn { IfOk result (λ run. Draws system.now.rules 0 most host picker.old run.journal run.end run.host) }
+    ensures words { IfOk result (λ run. picker.new ≡ behind_end run.end (after_words (length run.journal) picker.old)) }
 {
     let mut entries = Vec::new(alloc);
     let mut room = most;
@@ -97,7 +99,7 @@ fn push_entry(entries: &mut Vec<Entry>, worker: u32, step: Step) -> Mem<()>
 
 /// The step that the generator picks of the first legal ones, none where no step is legal.
 fn choose(alloc: Global, host: &Host, system: &System, picker: &mut Picker) -> Mem<Option<Step>>
-    ensures { IfOk result (λ chosen. MatchOption chosen (HasNoStep host.now system.now.rules)
+    ensures { IfOk result (λ chosen. MatchOption chosen (HasNoStep host.now system.now.rules × (picker.new ≡ picker.old))
         (λ step. IsPick host.now system.now.rules picker.old step × (picker.new ≡ next_state picker.old))) }
 {
     let candidates = steps(alloc, host, system, MOST_CANDIDATES)?;

@@ -5,6 +5,7 @@ ghost use Rattle.bg_cond.specs.Drawn.{IsPick};
 ghost use Rattle.bg_cond.specs.Picks.{next_state};
 ghost use Rattle.bg_cond.specs.Steps.{HasNoStep};
 ghost use Rattle.bg_rules.specs.Systems.{IsSystem};
+ghost use Rattle.bg_workers.specs.Turns.{IsLater};
 ghost use Rattle.bg_workers.specs.Working.{IsEnded, IsOwn, IsDrawn, HasTurned};
 
 use crate::choosing::pick_step;
@@ -21,9 +22,10 @@ use std::sync::Wait;
 /// `Full` where what the picked step leads to passes a limit of a host. The gate is told of `Found` before each commit and
 /// of `Done` or `Refused` after it.
 ///
-/// Where all that the pass has seen at the end is its worker's own, the entries and the end are those that the generator
-/// draws. It refuses for want of memory alone: what was committed then stands. It looks at most `limit` + 1 times, and may
-/// wait at each look and at each commit.
+/// Where the pass had seen nothing, and all that it has seen at the end is its worker's own, the entries and the end are those
+/// that the generator draws. The generator goes on, word by word, and never back. It refuses for want of memory alone: what was
+/// committed then stands, and the gate is not told of a commit that found no memory. It looks at most `limit` + 1 times, and
+/// may wait at each look and at each commit.
 pub fn work<B: Board, F: Finder, G: Gate, R: Wait>(
     rt: &R,
     alloc: Global,
@@ -41,6 +43,7 @@ pub fn work<B: Board, F: Finder, G: Gate, R: Wait>(
     ensures of { B.is_of board.now pass.new × (B.worker pass.new ≡ B.worker pass.old) }
     ensures ended { IfOk result (λ ended. IsEnded system.now limit (B.seen pass.new) ended) }
     ensures drawn { B.seen pass.old ≡ [] → IsOwn worker (B.seen pass.new) → IfOk result (λ ended. IsDrawn system.now limit worker picker.old (B.seen pass.new) ended) }
+    ensures later { IsLater picker.old picker.new }
 {
     let _signature = system.signature();
     work_on(
@@ -67,6 +70,7 @@ fn work_on<B: Board, F: Finder, G: Gate, R: Wait>(
     ensures of { B.is_of board.now pass.new × (B.worker pass.new ≡ B.worker pass.old) }
     ensures ended { IfOk result (λ ended. IsEnded system.now limit (B.seen pass.new) ended) }
     ensures drawn { B.seen pass.old ≡ [] → IsOwn worker (B.seen pass.new) → IfOk result (λ ended. IsDrawn system.now limit worker picker.old (B.seen pass.new) ended) }
+    ensures later { IsLater picker.old picker.new }
 {
     loop {
         if let Some(ended) = turn(
@@ -95,6 +99,7 @@ fn turn<B: Board, F: Finder, G: Gate, R: Wait>(
     requires system { IsSystem system.now }
     ensures of { B.is_of board.now pass.new × (B.worker pass.new ≡ B.worker pass.old) }
     ensures turned { IfOk result (λ end. HasTurned system.now limit worker (B.seen pass.old) picker.old (B.seen pass.new) picker.new end) }
+    ensures later { IsLater picker.old picker.new }
 {
     let view = board.look(rt, alloc, pass)?;
     let version = view.version;
@@ -124,8 +129,9 @@ fn find<F: Finder>(
     finder: &mut F,
     picker: &mut Picker,
 ) -> Mem<Option<Found>>
-    ensures { IfOk result (λ found. MatchOption found (HasNoStep view.now.host system.now.rules)
+    ensures found { IfOk result (λ found. MatchOption found (HasNoStep view.now.host system.now.rules × (picker.new ≡ picker.old))
         (λ it. (it.version ≡ view.now.version) × IsPick view.now.host system.now.rules picker.old it.step × (picker.new ≡ next_state picker.old))) }
+    ensures no_memory { OnErr result (picker.new ≡ picker.old) }
 {
     let candidates = finder.steps(alloc, system, view, MOST_CANDIDATES)?;
     match pick_step(candidates, picker) {

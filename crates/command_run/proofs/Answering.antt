@@ -10,7 +10,7 @@ use Rattle.bg_answers.specs.declared.reply.Reply.{Reply}
 use Rattle.bg_answers.specs.declared.status.Status.TheVariants.{Done}
 use Rattle.bg_rules.specs.Systems.{SystemParts}
 use Rattle.bg_watch.specs.Watching.{Watched}
-use Rattle.command_run.specs.Run.{run_promise, Leaves}
+use Rattle.command_run.specs.Run.{run_promise, HaveStayed}
 use Rattle.command_run.specs.RunText.{IsRunText}
 
 module _ (most workers seed : ℕ) (watchers : List Watched) (input : List ℕ) where
@@ -20,7 +20,7 @@ module _ (most workers seed : ℕ) (watchers : List Watched) (input : List ℕ) 
   right_refusal (Refused refusal) answer told is = subst (IsRightAnswer (run_promise most workers seed watchers) input) (sym is) (refused told)
   right_refusal OutOfMemory answer told is = absurd is
 
-  refusal_kept : (failure : Failure) (answer : Answer) → IsTold (Err failure) answer → Leaves most workers seed watchers watchers input answer
+  refusal_kept : (failure : Failure) (answer : Answer) → IsTold (Err failure) answer → HaveStayed most workers seed watchers watchers input answer
   refusal_kept (Refused refusal) answer is = record {
     told = λ done. let both = sym done ∙ ap (λ (a : Answer). a.status) is in absurd cc;
     kept = λ not. refl;
@@ -33,20 +33,20 @@ module _ (most workers seed : ℕ) (watchers : List Watched) (input : List ℕ) 
   refusal_right failure (Ok reply) told is = right_refusal failure (answer_of reply) told is
   refusal_right failure (Err e) told is = tt
 
-  pub refusal_left : {E : Type 0} (failure : Failure) (reply : Result Reply E) → IfOk reply (λ reply. IsTold (Err failure) (answer_of reply))
-      → IfOk reply (λ reply. Leaves most workers seed watchers watchers input (answer_of reply))
-  refusal_left failure (Ok reply) is = refusal_kept failure (answer_of reply) is
-  refusal_left failure (Err e) is = tt
+  pub refusal_stayed : {E : Type 0} (failure : Failure) (reply : Result Reply E) → IfOk reply (λ reply. IsTold (Err failure) (answer_of reply))
+      → IfOk reply (λ reply. HaveStayed most workers seed watchers watchers input (answer_of reply))
+  refusal_stayed failure (Ok reply) is = refusal_kept failure (answer_of reply) is
+  refusal_stayed failure (Err e) is = tt
 
   -- a run is told by its text
-  pub run_right : (system : SystemParts) (left : List Watched) (answer : Answer) → Describes (Ok system) input
-      → IsRunText system most workers seed watchers left answer.text → answer.status ≡ Done
+  pub run_right : (system : SystemParts) (stay : List Watched) (answer : Answer) → Describes (Ok system) input
+      → IsRunText system most workers seed watchers stay answer.text → answer.status ≡ Done
       → IsRightAnswer (run_promise most workers seed watchers) input answer
-  run_right system left answer described written done = made (done, left, record { system = system; described = described; written = written })
+  run_right system stay answer described written done = made (done, stay, record { system = system; described = described; written = written })
 
-  pub run_left : (system : SystemParts) (left : List Watched) (answer : Answer) → Describes (Ok system) input
-      → IsRunText system most workers seed watchers left answer.text → answer.status ≡ Done → Leaves most workers seed watchers left input answer
-  run_left system left answer described written done = record {
+  pub run_stayed : (system : SystemParts) (stay : List Watched) (answer : Answer) → Describes (Ok system) input
+      → IsRunText system most workers seed watchers stay answer.text → answer.status ≡ Done → HaveStayed most workers seed watchers stay input answer
+  run_stayed system stay answer described written done = record {
     told = λ is. record { system = system; described = described; written = written };
     kept = λ not. absurd (not done);
   }

@@ -9,7 +9,7 @@ use Rattle.bg_rules.specs.Hosts.{IsHost}
 use Rattle.bg_rules.specs.Reaction.{HostState}
 use Rattle.bg_rules.specs.Rules.{RuleParts, IsRule}
 use Rattle.bg_rules.specs.Systems.{SystemParts, IsSystem}
-use Rattle.command_run.specs.Counts.{AreCounts, none_counted, each_counted}
+use Rattle.command_run.specs.Counts.{AreNodeCounts, none_counted, each_counted}
 
 -- the first step of a run, and the run behind it
 first_step : {rules : List RuleParts} {host last : HostState} (entry : Entry) (entries : List Entry) → IsRun rules host (entry ∷ entries) last
@@ -20,7 +20,7 @@ first_step entry entries (stepped {next = next} legal leads rest) = (legal, next
 pub record AreCountedTo (rules : List RuleParts) (init : HostState) (entries : List Entry) (index : ℕ) (host : HostState) (counts : List ℕ) (last : HostState) : Type 0 where
   pub is_host : IsHost host
   pub run : IsRun rules host (drop index entries) last
-  pub continues : (more : List ℕ) → AreCounts rules host (drop index entries) more → AreCounts rules init entries (counts ++ more)
+  pub continues : (more : List ℕ) → AreNodeCounts rules host (drop index entries) more → AreNodeCounts rules init entries (counts ++ more)
 
 pub counted_start : (system : SystemParts) (is : IsSystem system) (entries : List Entry) (host last : HostState) (counts : List ℕ) → host ≡ system.init → counts ≡ []
     → IsRun system.rules system.init entries last → AreCountedTo system.rules system.init entries 0 host counts last
@@ -28,8 +28,8 @@ counted_start system is entries host last counts here none run = record {
   is_host = subst IsHost (sym here) is.init_is;
   run = subst (λ (h : HostState). IsRun system.rules h entries last) (sym here) run;
   continues = λ more counted.
-      subst (λ (ns : List ℕ). AreCounts system.rules system.init entries (ns ++ more)) (sym none)
-      (subst (λ (h : HostState). AreCounts system.rules h entries more) here counted);
+      subst (λ (ns : List ℕ). AreNodeCounts system.rules system.init entries (ns ++ more)) (sym none)
+      (subst (λ (h : HostState). AreNodeCounts system.rules h entries more) here counted);
 }
 
 module _ (system : SystemParts) (is : IsSystem system) (entries : List Entry) (index : ℕ) (host last : HostState) (counts : List ℕ) (entry : Entry)
@@ -60,32 +60,32 @@ module _ (system : SystemParts) (is : IsSystem system) (entries : List Entry) (i
         is_host = next_is_host system.rules rules host so_far.is_host (step_of entry) leads;
         run = subst (λ (h : HostState). IsRun system.rules h (drop (index + 1) entries) last) same first.3;
         continues = λ more counted.
-            let all : AreCounts system.rules host (drop index entries) (count ∷ more) =
-            subst (λ (xs : List Entry). AreCounts system.rules host xs (count ∷ more)) (sym here_on) (each_counted leads nodes counted) in
-            subst (λ (ns : List ℕ). AreCounts system.rules system.init entries ns)
+            let all : AreNodeCounts system.rules host (drop index entries) (count ∷ more) =
+            subst (λ (xs : List Entry). AreNodeCounts system.rules host xs (count ∷ more)) (sym here_on) (each_counted leads nodes counted) in
+            subst (λ (ns : List ℕ). AreNodeCounts system.rules system.init entries ns)
             (sym (append_assoc counts (count ∷ []) more) ∙ ap (λ (ns : List ℕ). ns ++ more) (sym pushed)) (so_far.continues (count ∷ more) all);
       }
 
 pub counted_whole : (system : SystemParts) (entries : List Entry) (index : ℕ) (host last : HostState) (counts : List ℕ) → length entries ≤ index
-    → AreCountedTo system.rules system.init entries index host counts last → AreCounts system.rules system.init entries counts
+    → AreCountedTo system.rules system.init entries index host counts last → AreNodeCounts system.rules system.init entries counts
 counted_whole system entries index host last counts past so_far =
     let none : drop index entries ≡ [] = drop_all index entries past in
-    subst (λ (ns : List ℕ). AreCounts system.rules system.init entries ns) (append-nil counts)
-    (so_far.continues [] (subst (λ (xs : List Entry). AreCounts system.rules host xs []) (sym none) none_counted))
+    subst (λ (ns : List ℕ). AreNodeCounts system.rules system.init entries ns) (append-nil counts)
+    (so_far.continues [] (subst (λ (xs : List Entry). AreNodeCounts system.rules host xs []) (sym none) none_counted))
 
-pub counts_length : {rules : List RuleParts} {host : HostState} {entries : List Entry} {counts : List ℕ} → AreCounts rules host entries counts → length counts ≡ length entries
+pub counts_length : {rules : List RuleParts} {host : HostState} {entries : List Entry} {counts : List ℕ} → AreNodeCounts rules host entries counts → length counts ≡ length entries
 counts_length none_counted = refl
 counts_length (each_counted leads nodes rest) = ap suc (counts_length rest)
 
 -- ---- one list of counts
 
 pub one_counts : (rules : List RuleParts) (are : All IsRule rules) {host : HostState} {entries : List Entry} {counts others : List ℕ} → IsHost host
-    → AreCounts rules host entries counts → AreCounts rules host entries others → counts ≡ others
+    → AreNodeCounts rules host entries counts → AreNodeCounts rules host entries others → counts ≡ others
 one_counts rules are is none_counted none_counted = refl
 one_counts rules are {host} is (each_counted {next = next} {entry = entry} {entries = entries} {count = count} {counts = counts} leads nodes rest)
     (each_counted {next = twin} {count = count'} {counts = counts'} also nodes' rest') =
     let same : twin ≡ next = one_next rules are host is (step_of entry) also leads in
     let equal : count ≡ count' = nodes ∙ ap (λ (h : HostState). length h.big.nodes) (sym same) ∙ sym nodes' in
     let behind : counts ≡ counts' = one_counts rules are (next_is_host rules are host is (step_of entry) leads) rest
-    (subst (λ (h : HostState). AreCounts rules h entries counts') same rest') in
+    (subst (λ (h : HostState). AreNodeCounts rules h entries counts') same rest') in
     ap (λ n. n ∷ counts) equal ∙ ap (λ (ns : List ℕ). count' ∷ ns) behind

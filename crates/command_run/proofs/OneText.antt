@@ -24,20 +24,20 @@ one_list_of_truths {host} (each_told {truth = truth} {truths = truths} told rest
     ap (λ (x : Bool). x ∷ truths) (one_truth truth other told also) ∙ ap (λ (xs : List Bool). other ∷ xs) (one_list_of_truths rest more)
 
 -- what the watchers wrote of one run
-one_watched : (system : SystemParts) (entries : List Entry) (watchers left left2 : List Watched) (lines lines2 : List ℕ) → IsSystem system
-    → HaveWatched system entries watchers left lines → HaveWatched system entries watchers left2 lines2 → lines ≡ lines2
-one_watched system entries watchers left left2 lines lines2 is a b =
+one_watched : (system : SystemParts) (entries : List Entry) (watchers stay stay2 : List Watched) (lines lines2 : List ℕ) → IsSystem system
+    → HaveWatched system entries watchers stay lines → HaveWatched system entries watchers stay2 lines2 → lines ≡ lines2
+one_watched system entries watchers stay stay2 lines lines2 is a b =
     a.lines_are ∙ ap (λ (ns : List ℕ). watch_lines watchers entries ns) (one_counts system.rules (system_rules system is) is.init_is a.counted b.counted)
     ∙ sym b.lines_are
 
-pub one_text : (system : SystemParts) (most seed : ℕ) (watchers left left2 : List Watched) (one other : List ℕ) → IsSystem system → IsRunText system most 1 seed watchers left one
-    → IsRunText system most 1 seed watchers left2 other → one ≡ other
-one_text system most seed watchers left left2 one other is a b =
+pub one_text : (system : SystemParts) (most seed : ℕ) (watchers stay stay2 : List Watched) (one other : List ℕ) → IsSystem system → IsRunText system most 1 seed watchers stay one
+    → IsRunText system most 1 seed watchers stay2 other → one ≡ other
+one_text system most seed watchers stay stay2 one other is a b =
     let same = drawn_once system.rules (system_rules system is) 0 is.init_is (a.drawn refl) (b.drawn refl) in
     let told = subst (λ (h : HostState). AreTold h.big system.preds b.written.truths) (sym same.2) b.written.told in
     let truths = one_list_of_truths a.written.told told in
-    let lines = one_watched system b.entries watchers left left2 a.lines b.lines is
-    (subst (λ (xs : List Entry). HaveWatched system xs watchers left a.lines) same.0 a.watched) b.watched in
+    let lines = one_watched system b.entries watchers stay stay2 a.lines b.lines is
+    (subst (λ (xs : List Entry). HaveWatched system xs watchers stay a.lines) same.0 a.watched) b.watched in
     a.written.text_is
     ∙ ap (λ (xs : List Entry). run_text system xs a.end a.written.truths a.lines a.host) same.0
     ∙ ap (λ (e : End). run_text system b.entries e a.written.truths a.lines a.host) same.1

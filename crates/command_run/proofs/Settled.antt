@@ -21,12 +21,12 @@ run_settled most workers seed watchers =
       refused_unaccepted = λ input refusal accepted refused. no_system input accepted.described refused;
     }
 
-one_of_run : (most seed : ℕ) (watchers left left2 : List Watched) (input one other : List ℕ) → IsRunOf most 1 seed watchers left input one
-    → IsRunOf most 1 seed watchers left2 input other → one ≡ other
-one_of_run most seed watchers left left2 input one other first second =
+one_of_run : (most seed : ℕ) (watchers stay stay2 : List Watched) (input one other : List ℕ) → IsRunOf most 1 seed watchers stay input one
+    → IsRunOf most 1 seed watchers stay2 input other → one ≡ other
+one_of_run most seed watchers stay stay2 input one other first second =
     let same = one_system input second.described first.described in
-    one_text first.system most seed watchers left left2 one other (described_is_system input first.system first.described) first.written
-    (subst (λ (s : SystemParts). IsRunText s most 1 seed watchers left2 other) same second.written)
+    one_text first.system most seed watchers stay stay2 one other (described_is_system input first.system first.described) first.written
+    (subst (λ (s : SystemParts). IsRunText s most 1 seed watchers stay2 other) same second.written)
 
 pub one_answer : (most seed : ℕ) (watchers : List Watched) (input : List ℕ) (one other : Answer) → IsRightAnswer (run_promise most 1 seed watchers) input one
     → IsRightAnswer (run_promise most 1 seed watchers) input other → one ≡ other

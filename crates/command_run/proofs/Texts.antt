@@ -7,18 +7,18 @@ use Rattle.bg_rules.specs.Systems.{SystemParts}
 use Rattle.bg_runs.specs.Finished.{IsFinished}
 use Rattle.bg_runs.specs.declared.finishing.FinishedRun.{FinishedRun}
 use Rattle.bg_watch.specs.Watching.{Watched, staying_all, watch_lines}
-use Rattle.command_run.specs.Counts.{AreCounts}
+use Rattle.command_run.specs.Counts.{AreNodeCounts}
 use Rattle.command_run.specs.RunText.{front_text, AreTold, IsTextOf, HaveWatched, IsRunText}
 use Rattle.command_run.specs.Told.{IsToldRun}
 
 -- the parts of the text, one behind the other
-pub run_told : (run : FinishedRun) (watchers left : List Watched) (truths slice : List Bool) (counts counted : List ℕ) (entries : List Entry)
+pub run_told : (run : FinishedRun) (watchers stay : List Watched) (truths slice : List Bool) (counts counted : List ℕ) (entries : List Entry)
     (begun front last rest text : List ℕ)
-    → AreTold run.host.big run.system.preds truths → slice ≡ truths → AreCounts run.system.rules run.system.init run.journal counts → counted ≡ counts
+    → AreTold run.host.big run.system.preds truths → slice ≡ truths → AreNodeCounts run.system.rules run.system.init run.journal counts → counted ≡ counts
     → entries ≡ run.journal → begun ≡ [] → front ≡ begun ++ front_text run.system run.journal run.end slice → last ≡ [] ++ host_text run.system.signature run.host
-    → rest ≡ last → text ≡ front ++ (watch_lines watchers entries counted ++ rest) → left ≡ staying_all watchers entries counted
-    → IsToldRun run watchers left text
-run_told run watchers left truths slice counts counted entries begun front last rest text told slice_is are counted_is entries_are begun_is front_is last_is rest_is text_is left_is =
+    → rest ≡ last → text ≡ front ++ (watch_lines watchers entries counted ++ rest) → stay ≡ staying_all watchers entries counted
+    → IsToldRun run watchers stay text
+run_told run watchers stay truths slice counts counted entries begun front last rest text told slice_is are counted_is entries_are begun_is front_is last_is rest_is text_is stay_is =
     let lines = watch_lines watchers run.journal counts in
     let lines_are : watch_lines watchers entries counted ≡ lines = ap₂ (λ (xs : List Entry) (ns : List ℕ). watch_lines watchers xs ns) entries_are counted_is in
     let front_of : front ≡ front_text run.system run.journal run.end truths =
@@ -32,7 +32,7 @@ run_told run watchers left truths slice counts counted entries begun front last 
         counts = counts;
         counted = are;
         lines_are = refl;
-        left_are = left_is ∙ ap₂ (λ (xs : List Entry) (ns : List ℕ). staying_all watchers xs ns) entries_are counted_is;
+        stay_are = stay_is ∙ ap₂ (λ (xs : List Entry) (ns : List ℕ). staying_all watchers xs ns) entries_are counted_is;
       };
     }
 
@@ -40,14 +40,14 @@ module _ (system : SystemParts) (most workers seed : ℕ) (run : FinishedRun) (f
   pub finished_run : IsRun run.system.rules run.system.init run.journal run.host
   finished_run = subst (λ (s : SystemParts). IsRun s.rules s.init run.journal run.host) (sym finished.same) finished.run_is
 
-  pub finished_text : (watchers left : List Watched) (text : List ℕ) → IsToldRun run watchers left text → IsRunText system most workers seed watchers left text
-  finished_text watchers left text told = record {
+  pub finished_text : (watchers stay : List Watched) (text : List ℕ) → IsToldRun run watchers stay text → IsRunText system most workers seed watchers stay text
+  finished_text watchers stay text told = record {
     entries = run.journal;
     end = run.end;
     host = run.host;
     lines = told.lines;
     written = subst (λ (s : SystemParts). IsTextOf s run.journal run.end told.lines run.host text) finished.same told.written;
-    watched = subst (λ (s : SystemParts). HaveWatched s run.journal watchers left told.lines) finished.same told.watched;
+    watched = subst (λ (s : SystemParts). HaveWatched s run.journal watchers stay told.lines) finished.same told.watched;
     run = finished.run_is;
     end_is = finished.end_is;
     workers_below = finished.below;

@@ -6,8 +6,8 @@ use Rattle.bg_rules.specs.Reaction.{HostState}
 use Rattle.bg_rules.specs.Rules.{RuleParts}
 
 -- these are, in order, the numbers of nodes of the hosts after the entries, from the host on
-pub data AreCounts (rules : List RuleParts) : HostState → List Entry → List ℕ → Type 0 where
-  none_counted : {host : HostState} → AreCounts rules host [] []
+pub data AreNodeCounts (rules : List RuleParts) : HostState → List Entry → List ℕ → Type 0 where
+  none_counted : {host : HostState} → AreNodeCounts rules host [] []
   each_counted : {host next : HostState} {entry : Entry} {entries : List Entry} {count : ℕ} {counts : List ℕ}
-      → LeadsTo host rules (step_of entry) next → count ≡ length next.big.nodes → AreCounts rules next entries counts
-      → AreCounts rules host (entry ∷ entries) (count ∷ counts)
+      → LeadsTo host rules (step_of entry) next → count ≡ length next.big.nodes → AreNodeCounts rules next entries counts
+      → AreNodeCounts rules host (entry ∷ entries) (count ∷ counts)

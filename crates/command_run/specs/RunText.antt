@@ -16,7 +16,7 @@ use Rattle.bg_rules.specs.Reaction.{HostState}
 use Rattle.bg_rules.specs.Systems.{SystemParts}
 use Rattle.bg_seats.specs.Histories.{WorkersBelow}
 use Rattle.bg_watch.specs.Watching.{Watched, staying_all, watch_lines}
-use Rattle.command_run.specs.Counts.{AreCounts}
+use Rattle.command_run.specs.Counts.{AreNodeCounts}
 
 -- ---- the text
 
@@ -58,22 +58,22 @@ pub record IsTextOf (system : SystemParts) (entries : List Entry) (end : End) (l
   pub text_is : text ≡ run_text system entries end truths lines host
 
 -- the watchers were told of the entries, each with the number of nodes of the host after it: these lines were written, and
--- these watchers are left
-pub record HaveWatched (system : SystemParts) (entries : List Entry) (watchers left : List Watched) (lines : List ℕ) : Type 0 where
+-- these watchers stay
+pub record HaveWatched (system : SystemParts) (entries : List Entry) (watchers stay : List Watched) (lines : List ℕ) : Type 0 where
   pub counts : List ℕ
-  pub counted : AreCounts system.rules system.init entries counts
+  pub counted : AreNodeCounts system.rules system.init entries counts
   pub lines_are : lines ≡ watch_lines watchers entries counts
-  pub left_are : left ≡ staying_all watchers entries counts
+  pub stay_are : stay ≡ staying_all watchers entries counts
 
 -- the text is that of a run of the system by so many workers, of at most so many entries, of which the watchers were told, and
--- these are left; with one worker it is the run that the seed draws
-pub record IsRunText (system : SystemParts) (most workers seed : ℕ) (watchers left : List Watched) (text : List ℕ) : Type 0 where
+-- these stay; with one worker it is the run that the seed draws
+pub record IsRunText (system : SystemParts) (most workers seed : ℕ) (watchers stay : List Watched) (text : List ℕ) : Type 0 where
   pub entries : List Entry
   pub end : End
   pub host : HostState
   pub lines : List ℕ
   pub written : IsTextOf system entries end lines host text
-  pub watched : HaveWatched system entries watchers left lines
+  pub watched : HaveWatched system entries watchers stay lines
   pub run : IsRun system.rules system.init entries host
   pub end_is : IsEndOf system.rules most entries host end
   pub workers_below : WorkersBelow workers entries

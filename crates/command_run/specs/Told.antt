@@ -4,8 +4,8 @@ use Rattle.bg_runs.specs.declared.finishing.FinishedRun.{FinishedRun}
 use Rattle.bg_watch.specs.Watching.{Watched}
 use Rattle.command_run.specs.RunText.{IsTextOf, HaveWatched}
 
--- the text is that of the run, of which the watchers were told, and these are left
-pub record IsToldRun (run : FinishedRun) (watchers left : List Watched) (text : List ℕ) : Type 0 where
+-- the text is that of the run, of which the watchers were told, and these stay
+pub record IsToldRun (run : FinishedRun) (watchers stay : List Watched) (text : List ℕ) : Type 0 where
   pub lines : List ℕ
   pub written : IsTextOf run.system run.journal run.end lines run.host text
-  pub watched : HaveWatched run.system run.journal watchers left lines
+  pub watched : HaveWatched run.system run.journal watchers stay lines

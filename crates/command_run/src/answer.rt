@@ -3,7 +3,7 @@ ghost use Rattle.std.specs.Prelude.{◌≡◌, ◌-◌, ◌<◌, ◌≤◌, ◌^
 ghost use Rattle.bg_answers.specs.Answer.{answer_of};
 ghost use Rattle.bg_answers.specs.Promise.{IsRightAnswer, IsTold};
 ghost use Rattle.bg_base.specs.Limits.{most_steps};
-ghost use Rattle.command_run.specs.Run.{run_promise, Leaves};
+ghost use Rattle.command_run.specs.Run.{run_promise, HaveStayed};
 
 use crate::text::text_of;
 use bg_answers::{Failure, Reply, Status, system_of};
@@ -20,8 +20,8 @@ use std::thread::Threads;
 /// watchers are told of each entry, with the number of nodes of the host after it; where the input is refused, or there is no
 /// memory, they are told of nothing. The gate is told of the moments of the workers. Costs what reading costs, and at each
 /// step what the legal steps of the host and two reactions cost. Holds the journal and the text beside the host, and two
-/// copies of the host for each worker. It may wait. (Milner, chapter 8; conditions, classes and picks are those of
-/// docs/LANGUAGE.md.)
+/// copies of the host for each worker. It may wait. (Milner, chapter 8; conditions and classes are those of docs/LANGUAGE.md,
+/// picks those of docs/FORMATS.md.)
 pub fn answer_run<G: Gate + Sync, R: Threads + Wait + Sync>(
     rt: &R,
     alloc: Global,
@@ -36,7 +36,7 @@ pub fn answer_run<G: Gate + Sync, R: Threads + Wait + Sync>(
     requires few { most ≤ most_steps }
     requires workers { (1 ≤ workers) × (workers ≤ 64) }
     ensures right { IfOk result (λ reply. IsRightAnswer (run_promise most workers seed (map (λ w. state w) watchers.old.items)) input.now (answer_of reply)) }
-    ensures left { IfOk result (λ reply. Leaves most workers seed (map (λ w. state w) watchers.old.items) (map (λ w. state w) watchers.new.items) input.now (answer_of reply)) }
+    ensures stay { IfOk result (λ reply. HaveStayed most workers seed (map (λ w. state w) watchers.old.items) (map (λ w. state w) watchers.new.items) input.now (answer_of reply)) }
     ensures no_memory { OnErr result (watchers.new ≡ watchers.old) }
 {
     let system = match system_of(alloc, input) {

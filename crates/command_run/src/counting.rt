@@ -2,7 +2,7 @@
 ghost use Rattle.std.specs.Prelude.{IfOk, OnOk};
 ghost use Rattle.bg_cond.specs.Steps.{IsLegal, IsRun, IsTooLarge, LeadsTo, step_of};
 ghost use Rattle.bg_rules.specs.Reaction.{HostState};
-ghost use Rattle.command_run.specs.Counts.{AreCounts};
+ghost use Rattle.command_run.specs.Counts.{AreNodeCounts};
 
 use bg_base::{Entry, Step};
 use bg_cond::take_step;
@@ -13,7 +13,7 @@ use std::alloc::Global;
 /// The number of nodes of the host after each entry of a run of the system. Costs a reaction for each.
 pub(crate) fn counts_of(alloc: Global, system: &System, entries: &[Entry]) -> Mem<Vec<u32>>
     requires { (last : HostState) × IsRun system.now.rules system.now.init entries.now last }
-    ensures { IfOk result (λ counts. AreCounts system.now.rules system.now.init entries.now counts.items) }
+    ensures { IfOk result (λ counts. AreNodeCounts system.now.rules system.now.init entries.now counts.items) }
 {
     let mut host = system.init().copy(alloc)?;
     let mut counts = Vec::new(alloc);

@@ -8,13 +8,13 @@ use Rattle.bg_rules.proofs.Occurrences.{one_list}
 use Rattle.bg_rules.specs.Reaction.{HostState}
 use Rattle.bg_rules.specs.Rules.{RuleParts}
 use Rattle.bg_rules.specs.Systems.{SystemParts, IsSystem}
-use Rattle.command_trial.specs.TrialText.{trial_text, IsCount, AreCounts, IsTrialText}
+use Rattle.command_trial.specs.TrialText.{trial_text, IsOccurrenceCount, AreOccurrenceCounts, IsTrialText}
 
-one_count : (host : Big) (rule : RuleParts) (one other : ℕ) → IsCount host rule one → IsCount host rule other → one ≡ other
+one_count : (host : Big) (rule : RuleParts) (one other : ℕ) → IsOccurrenceCount host rule one → IsOccurrenceCount host rule other → one ≡ other
 one_count host rule one other a b =
     a.count_is ∙ ap (λ (maps : List (List ℕ)). length maps) (one_list host rule.redex a.maps b.maps a.all b.all) ∙ sym b.count_is
 
-one_counts : (host : Big) (rules : List RuleParts) (counts others : List ℕ) → AreCounts host rules counts → AreCounts host rules others → counts ≡ others
+one_counts : (host : Big) (rules : List RuleParts) (counts others : List ℕ) → AreOccurrenceCounts host rules counts → AreOccurrenceCounts host rules others → counts ≡ others
 one_counts host [] [] [] a b = refl
 one_counts host [] [] (y ∷ others) a b = absurd b
 one_counts host [] (x ∷ counts) others a b = absurd a

@@ -45,17 +45,17 @@ trial_text size system counts entries end host = front_text size system counts +
 -- ---- what it tells
 
 -- the redex of the rule has so many occurrences in the host
-pub record IsCount (host : Big) (rule : RuleParts) (count : ℕ) : Type 0 where
+pub record IsOccurrenceCount (host : Big) (rule : RuleParts) (count : ℕ) : Type 0 where
   pub maps : List (List ℕ)
   pub all : AreOccurrences host rule.redex maps
   pub count_is : count ≡ length maps
 
 -- and so of each of the rules, in order
-abbrev pub AreCounts : Big → List RuleParts → List ℕ → Type 0
-AreCounts host [] [] = Unit {0}
-AreCounts host [] (count ∷ counts) = ⊥
-AreCounts host (rule ∷ rules) [] = ⊥
-AreCounts host (rule ∷ rules) (count ∷ counts) = IsCount host rule count × AreCounts host rules counts
+abbrev pub AreOccurrenceCounts : Big → List RuleParts → List ℕ → Type 0
+AreOccurrenceCounts host [] [] = Unit {0}
+AreOccurrenceCounts host [] (count ∷ counts) = ⊥
+AreOccurrenceCounts host (rule ∷ rules) [] = ⊥
+AreOccurrenceCounts host (rule ∷ rules) (count ∷ counts) = IsOccurrenceCount host rule count × AreOccurrenceCounts host rules counts
 
 -- a run of a trial has at most so many steps
 abbrev pub most_trial_steps : ℕ
@@ -64,7 +64,7 @@ most_trial_steps = 1000
 -- the text is that of the system: all occurrences of each rule in its host are counted, and the run is the one that seed 0 draws
 pub record IsTrialText (size : ℕ) (system : SystemParts) (text : List ℕ) : Type 0 where
   pub counts : List ℕ
-  pub counted : AreCounts system.init.big system.rules counts
+  pub counted : AreOccurrenceCounts system.init.big system.rules counts
   pub entries : List Entry
   pub end : End
   pub host : HostState

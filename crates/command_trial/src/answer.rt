@@ -11,9 +11,9 @@ use bg_answers::{Failure, Reply, Status, system_of};
 use bg_lists::Mem;
 use std::alloc::Global;
 
-/// What `trial` answers: `Done` (0) with how many nodes and edges the host of the model of that size has, from 1 to 300, how
-/// many occurrences each rule has there, how many steps the run makes that seed 0 draws, at most 1,000, how it ends, and the
-/// size of the last host; or `Refused` (1) with the line of the refusal, if the model describes no system. Costs what reading
+/// What `trial` answers for a size from 1 to 300: `Done` (0) with how many nodes and edges the host of the model of that size
+/// has, how many occurrences each rule has there, how many steps the run makes that seed 0 draws, at most 1,000, how it ends,
+/// and how many nodes and edges the last host has; or `Refused` (1) with the line of the refusal, if the model describes no system. Costs what reading
 /// the model, the occurrences and the run cost. (Milner, chapter 8.)
 pub fn answer_trial(alloc: Global, size: u32) -> Mem<Reply>
     requires { (1 ≤ size) × (size ≤ 300) }

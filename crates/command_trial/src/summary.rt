@@ -12,8 +12,8 @@ use bg_rules::{Rule, System};
 use bg_workers::{DrawnRun, Picker, draw};
 use std::alloc::Global;
 
-/// The most steps of a run.
-const MOST_STEPS: u32 = 1_000;
+/// The most steps of the run of a trial.
+const MOST_TRIAL_STEPS: u32 = 1_000;
 
 /// The text of a trial of the system: how often its rules occur, and how the run ends that seed 0 draws. Costs a walk over all
 /// occurrences of each rule, and the run.
@@ -22,7 +22,7 @@ pub(crate) fn summary_of(alloc: Global, system: &System, size: u32) -> Mem<Vec<u
 {
     let counts = counts_of(alloc, system)?;
     let host = system.init().copy(alloc)?;
-    let run = draw(alloc, system, host, MOST_STEPS, &mut Picker::new(0, 0))?;
+    let run = draw(alloc, system, host, MOST_TRIAL_STEPS, &mut Picker::new(0, 0))?;
     let mut text = Vec::new(alloc);
     put_front(alloc, size, system, counts.as_slice(), &mut text)?;
     put_end(alloc, &run, &mut text)?;

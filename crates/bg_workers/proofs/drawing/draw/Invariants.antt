@@ -1,9 +1,12 @@
-use Rattle.bg_workers.specs.Turns.{Continues}
+use Rattle.std.proofs.Common.{◌≡◌, length}
+use Rattle.bg_workers.specs.Turns.{Continues, after_words}
 use Rattle.bg_workers.proofs.drawing.draw.Given as goal
 
--- what is drawn from here on, behind the entries so far, is drawn from the beginning
+-- what is drawn from here on, behind the entries so far, is drawn from the beginning; a word was taken for each of these
 abbrev pub invariant-loop-room : goal.invariant-loop-room
-invariant-loop-room l = Continues l.system.rules 0 l.most l.fn.host l.fn.picker l.room l.host l.picker l.entries.items
+invariant-loop-room l =
+    Continues l.system.rules 0 l.most l.fn.host l.fn.picker l.room l.host l.picker l.entries.items
+    × (l.picker ≡ after_words (length l.entries.items) l.fn.picker)
 
 abbrev pub decreases-loop-room : goal.decreases-loop-room
 decreases-loop-room l = l.room

@@ -1,11 +1,12 @@
 use Rattle.std.proofs.Common.{◌≡◌, ◌∙◌, sym, subst, refl, List, []}
 use Rattle.bg_base.specs.declared.history.Entry.{Entry}
 use Rattle.bg_workers.proofs.TurnLaws.{so_far_start, so_far_more, drawn_whole}
+use Rattle.bg_workers.proofs.Turning.{later_still}
 use Rattle.bg_workers.proofs.working.work_on.Goals as goal
 
 pub loop-ended-init : goal.loop-ended-init
 loop-ended-init g c =
-    (c.requires.of, refl, λ none own. so_far_start c.args.system.now c.requires.system c.args.limit c.args.worker c.args.picker.now (g.B.Board.seen c.args.pass.now) none)
+    (c.requires.of, refl, λ none own. so_far_start c.args.system.now c.requires.system c.args.limit c.args.worker c.args.picker.now (g.B.Board.seen c.args.pass.now) none, (0, refl))
 
 pub loop-ended-preserved : goal.loop-ended-preserved
 loop-ended-preserved g c =
@@ -16,4 +17,11 @@ loop-ended-preserved g c =
       of.1 ∙ invariant.1,
       λ none own. so_far_more c.args.system.now c.requires.system c.args.limit c.args.worker c.args.picker.now (g.B.Board.seen c.loop-ended.pass) c.loop-ended.picker
           (g.B.Board.seen c.turn.new.pass) (invariant.2 none) c.turn.new.picker goes own,
+      later_still invariant.3 c.turn.ensures.later,
     )
+
+pub returns-in_err-ended-clause-later : goal.returns-in_err-ended-clause-later
+returns-in_err-ended-clause-later g c = let invariant = c.loop-ended.invariant in later_still invariant.3 c.turn.ensures.later
+
+pub returns-in-Some-clause-later : goal.returns-in-Some-clause-later
+returns-in-Some-clause-later g c = let invariant = c.loop-ended.invariant in later_still invariant.3 c.turn.ensures.later

@@ -1,0 +1,17 @@
+pub mod Below
+pub mod Counts
+pub mod RowLaws
+pub mod Rewritten
+pub mod Classes
+pub mod Members
+pub mod Touched
+pub mod Numbers
+pub mod Edges
+pub mod BoundaryLaws
+pub mod Reacted
+pub mod Making
+pub mod Walks
+pub mod Keeps
+pub mod Listed
+pub mod Decided
+pub mod Storing

@@ -1,0 +1,5 @@
+pub mod Boundaries
+pub mod Rewriting
+pub mod Touching
+pub mod Making
+pub mod Keeping
