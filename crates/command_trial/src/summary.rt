@@ -22,7 +22,13 @@ pub(crate) fn summary_of(alloc: Global, system: &System, size: u32) -> Mem<Vec<u
 {
     let counts = counts_of(alloc, system)?;
     let host = system.init().copy(alloc)?;
-    let run = draw(alloc, system, host, MOST_TRIAL_STEPS, &mut Picker::new(0, 0))?;
+    let run = draw(
+        alloc,
+        system,
+        host,
+        MOST_TRIAL_STEPS,
+        &mut Picker::new(0, 0),
+    )?;
     let mut text = Vec::new(alloc);
     put_front(alloc, size, system, counts.as_slice(), &mut text)?;
     put_end(alloc, &run, &mut text)?;
