@@ -9,7 +9,7 @@ use Rattle.bg_base.specs.Limits.{most_steps}
 use Rattle.bg_base.specs.declared.history.Entry.{Entry}
 use Rattle.bg_seats.specs.declared.knowledge.Knowledge.{Knowledge}
 use Rattle.bg_seats.specs.Histories.{WorkersBelow}
-use Rattle.bg_seats.specs.Seating.{turn_of, pass_of, both_of, spent, Agrees, IsHistoryWord, holds, Told, CaughtUp, Compared, Ended, Loaded, Recorded, extended, joined, taken_in, pass_alone, turn_alone, counted, given_pass}
+use Rattle.bg_seats.specs.Seating.{turn_of, pass_of, both_of, spent, Agrees, IsHistoryWord, holds, Told, CaughtUp, Compared, PassEnded, Loaded, Recorded, extended, joined, taken_in, pass_alone, turn_alone, counted, given_pass}
 use Rattle.bg_seats.proofs.Lists.{set_at, each_set, each_snoc}
 use Rattle.bg_seats.proofs.Histories.{below-larger, below-snoc}
 use Rattle.bg_seats.proofs.Views.{agrees_pass, agrees_turn, agrees_both, agrees_spent, agrees_elsewhere, agrees_longer}
@@ -237,7 +237,7 @@ module _ {S : Type 0} where
       )
 
   pub ends : (slots seat worker : ℕ) (seen : List Entry) (passes : ℕ) (history : List Entry)
-      → Allows {S = S} holds slots seat (both_of worker seen passes history, []) 0 (λ count. count) (λ count after. Ended (step slots 0 0 0 none) (both_of worker seen passes history, []) count after)
+      → Allows {S = S} holds slots seat (both_of worker seen passes history, []) 0 (λ count. count) (λ count after. PassEnded (step slots 0 0 0 none) (both_of worker seen passes history, []) count after)
   ends slots seat worker seen passes history state kept homes at small =
       let known = at_turn state.words state.views seat passes (both_of worker seen passes history) kept at refl in
       let turn = turn_of passes history in
@@ -336,9 +336,9 @@ module _ {S : Type 0} where
       subst (λ x. Allows {S = S} holds slots seat x 0 (λ count. count) (Compared (step slots 0 0 0 none) x)) (sym is) (compares slots seat worker seen passes history)
 
   pub ends_at : (slots seat worker : ℕ) (seen : List Entry) (passes : ℕ) (history : List Entry) (me : Me S Knowledge) → me ≡ (both_of worker seen passes history, [])
-      → Allows {S = S} holds slots seat me 0 (λ count. count) (Ended (step slots 0 0 0 none) me)
+      → Allows {S = S} holds slots seat me 0 (λ count. count) (PassEnded (step slots 0 0 0 none) me)
   ends_at slots seat worker seen passes history me is =
-      subst (λ x. Allows {S = S} holds slots seat x 0 (λ count. count) (Ended (step slots 0 0 0 none) x)) (sym is) (ends slots seat worker seen passes history)
+      subst (λ x. Allows {S = S} holds slots seat x 0 (λ count. count) (PassEnded (step slots 0 0 0 none) x)) (sym is) (ends slots seat worker seen passes history)
 
   pub loads_at : (slots seat worker : ℕ) (seen : List Entry) (me : Me S Knowledge) → me ≡ (pass_of worker seen, [])
       → Allows {S = S} holds slots seat me 0 (λ count. count) (Loaded (step slots 0 0 0 none) me)

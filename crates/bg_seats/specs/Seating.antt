@@ -112,8 +112,8 @@ abbrev pub Compared : {S : Type 0} → Step S → Me S Knowledge → ℕ → Me 
 Compared step before count after = (after ≡ before) × Told before.0 count
 
 -- a load after which the pass is no more
-abbrev pub Ended : {S : Type 0} → Step S → Me S Knowledge → ℕ → Me S Knowledge → Type 0
-Ended step before count after = (after ≡ (turn_alone before.0, before.1)) × Told before.0 count
+abbrev pub PassEnded : {S : Type 0} → Step S → Me S Knowledge → ℕ → Me S Knowledge → Type 0
+PassEnded step before count after = (after ≡ (turn_alone before.0, before.1)) × Told before.0 count
 
 -- a load by a pass that has not the turn
 abbrev pub Loaded : {S : Type 0} → Step S → Me S Knowledge → ℕ → Me S Knowledge → Type 0

@@ -95,9 +95,9 @@ impl Play<u8, Knowledge> for Compares {
 pub struct Ends;
 
 impl Play<u8, Knowledge> for Ends {
-    ghost use Rattle.bg_seats.specs.Seating.{Ended};
+    ghost use Rattle.bg_seats.specs.Seating.{PassEnded};
 
-    ghost then = { Ended };
+    ghost then = { PassEnded };
 }
 
 /// The name of the entry that a step records. Each call picks its own.

@@ -10,7 +10,7 @@ use Rattle.bg_answers.specs.Refusal.{refusing}
 use Rattle.bg_answers.specs.declared.refusal.Refusal.{Refusal}
 use Rattle.bg_answers.specs.declared.status.Status.{Status}
 use Rattle.bg_answers.specs.declared.status.Status.TheVariants.{Done, Refused, WrongWords, TooMany, NoRun, TooLong, Unsorted}
-use Rattle.bg_top.specs.Ended.{Ended, SomeAnswer, IsStopped, ComesWhere}
+use Rattle.bg_top.specs.Ended.{CallEnded, SomeAnswer, IsStopped, ComesWhere}
 use Rattle.bg_top.specs.Numbers.{failed_read, failed_write, out_of_memory}
 use Rattle.bg_top.specs.Right.{promise_of, input_of, is_long, IsReply, IsTaken, IsRefused, IsTooMuch, EndsWith, IsRight, IsAnsweredWith, AsksOf, Answers}
 use Rattle.bg_top.specs.Staying.{Stay, IsRightWith}
@@ -147,7 +147,7 @@ made_of promise input (refused r) not = absurd (not refl)
 
 module _ (most : ℕ) (watchers : List Watched) (result : ℕ) (reads writes flushed kept : Type 0) (old new : Option (List ℕ)) where
   abbrev Ends : Option Request → Option (List ℕ) → Type 0
-  Ends asked left = Ended (IsRight most asked watchers left) result reads writes flushed kept old new
+  Ends asked left = CallEnded (IsRight most asked watchers left) result reads writes flushed kept old new
 
   -- a right answer with that result
   abbrev HasAnswer : Option Request → Option (List ℕ) → Type 0
@@ -321,7 +321,7 @@ stay_same None left watchers stay answer not is = is
 stay_same (Some request) left watchers stay answer not is = is.kept (inl not)
 
 pub untold_from : (most : ℕ) (asked : Option Request) (left : Option (List ℕ)) (watchers stay : List Watched) (result : ℕ) (reads writes flushed kept : Type 0)
-    (old new : Option (List ℕ)) → (kept → stay ≡ watchers) → Ended (IsRightWith most asked left watchers stay) result reads writes flushed kept old new
+    (old new : Option (List ℕ)) → (kept → stay ≡ watchers) → CallEnded (IsRightWith most asked left watchers stay) result reads writes flushed kept old new
     → IfSome asked (λ request. request.command ≢ Run) → stay ≡ watchers
 untold_from most asked left watchers stay result reads writes flushed kept old new same ended not =
     ⊎_elim (λ stopped. ⊎_elim (λ is. same (ended.read_failure is).2)

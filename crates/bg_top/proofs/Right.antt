@@ -5,7 +5,7 @@ use Rattle.std.specs.declared.option.Option.{Option}
 use Rattle.bg_io.specs.Transfers.{ConsumesExactly}
 use Rattle.bg_answers.specs.Answer.{Answer, too_long}
 use Rattle.bg_answers.specs.declared.status.Status.TheVariants.{Done}
-use Rattle.bg_top.specs.Ended.{Ended, SomeAnswer}
+use Rattle.bg_top.specs.Ended.{CallEnded, SomeAnswer}
 use Rattle.bg_top.specs.Right.{input_of, is_long, IsLeft, IsInput, IsReply, ReadsRight, IsRight}
 use Rattle.bg_top.specs.Staying.{StayFor, IsRightWith}
 use Rattle.bg_watch.specs.Watching.{Watched}
@@ -42,7 +42,7 @@ long_input most request bytes = of (is_reading request.command)
 -- what ended with an answer of one kind has ended with one of a wider kind
 pub ended_under : (right wider : Answer → Type 0) (status : ℕ) (reads fails writes flushed kept stays : Type 0) (old new : Option (List ℕ))
     → ((answer : Answer) → right answer → wider answer) → (reads → fails) → (kept → stays)
-    → Ended right status reads writes flushed kept old new → Ended wider status fails writes flushed stays old new
+    → CallEnded right status reads writes flushed kept old new → CallEnded wider status fails writes flushed stays old new
 ended_under right wider status reads fails writes flushed kept stays old new widen failed stay ended =
     record {
       read_failure = λ is. let was = ended.read_failure is in (failed was.0, was.1, stay was.2);
@@ -57,8 +57,8 @@ ended_under right wider status reads fails writes flushed kept stays old new wid
 
 -- whatever is said of the watchers, the answer is right
 pub ended_right : (most : ℕ) (asked : Option Request) (watchers stay : List Watched) (left : Option (List ℕ)) (status : ℕ) (reads writes flushed kept : Type 0)
-    (old new : Option (List ℕ)) → Ended (IsRightWith most asked left watchers stay) status reads writes flushed kept old new
-    → Ended (IsRight most asked watchers left) status reads writes flushed kept old new
+    (old new : Option (List ℕ)) → CallEnded (IsRightWith most asked left watchers stay) status reads writes flushed kept old new
+    → CallEnded (IsRight most asked watchers left) status reads writes flushed kept old new
 ended_right most asked watchers stay left status reads writes flushed kept old new ended =
     ended_under (IsRightWith most asked left watchers stay) (IsRight most asked watchers left) status reads reads writes flushed kept kept old new
     (λ answer is. is.0) (λ r. r) (λ k. k) ended
@@ -101,7 +101,7 @@ right_too_long most asked request watchers left after is reading given =
 
 -- a call that wrote a right answer, or failed in writing it
 pub ended_with : (right : Answer → Type 0) (answer : Answer) (status : ℕ) (fails writes flushed kept : Type 0) (old new : Option (List ℕ))
-    → right answer → Ended (λ a. a ≡ answer) status ⊥ writes flushed ⊥ old new → Ended right status fails writes flushed kept old new
+    → right answer → CallEnded (λ a. a ≡ answer) status ⊥ writes flushed ⊥ old new → CallEnded right status fails writes flushed kept old new
 ended_with right answer status fails writes flushed kept old new holds ended =
     ended_under (λ a. a ≡ answer) right status ⊥ fails writes flushed ⊥ kept old new (λ a is. subst right (sym is) holds) (λ never. absurd never)
     (λ never. absurd never) ended

@@ -13,7 +13,7 @@ SomeAnswer right P = (answer : Answer) × right answer × P answer
 
 -- a call ended with this status; what the sink holds went from old to new; `flushed` says that the sink has passed it on, and
 -- `kept` that no watcher was told of anything
-pub record Ended (right : Answer → Type 0) (status : ℕ) (read_failed write_failed flushed kept : Type 0) (old new : Option (List ℕ)) : Type 0 where
+pub record CallEnded (right : Answer → Type 0) (status : ℕ) (read_failed write_failed flushed kept : Type 0) (old new : Option (List ℕ)) : Type 0 where
   -- after a failed read nothing is written, and nothing told
   pub read_failure : status ≡ failed_read → read_failed × Keeps old new × kept
   -- after a failed write the start of a right text is written

@@ -3,7 +3,7 @@ ghost use Rattle.std.specs.Prelude.{◌≡◌, ◌≢◌, ◌≤◌, ◌+◌, �
 ghost use Rattle.std.specs.Option.{IsSomeAnd};
 ghost use Rattle.bg_answers.specs.Answer.{number, answer_of};
 ghost use Rattle.bg_io.specs.Faults.{Rose};
-ghost use Rattle.bg_top.specs.Ended.{Ended, ComesWhere};
+ghost use Rattle.bg_top.specs.Ended.{CallEnded, ComesWhere};
 ghost use Rattle.bg_top.specs.Numbers.{failed_read, failed_write, out_of_memory, most_bytes};
 ghost use Rattle.bg_top.specs.Right.{IsReply, IsAnsweredWith, AsksOf, Answers, IsRefused, IsTooMuch, IsTaken, EndsWith, input_of, is_long};
 ghost use Rattle.bg_top.specs.Staying.{IsRightWith, StayFor};
@@ -68,7 +68,7 @@ pub fn engine<S: Source, K: Sink, G: Gate + Sync, R: Threads + Wait + Sync>(
     gate: &G,
 ) -> u8
     // every status, what is written with it, and which watchers stay
-    ensures ended { Ended (IsRightWith most_bytes (asked words.now) (S.left source.old)
+    ensures ended { CallEnded (IsRightWith most_bytes (asked words.now) (S.left source.old)
         (map (λ w. state w) watchers.old.items) (map (λ w. state w) watchers.new.items)) result
         (Rose (S.faults source.old) (S.faults source.new)) (Rose (K.faults sink.old) (K.faults sink.new))
         (K.is_flushed sink.new) (watchers.new ≡ watchers.old) (K.held sink.old) (K.held sink.new) }
@@ -121,7 +121,7 @@ fn run<S: Source, K: Sink, G: Gate + Sync, R: Threads + Wait + Sync>(
     watchers: &mut Vec<Box<dyn Watcher>>,
     gate: &G,
 ) -> u8
-    ensures ended { Ended (IsRightWith most_bytes (asked words.now) (S.left source.old)
+    ensures ended { CallEnded (IsRightWith most_bytes (asked words.now) (S.left source.old)
         (map (λ w. state w) watchers.old.items) (map (λ w. state w) watchers.new.items)) result
         (Rose (S.faults source.old) (S.faults source.new)) (Rose (K.faults sink.old) (K.faults sink.new))
         (K.is_flushed sink.new) (watchers.new ≡ watchers.old) (K.held sink.old) (K.held sink.new) }
@@ -159,7 +159,7 @@ fn answer<K: Sink, G: Gate + Sync, R: Threads + Wait + Sync>(
 ) -> u8
     requires in_range { IsInRange request }
     requires few { length input.now ≤ most_bytes }
-    ensures ended { Ended (λ answer. IsReply request (map (λ w. state w) watchers.old.items) (input_of request input.now) answer
+    ensures ended { CallEnded (λ answer. IsReply request (map (λ w. state w) watchers.old.items) (input_of request input.now) answer
         × StayFor request (Some input.now) (map (λ w. state w) watchers.old.items) (map (λ w. state w) watchers.new.items) answer) result
         ⊥ (Rose (K.faults sink.old) (K.faults sink.new)) (K.is_flushed sink.new) (watchers.new ≡ watchers.old)
         (K.held sink.old) (K.held sink.new) }
@@ -207,7 +207,7 @@ fn reply_to<G: Gate + Sync, R: Threads + Wait + Sync>(
 
 /// Writes an answer, and gives the status with which the program ends.
 fn respond<K: Sink>(sink: &mut K, status: Status, text: &[u8]) -> u8
-    ensures ended { Ended (λ answer. answer ≡ record { status = status; text = text.now }) result
+    ensures ended { CallEnded (λ answer. answer ≡ record { status = status; text = text.now }) result
         ⊥ (Rose (K.faults sink.old) (K.faults sink.new)) (K.is_flushed sink.new) ⊥ (K.held sink.old) (K.held sink.new) }
     ensures sink_faults { result ≢ failed_write → K.faults sink.new ≡ K.faults sink.old }
 {
