@@ -1,0 +1,6 @@
+pub mod ControlLaws
+pub mod IndexLaws
+pub mod MakingLaws
+pub mod ReadingLaws
+pub mod StepLaws
+pub mod WalkLaws

@@ -1,0 +1,6 @@
+pub mod Indexed
+pub mod Making
+pub mod Plans
+pub mod Readings
+pub mod Steps
+pub mod Walks

@@ -1,0 +1,47 @@
+//! What a reaction is to leave, made before anything is changed.
+use crate::entries::{EdgeEntry, NodeEntry};
+use bg_base::Place;
+use bg_link::Point;
+
+/// A node that is to have another parent, and that parent.
+#[derive(Clone, Copy)]
+pub struct Move {
+    pub node: u32,
+    pub place: Place,
+}
+
+/// A place, and the nodes that are to lie in it.
+#[derive(Drop)]
+pub struct Nest {
+    pub place: Place,
+    pub children: Vec<u32>,
+}
+
+/// A link of the host before: an edge by its number, an outer name by its position.
+#[derive(Clone, Copy, PartialEq, Eq, PartialOrd, Ord)]
+pub enum LinkKey {
+    Edge(u32),
+    Name(u32),
+}
+
+/// A link, and the points that are to be tied to it.
+#[derive(Drop)]
+pub struct Bundle {
+    pub key: LinkKey,
+    pub points: Vec<Point>,
+}
+
+/// What a reaction is to leave of a host: nodes are taken out, new ones with what lies in them put behind, others moved;
+/// places and links that are there get other children and other points; edges are taken out and new ones put behind.
+#[derive(Drop)]
+pub struct Plan {
+    pub gone: Vec<u32>,
+    pub moves: Vec<Move>,
+    pub entries: Vec<NodeEntry>,
+    pub nests: Vec<Nest>,
+    pub idle: Vec<u32>,
+    pub used: Vec<EdgeEntry>,
+    pub bundles: Vec<Bundle>,
+    pub next_node: u32,
+    pub next_edge: u32,
+}

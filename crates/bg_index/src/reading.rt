@@ -1,0 +1,146 @@
+//! What a rule finds round the images of its redex, read off the host before anything is changed.
+ghost use Rattle.std.specs.Prelude.{◌≡◌, ℕ, ◌<◌, ◌^◌, IfOk, IsTrue, Some, length};
+ghost use Rattle.std.specs.List.Sorted.{IsStrictlySortedBy};
+ghost use Rattle.bg_lists.specs.Lists.{Mem as Member, At};
+ghost use Rattle.bg_base.specs.declared.names.Place.{Place as PlaceValue};
+ghost use Rattle.bg_base.specs.Order.{name_cmp};
+ghost use Rattle.bg_base.specs.declared.big.Big.{Big as BigValue};
+ghost use Rattle.bg_base.specs.declared.names.Link.{Link as LinkValue};
+ghost use Rattle.bg_base.specs.declared.names.Link.TheVariants.{Outer};
+ghost use Rattle.bg_base.specs.declared.names.Name.{Name as NameValue};
+ghost use Rattle.bg_index.specs.declared.reading.Tie.{Tie as TieValue};
+ghost use Rattle.bg_link.specs.Links as defined;
+ghost use Rattle.bg_link.specs.Links.{has_port, link_of};
+ghost use Rattle.bg_index.specs.Readings.{AreFound, AreNoted, IsNoted};
+ghost use Rattle.bg_rewriting.specs.Boundaries.{IsLinkOf, IsPlaceOf};
+ghost use Rattle.bg_rules.specs.Hosts.{IsHost};
+ghost use Rattle.bg_rules.specs.LocalConditions.{MeetsLocally};
+ghost use Rattle.bg_rules.specs.Solid.{IsPattern};
+
+use crate::IndexedHost;
+use bg_base::{Big, Link, Name, Place};
+use bg_lists::{Duplicate, Mem};
+use std::alloc::Global;
+
+/// The nodes at a site, ascending.
+#[derive(Drop)]
+pub struct Part {
+    pub nodes: Vec<u32>,
+}
+
+/// What a rule finds round its images: for each region of the redex the place in which it stands, for each outer name the
+/// link that it stands for, for each site how many entries of the map ask for it and the nodes there. Where exactly one
+/// entry asks for a site its nodes are left out, since they keep their numbers. The images ascend.
+#[derive(Drop)]
+pub struct Reading {
+    pub images: Vec<u32>,
+    pub places: Vec<Place>,
+    pub links: Vec<Link>,
+    pub asked: Vec<u32>,
+    pub parts: Vec<Part>,
+}
+
+/// For each region of the redex the place of the image of a node in it.
+fn places_of(alloc: Global, host: &IndexedHost, redex: &Big, map: &[u32]) -> Mem<Vec<Place>>
+    requires host { IsHost host.now }
+    requires pattern { IsPattern redex.now }
+    requires meets { MeetsLocally host.now.big redex.now map.now }
+    ensures many { IfOk result (λ places. length places.items ≡ redex.now.regions) }
+    ensures are { IfOk result (λ places. (region : ℕ) (place : PlaceValue) → At place region places.items
+        → IsPlaceOf host.now.big redex.now map.now region place) }
+{
+    let mut places = vec![in alloc; Place::Region(0); redex.regions as usize]?;
+    for (at, row) in redex.nodes.iter().enumerate() {
+        match row.parent {
+            Place::Region(region) => places[region as usize] = host.parent(map[at]),
+            Place::Node(_) => {}
+        }
+    }
+    Ok(places)
+}
+
+/// A port of a node.
+#[derive(Clone, Copy)]
+pub struct Tie {
+    pub node: u32,
+    pub port: u32,
+}
+
+/// For each outer name of the redex the link of the image of a port with the name.
+fn links_of(alloc: Global, host: &IndexedHost, redex: &Big, map: &[u32]) -> Mem<Vec<Link>>
+    requires host { IsHost host.now }
+    requires pattern { IsPattern redex.now }
+    requires meets { MeetsLocally host.now.big redex.now map.now }
+    ensures many { IfOk result (λ links. length links.items ≡ length redex.now.outer) }
+    ensures are { IfOk result (λ links. (i : ℕ) (name : NameValue) (link : LinkValue) → At name i redex.now.outer → At link i links.items
+        → IsLinkOf host.now.big redex.now map.now name link) }
+{
+    let ties = ties_of(alloc, redex, map)?;
+    let links = links_at(alloc, host, &ties)?;
+    Ok(links)
+}
+
+/// Copies of the links of these ports, which are there.
+fn links_at(alloc: Global, host: &IndexedHost, ties: &[Tie]) -> Mem<Vec<Link>>
+    requires there { (tie : TieValue) → Member tie ties.now → IsTrue (has_port (defined.links_of host.now.big) tie.node tie.port) }
+    ensures many { IfOk result (λ links. length links.items ≡ length ties.now) }
+    ensures are { IfOk result (λ links. (i : ℕ) (tie : TieValue) (link : LinkValue) → At tie i ties.now → At link i links.items
+        → link_of (defined.links_of host.now.big) tie.node tie.port ≡ Some link) }
+{
+    let mut made = Vec::new(alloc);
+    for tie in ties {
+        let link = host.link(tie.node, tie.port).copy(alloc)?;
+        made.push(link)?;
+    }
+    Ok(made)
+}
+
+/// For each outer name of the redex a port of an image whose port in the redex has the name.
+fn ties_of(alloc: Global, redex: &Big, map: &[u32]) -> Mem<Vec<Tie>>
+    requires outer_ascends { IsStrictlySortedBy name_cmp redex.now.outer }
+    requires as_many { length redex.now.nodes ≡ length map.now }
+    ensures { IfOk result (λ ties. (host : BigValue) → IsPattern redex.now → MeetsLocally host redex.now map.now
+        → AreFound host redex.now map.now (length redex.now.nodes) ties.items) }
+{
+    let mut ties = vec![in alloc; Tie { node: 0, port: 0 }; redex.outer.len() as usize]?;
+    for (at, row) in redex.nodes.iter().enumerate() {
+        note_ports(&redex.outer, row.links.as_slice(), map[at], &mut ties);
+    }
+    Ok(ties)
+}
+
+/// Notes for each outer name among the links the port that has it.
+fn note_ports(outer: &[Name], links: &[Link], node: u32, ties: &mut Vec<Tie>)
+    requires outer_ascends { IsStrictlySortedBy name_cmp outer.now }
+    requires beside { length ties.old.items ≡ length outer.now }
+    requires few { length links.now < 2 ^ 32 }
+    ensures { AreNoted outer.now links.now node (length links.now) ties.old.items ties.new.items }
+{
+    for (port, link) in links.iter().enumerate() {
+        note_port(outer, link, node, port as u32, ties);
+    }
+}
+
+/// Notes the port for its outer name, where the link is one.
+fn note_port(outer: &[Name], link: &Link, node: u32, port: u32, ties: &mut Vec<Tie>)
+    requires outer_ascends { IsStrictlySortedBy name_cmp outer.now }
+    requires beside { length ties.old.items ≡ length outer.now }
+    ensures { IsNoted outer.now link.now node port ties.old.items ties.new.items }
+{
+    match link {
+        Link::Outer(name) => note_name(outer, name, Tie { node, port }, ties),
+        Link::Edge(_) => {}
+    }
+}
+
+/// Notes the port for the outer name.
+fn note_name(outer: &[Name], name: &Name, tie: Tie, ties: &mut Vec<Tie>)
+    requires outer_ascends { IsStrictlySortedBy name_cmp outer.now }
+    requires beside { length ties.old.items ≡ length outer.now }
+    ensures { IsNoted outer.now (Outer name.now) tie.node tie.port ties.old.items ties.new.items }
+{
+    match outer.binary_search(name) {
+        Ok(at) => ties[at] = tie,
+        Err(_) => {}
+    }
+}
