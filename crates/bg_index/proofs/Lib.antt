@@ -1,6 +1,9 @@
 pub mod ControlLaws
+pub mod GrowthLaws
 pub mod IndexLaws
 pub mod MakingLaws
+pub mod PlanLaws
 pub mod ReadingLaws
 pub mod StepLaws
+pub mod TouchedLaws
 pub mod WalkLaws

@@ -1,5 +1,7 @@
+pub mod Growth
 pub mod Indexed
 pub mod Making
+pub mod Noting
 pub mod Plans
 pub mod Readings
 pub mod Steps

@@ -9,9 +9,11 @@ mod entries;
 mod indexed_host;
 mod laws;
 mod making;
+mod numbers;
 mod parts;
 mod plans;
 mod reading;
+mod touched;
 
 pub use indexed_host::IndexedHost;
 pub use laws::steps_leave_an_index;

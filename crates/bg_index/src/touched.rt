@@ -1,0 +1,116 @@
+//! What a reaction touches: the nodes that are gone, and those that are new or changed.
+ghost use Rattle.std.specs.Prelude.{◌≡◌, ◌++◌, IfOk, OnOk, map};
+ghost use Rattle.std.specs.Ordering.{nat_cmp};
+ghost use Rattle.bg_lists.specs.Orders.{set_of};
+ghost use Rattle.bg_index.specs.declared.entries.NodeEntry.{NodeEntry as NodeEntryValue};
+ghost use Rattle.bg_index.specs.declared.plans.Move.{Move as MoveValue};
+ghost use Rattle.bg_index.specs.Noting as noting;
+ghost use Rattle.bg_index.specs.Noting.{noted};
+
+use crate::entries::NodeEntry;
+use crate::numbers::number_set;
+use crate::plans::{Bundle, Move, Nest, Plan};
+use bg_base::Place;
+use bg_link::Point;
+use bg_lists::Mem;
+use std::alloc::Global;
+
+/// What a reaction touches. Both lists ascend. `gone` has exactly the nodes that were there before and are not there now;
+/// `changed` exactly those that are there now and are new, or whose row, children, or points of one of their links are
+/// others than before.
+#[derive(Drop)]
+pub struct Touched {
+    pub gone: Vec<u32>,
+    pub changed: Vec<u32>,
+}
+
+/// The nodes that a plan makes, moves, gives other children or other points of a link, ascending. Costs time n log n, and
+/// memory n, in the number of these and of the points of the links.
+pub fn changed_of(alloc: Global, plan: &Plan) -> Mem<Vec<u32>>
+    ensures { IfOk result (λ changed. changed.items ≡ set_of nat_cmp (noted plan.now)) }
+{
+    let nodes = noted_of(alloc, plan)?;
+    Ok(number_set(nodes))
+}
+
+/// The same, one after the other, some of them more than once.
+fn noted_of(alloc: Global, plan: &Plan) -> Mem<Vec<u32>>
+    ensures { IfOk result (λ nodes. nodes.items ≡ noted plan.now) }
+{
+    let mut nodes = Vec::new(alloc);
+    note_entries(&plan.entries, &mut nodes)?;
+    note_moves(&plan.moves, &mut nodes)?;
+    note_nests(&plan.nests, &mut nodes)?;
+    note_bundles(&plan.bundles, &mut nodes)?;
+    Ok(nodes)
+}
+
+/// Puts the numbers of new nodes behind the others.
+fn note_entries(entries: &[NodeEntry], nodes: &mut Vec<u32>) -> Mem<()>
+    ensures { OnOk result (nodes.new.items ≡ nodes.old.items ++ map (λ (entry : NodeEntryValue). entry.row.id) entries.now) }
+{
+    for entry in entries {
+        nodes.push(entry.row.id)?;
+    }
+    Ok(())
+}
+
+/// Puts the nodes that move behind the others.
+fn note_moves(moves: &[Move], nodes: &mut Vec<u32>) -> Mem<()>
+    ensures { OnOk result (nodes.new.items ≡ nodes.old.items ++ map (λ (move : MoveValue). move.node) moves.now) }
+{
+    for moved in moves {
+        nodes.push(moved.node)?;
+    }
+    Ok(())
+}
+
+/// Puts the nodes that get other children behind the others.
+fn note_nests(nests: &[Nest], nodes: &mut Vec<u32>) -> Mem<()>
+    ensures { OnOk result (nodes.new.items ≡ nodes.old.items ++ noting.nests_noted nests.now) }
+{
+    for nest in nests {
+        note_place(nest.place, nodes)?;
+    }
+    Ok(())
+}
+
+/// Puts the place behind the others, where it is a node.
+fn note_place(place: Place, nodes: &mut Vec<u32>) -> Mem<()>
+    ensures { OnOk result (nodes.new.items ≡ nodes.old.items ++ noting.place_noted place) }
+{
+    if let Place::Node(node) = place {
+        nodes.push(node)?;
+    }
+    Ok(())
+}
+
+/// Puts the nodes behind the others that have a port on a link whose points are others.
+fn note_bundles(bundles: &[Bundle], nodes: &mut Vec<u32>) -> Mem<()>
+    ensures { OnOk result (nodes.new.items ≡ nodes.old.items ++ noting.bundles_noted bundles.now) }
+{
+    for bundle in bundles {
+        note_points(&bundle.points, nodes)?;
+    }
+    Ok(())
+}
+
+/// Puts the nodes of the ports behind the others.
+fn note_points(points: &[Point], nodes: &mut Vec<u32>) -> Mem<()>
+    ensures { OnOk result (nodes.new.items ≡ nodes.old.items ++ noting.points_noted points.now) }
+{
+    for point in points {
+        note_point(point, nodes)?;
+    }
+    Ok(())
+}
+
+/// Puts the node of the point behind the others, where it is a port.
+fn note_point(point: &Point, nodes: &mut Vec<u32>) -> Mem<()>
+    ensures { OnOk result (nodes.new.items ≡ nodes.old.items ++ noting.point_noted point.now) }
+{
+    if let Point::Port { node, .. } = point {
+        nodes.push(*node)?;
+    }
+    Ok(())
+}
