@@ -12,10 +12,11 @@ use Rattle.bg_base.specs.declared.names.Link.{Link}
 use Rattle.bg_base.specs.declared.names.Link.TheVariants.{Edge, Outer}
 use Rattle.bg_base.specs.declared.big.NodeRow.{NodeRow}
 use Rattle.bg_base.specs.Elementary.{counted}
+use Rattle.bg_base.specs.Limits.{most_host_edges}
 use Rattle.bg_base.specs.Products.{has_point}
 use Rattle.bg_link.specs.declared.graph.Point.{Point}
 use Rattle.bg_link.specs.Links.{links_of, points_of}
-use Rattle.bg_rewriting.specs.Boundaries.{Boundary}
+use Rattle.bg_rewriting.specs.Boundaries.{Boundary, IsBoundary}
 use Rattle.bg_rewriting.specs.Keeping.{nodes_with, ports_on, stays_at}
 use Rattle.bg_rewriting.specs.Making.{AreDropped, AreIdle}
 use Rattle.bg_rewriting.specs.Rewriting.{IsRowAfter, late_count}
@@ -23,6 +24,7 @@ use Rattle.bg_rewriting.specs.Touching.{IsDropped}
 use Rattle.bg_rules.specs.Decomposition.{Occurs}
 use Rattle.bg_rules.specs.Hosts.{IsHost}
 use Rattle.bg_rules.specs.Instantiation.{is_among}
+use Rattle.bg_rules.specs.Limits.{IsWithinLimits}
 use Rattle.bg_rules.specs.Reaction.{HostState}
 use Rattle.bg_rules.specs.Rules.{RuleParts, IsRule}
 use Rattle.bg_index.specs.declared.entries.ControlEntry.{ControlEntry}
@@ -35,8 +37,10 @@ use Rattle.bg_index.specs.declared.entries.Slot.{Slot}
 use Rattle.bg_index.specs.declared.plans.Bundle.{Bundle}
 use Rattle.bg_index.specs.declared.plans.LinkKey.{LinkKey}
 use Rattle.bg_index.specs.declared.plans.LinkKey.TheVariants.{Edge as EdgeKey, Name as NameKey}
+use Rattle.bg_index.specs.declared.plans.LinkChanges.{LinkChanges}
 use Rattle.bg_index.specs.declared.plans.Move.{Move}
 use Rattle.bg_index.specs.declared.plans.Nest.{Nest}
+use Rattle.bg_index.specs.declared.plans.NodeChanges.{NodeChanges}
 use Rattle.bg_index.specs.declared.plans.Plan.{Plan}
 use Rattle.bg_index.specs.declared.reading.Reading.{Reading}
 use Rattle.bg_index.specs.Indexed.{slot_cmp, control_cmp, rows_of, edges_of}
@@ -219,3 +223,28 @@ pub record IsCarriedOut (old : Index) (plan : Plan) (new : Index) : Type 0 where
       → (entry : ControlEntry) × Mem entry new.controls.items × (entry.control ≡ row.control)
   pub next_node : new.next_node ≡ plan.next_node
   pub next_edge : new.next_edge ≡ plan.next_edge
+
+-- ---- the parts of a plan
+
+-- what goes, moves and comes of the nodes
+pub record AreNodeChanges (host : HostState) (rule : RuleParts) (nodes : List ℕ) (boundary : Boundary) (changes : NodeChanges) : Type 0 where
+  pub gone_ascends : IsStrictlySortedBy nat_cmp changes.gone.items
+  pub gone_are : AreDropped host.big rule nodes changes.gone.items
+  pub moves_are : AreMoves host rule nodes boundary changes.moves.items
+  pub rows_are : AreNewRows host rule nodes boundary changes.new.items
+
+-- what goes, comes and changes of the links; the edges after are within their limit
+pub record AreLinkChanges (host : HostState) (rule : RuleParts) (nodes : List ℕ) (boundary : Boundary) (gone : List ℕ) (new : List NodeRow)
+    (changes : LinkChanges) : Type 0 where
+  pub idle_ascends : IsStrictlySortedBy nat_cmp changes.idle.items
+  pub idle_are : AreIdle host.big rule nodes boundary changes.idle.items
+  pub used_are : AreUsed host rule new changes.used.items
+  pub bundles_are : AreBundles host rule nodes gone changes.idle.items new changes.bundles.items
+  pub few_edges : length host.big.edges + length changes.used.items ≤ most_host_edges + length changes.idle.items
+
+-- a plan of the reaction, to a host within the limits
+pub record IsReactionPlan (host : HostState) (rule : RuleParts) (nodes : List ℕ) (plan : Plan) : Type 0 where
+  pub boundary : Boundary
+  pub is_boundary : IsBoundary host.big rule nodes boundary
+  pub is_plan : IsPlan host rule nodes boundary plan
+  pub within : IsWithinLimits (host_planned host plan)

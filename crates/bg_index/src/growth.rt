@@ -7,6 +7,7 @@ ghost use Rattle.bg_index.specs.Growth.{HasNumbers};
 ghost use Rattle.bg_index.specs.Readings.{boundary_of};
 
 use crate::IndexedHost;
+use crate::late::count_late;
 use crate::reading::Reading;
 use bg_base::limits::{LARGEST_COUNTER, MOST_HOST_EDGES, MOST_HOST_NODES};
 use bg_lists::Mem;
@@ -18,6 +19,28 @@ use std::alloc::Global;
 pub struct Counters {
     pub next_node: u32,
     pub next_edge: u32,
+}
+
+/// The counters; none where the nodes after the reaction or a counter pass their limit. Costs time n log n, and memory n,
+/// in the number of the rule's sites.
+pub fn counters_after(
+    alloc: Global,
+    host: &IndexedHost,
+    rule: &Rule,
+    reading: &Reading,
+    gone: &[u32],
+) -> Mem<Option<Counters>>
+    requires is_host { IsHost host.now }
+    ensures { IfOk result (λ found. MatchOption found
+        (HasNumbers host.now rule.now (late_count (boundary_of reading.now).parts [] rule.now.map) gone.now → ⊥)
+        (λ counters. HasNumbers host.now rule.now (late_count (boundary_of reading.now).parts [] rule.now.map) gone.now
+        × (counters.next_node ≡ host.now.next_node + length rule.now.reactum.nodes + late_count (boundary_of reading.now).parts [] rule.now.map)
+        × (counters.next_edge ≡ host.now.next_edge + length rule.now.reactum.edges))) }
+{
+    let Some(late) = count_late(alloc, reading, rule.map(), LARGEST_COUNTER)? else {
+        return Ok(None);
+    };
+    Ok(counters_with(host, rule, gone, late))
 }
 
 /// The same, where the late copies have so many nodes.

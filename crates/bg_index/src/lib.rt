@@ -4,17 +4,26 @@
 //!   the nodes of each control kept beside them, each list ascending.
 #![tactic(auto)]
 
+mod bundles;
+mod children;
 mod controls;
 mod entries;
+mod going;
 mod growth;
+mod idle;
 mod indexed_host;
+mod late;
 mod laws;
 mod making;
+mod moves;
+mod new_rows;
 mod numbers;
 mod parts;
+mod planning;
 mod plans;
 mod reading;
 mod touched;
+mod used;
 
 pub use indexed_host::IndexedHost;
 pub use laws::steps_leave_an_index;

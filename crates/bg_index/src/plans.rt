@@ -1,6 +1,6 @@
 //! What a reaction is to leave, made before anything is changed.
 use crate::entries::{EdgeEntry, NodeEntry};
-use bg_base::Place;
+use bg_base::{NodeRow, Place};
 use bg_link::Point;
 
 /// A node that is to have another parent, and that parent.
@@ -29,6 +29,22 @@ pub enum LinkKey {
 pub struct Bundle {
     pub key: LinkKey,
     pub points: Vec<Point>,
+}
+
+/// What goes, moves and comes of the nodes.
+#[derive(Drop)]
+pub struct NodeChanges {
+    pub gone: Vec<u32>,
+    pub moves: Vec<Move>,
+    pub new: Vec<NodeRow>,
+}
+
+/// What goes, comes and changes of the links.
+#[derive(Drop)]
+pub struct LinkChanges {
+    pub idle: Vec<u32>,
+    pub used: Vec<EdgeEntry>,
+    pub bundles: Vec<Bundle>,
 }
 
 /// What a reaction is to leave of a host: nodes are taken out, new ones with what lies in them put behind, others moved;

@@ -16,10 +16,14 @@ ghost use Rattle.bg_rewriting.specs.Boundaries.{IsLinkOf, IsPlaceOf};
 ghost use Rattle.bg_rules.specs.Hosts.{IsHost};
 ghost use Rattle.bg_rules.specs.LocalConditions.{MeetsLocally};
 ghost use Rattle.bg_rules.specs.Solid.{IsPattern};
+ghost use Rattle.bg_rules.specs.Decomposition.{Occurs};
+ghost use Rattle.bg_rules.specs.Rules.{IsRule};
+ghost use Rattle.bg_index.specs.Plans.{IsRead};
 
 use crate::IndexedHost;
 use bg_base::{Big, Link, Name, Place};
-use bg_lists::{Duplicate, Mem};
+use bg_lists::{Duplicate, Mem, OutOfMemory};
+use bg_rules::Rule;
 use std::alloc::Global;
 
 /// The nodes at a site, ascending.
@@ -143,4 +147,14 @@ fn note_name(outer: &[Name], name: &Name, tie: Tie, ties: &mut Vec<Tie>)
         Ok(at) => ties[at] = tie,
         Err(_) => {}
     }
+}
+
+/// stub
+pub fn read(alloc: Global, host: &IndexedHost, rule: &Rule, map: &[u32]) -> Mem<Reading>
+    requires host { IsHost host.now }
+    requires rule { IsRule rule.now }
+    requires occurs { Occurs host.now.big rule.now.redex map.now }
+    ensures { IfOk result (λ reading. IsRead host.now rule.now map.now reading) }
+{
+    Err(OutOfMemory)
 }

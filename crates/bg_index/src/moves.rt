@@ -1,0 +1,20 @@
+//! stub
+ghost use Rattle.std.specs.Prelude.{◌≡◌, ◌≤◌, ◌+◌, [], length, IfOk};
+ghost use Rattle.bg_base.specs.Limits.{largest_counter};
+ghost use Rattle.bg_rewriting.specs.Rewriting.{late_count};
+ghost use Rattle.bg_index.specs.Readings.{boundary_of};
+ghost use Rattle.bg_index.specs.Plans.{IsRead, AreMoves};
+use crate::IndexedHost;
+use crate::plans::Move;
+use crate::reading::Reading;
+use bg_lists::{Mem, OutOfMemory};
+use bg_rules::Rule;
+use std::alloc::Global;
+
+pub fn moves_of(alloc: Global, host: &IndexedHost, rule: &Rule, map: &[u32], reading: &Reading) -> Mem<Vec<Move>>
+    requires read { IsRead host.now rule.now map.now reading.now }
+    requires nodes_room { host.now.next_node + length rule.now.reactum.nodes + late_count (boundary_of reading.now).parts [] rule.now.map ≤ largest_counter }
+    ensures { IfOk result (λ moves. AreMoves host.now rule.now map.now (boundary_of reading.now) moves.items) }
+{
+    Err(OutOfMemory)
+}
