@@ -1,3 +1,4 @@
+pub mod Copying
 pub mod Indexed
 pub mod Making
 pub mod Plans

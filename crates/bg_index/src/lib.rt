@@ -7,8 +7,11 @@
 mod controls;
 mod entries;
 mod indexed_host;
+mod late;
 mod laws;
 mod making;
+mod moves;
+mod new_rows;
 mod parts;
 mod plans;
 mod reading;
