@@ -2,6 +2,8 @@ pub mod ControlLaws
 pub mod IndexLaws
 pub mod LateLaws
 pub mod MakingLaws
+pub mod MoveLaws
+pub mod NewRowLaws
 pub mod ReadingLaws
 pub mod StepLaws
 pub mod WalkLaws
