@@ -35,7 +35,7 @@ use Rattle.bg_rules.specs.LocalConditions.{image_of}
 use Rattle.bg_rules.specs.Reaction.{HostState}
 use Rattle.bg_rules.specs.Rules.{RuleParts, IsRule}
 use Rattle.bg_rules.proofs.Copies.{At-position}
-use Rattle.bg_rules.proofs.Patterns.{number_mem, parent_node, link_there, edge_there, site_node}
+use Rattle.bg_rules.proofs.Patterns.{number_mem, parent_node, place_node, link_there, edge_there, site_there, site_node}
 use Rattle.bg_rules.proofs.Upwards.{is_among-member, member_from_is_among}
 use Rattle.bg_rewriting.specs.Boundaries.{Boundary, IsBelow, IsPartOf}
 use Rattle.bg_rewriting.specs.Rewriting.{late_count, number_copied, place_copied, row_copied, row_made, IsRowAfter, is_made, is_copied}
@@ -134,6 +134,14 @@ module _ (host : HostState) (rule : RuleParts) (is_rule : IsRule rule) where
         parent = λ node e. let less = number_below (parent_node rule.reactum valid m e) in omega (arith, less, nodes_room);
         links = λ edge k. let less = edge_below (edge_there rule.reactum valid (link_there rule.reactum valid m k) refl) in omega (arith, less, edges_room);
       }
+
+  -- so can the place of each of its sites
+  pub room_for_site : host.next_node + length rule.reactum.nodes ≤ largest_counter → (at : ℕ) (d place : Place) → at < length rule.reactum.sites
+      → get_or rule.reactum.sites at d ≡ place → (node : ℕ) → place ≡ Node node → host.next_node + node ≤ largest_counter
+  room_for_site room at d place below is node e =
+      let valid = is_rule.sides.reactum_valid in
+      let less = number_below (place_node rule.reactum valid (site_there rule.reactum valid (Mem-from_At (At-get_or rule.reactum.sites at d below))) (is ∙ e)) in
+      omega (arith, less, room)
 
   -- their numbers are the next ones
   pub numbers_made : (boundary : Boundary)
