@@ -12,7 +12,7 @@ use Rattle.bg_lists.specs.Orders.{before}
 use Rattle.bg_lists.proofs.Ascents.{Ascending-from_sorted, sorted_from_Ascending, Ascending-filter}
 use Rattle.bg_lists.proofs.Comparisons.{eqb-nat_cmp}
 use Rattle.bg_lists.proofs.Members.{Mem-same, Mem-map, Mem-unmap, Mem-filter, Mem-unfilter, Mem-append_left, Mem-append_right, Mem-append_cases}
-use Rattle.bg_lists.proofs.Places.{At-same, At-one, At-get_or, At-below, At-from_Mem, Mem-from_At}
+use Rattle.bg_lists.proofs.Places.{At-same, At-one, At-get_or, At-below, At-from_Mem, Mem-from_At, get_or-At}
 use Rattle.bg_lists.proofs.Sorting.{IsDistinct-append, IsDistinct-from_Ascending, IsDistinct-map_on, Ascending-sort}
 use Rattle.bg_lists.proofs.Sorts.{sorted_by}
 use Rattle.bg_lists.proofs.Words.{All-member, Mem-permutation, Mem-unpermutation, member_from_find, fails_from_find}
@@ -59,6 +59,13 @@ moves_apart place nodes up =
 apart_none : IsDistinct (eq_by_cmp move_cmp) []
 unfolding IsDistinct
 apart_none = tt
+
+-- a site that is found is that of the node
+pub site_found : {node other site : ℕ} (sites : List Place) → get_or sites site (Node 0) ≡ Node other → At (Node node) site sites → other ≡ node
+site_found {node} {other} sites e a = let both : Node other ≡ Node node = sym e ∙ get_or-At sites (Node 0) a in cc
+
+pub no_site_found : {node region site : ℕ} (sites : List Place) → get_or sites site (Node 0) ≡ Region region → At (Node node) site sites → ⊥
+no_site_found {node} {region} sites e a = let both : Region region ≡ Node node = sym e ∙ get_or-At sites (Node 0) a in absurd (cc)
 
 -- what stands before a place is among the first so many
 taken : {x i j : ℕ} (xs : List ℕ) → At x i xs → i < j → Mem x (take j xs)

@@ -83,7 +83,10 @@ fn tops_at(
         return Ok(Vec::new(alloc));
     }
     match redex.sites[site as usize] {
-        Place::Node(node) => tops_in(alloc, host, images, image_of(redex, map, node)),
+        Place::Node(node) => {
+            let tops = tops_in(alloc, host, images, image_of(redex, map, node))?;
+            Ok(tops)
+        }
         Place::Region(_) => Ok(Vec::new(alloc)),
     }
 }
