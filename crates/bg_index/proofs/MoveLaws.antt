@@ -1,5 +1,5 @@
 -- Moves of what lay in the images: for one entry more, for all, and in order.
-use Rattle.std.proofs.Common.{◌≡◌, ℕ, zero, suc, ◌+◌, ◌<◌, ◌≤◌, ◌==◌, Bool, true, false, not, if◌then◌else◌, Option, Some, None, unwrap_or, option_map, find, is_eq, List, [], ◌∷◌, ◌++◌, length, map, filter, get_or, take, nat_cmp, refl, sym, ap, subst, ◌∙◌, ◌⊎◌, inl, inr, arith, eqb-true, eq-eqb}
+use Rattle.std.proofs.Common.{◌≡◌, ℕ, zero, suc, ◌+◌, ◌<◌, ◌==◌, Bool, true, false, not, Option, Some, None, unwrap_or, option_map, find, List, [], ◌∷◌, ◌++◌, length, get_or, take, nat_cmp, refl, sym, ap, subst, ◌∙◌, inl, inr, arith, eqb-true, eq-eqb}
 use Rattle.std.specs.Cmp.{IsTotalOrder}
 use Rattle.std.specs.List.{IsDistinct}
 use Rattle.std.specs.List.Sorted.{IsStrictlySortedBy, IsPermutation, IsSortedBy}
@@ -19,11 +19,9 @@ use Rattle.bg_lists.proofs.Words.{All-member, Mem-permutation, Mem-unpermutation
 use Rattle.bg_base.specs.declared.names.Place.{Place}
 use Rattle.bg_base.specs.declared.names.Place.TheVariants.{Node, Region}
 use Rattle.bg_base.specs.declared.big.NodeRow.{NodeRow}
-use Rattle.bg_base.specs.declared.big.Big.{Big}
 use Rattle.bg_base.specs.Bigraph.{IsValid}
 use Rattle.bg_base.specs.Translation.{node_numbers}
 use Rattle.bg_place.specs.Places.{places_of, children_of}
-use Rattle.bg_rules.specs.Decomposition.{Occurs}
 use Rattle.bg_rules.specs.Instantiation.{is_among}
 use Rattle.bg_rules.specs.LocalConditions.{image_of, MeetsLocally}
 use Rattle.bg_rules.specs.Reaction.{HostState}
@@ -32,7 +30,7 @@ use Rattle.bg_rules.specs.Solid.{IsPattern}
 use Rattle.bg_rules.proofs.Glued.{Glued}
 use Rattle.bg_rules.proofs.Occurrences.{glued_of, occurs_locally}
 use Rattle.bg_rules.proofs.Patterns.{image_mem, image_onto, image_injective, one_site, place_node, same_node_row, site_node, site_there}
-use Rattle.bg_rules.proofs.Upwards.{among_cases, is_among-member, is_among-none, member_from_is_among, not_among}
+use Rattle.bg_rules.proofs.Upwards.{among_cases, is_among-none, member_from_is_among, not_among}
 use Rattle.bg_rewriting.specs.Boundaries.{Boundary, IsBelow, first_here}
 use Rattle.bg_rewriting.specs.Rewriting.{IsRowAfter}
 use Rattle.bg_rewriting.specs.Touching.{IsDropped, is_image, is_unasked}
@@ -212,10 +210,11 @@ module _ (host : HostState) (rule : RuleParts) (nodes : List ℕ) (reading : Rea
             elim (cases_lt entry at) [
               | inl early ↦ (let w = moved.all entry row early top in (w.0, Mem-append_left moves (moves_to place ns) w.1, w.2))
               | inr late ↦ (let same : entry ≡ at = omega (arith, less, late) in
-                  let m = is_top at site t.0 a t.1 (subst (λ n. IsTop host rule nodes n row) same top) in
-                  (record { node = row.id; place = place },
-                  Mem-append_right moves (moves_to place ns) (Mem-map (λ (number : ℕ). record { node = number; place = place }) m),
-                  refl))
+                  let m = is_top at site t.0 a t.1 (subst (λ n. IsTop host rule nodes n row) same top) in (
+                    record { node = row.id; place = place },
+                    Mem-append_right moves (moves_to place ns) (Mem-map (λ (number : ℕ). record { node = number; place = place }) m),
+                    refl,
+                  ))
             ];
       })
 
@@ -232,12 +231,6 @@ module _ (host : HostState) (rule : RuleParts) (nodes : List ℕ) (reading : Rea
       subst (AreMoved host rule nodes boundary (at + 1)) (sym made)
       (subst (λ (p : Place). AreMoved host rule nodes boundary (at + 1) (moves ++ moves_to p tops)) (sym placed)
       (step_of at site flag moves tops a e given moved))
-
-  -- the site of the redex for which an entry asks is there
-  pub site_below : (entries : List ℕ) → entries ≡ rule.map → (at site d : ℕ) → at < length entries → get_or entries at d ≡ site → site < length rule.redex.sites
-  site_below entries same at site d below is =
-      let a = subst (λ (es : List ℕ). At site at es) same (subst (λ s. At s at entries) is (At-get_or entries at d below)) in
-      All-member (λ entry. entry < length rule.redex.sites) rule.map read.is_rule.sides.fits.entries_there (Mem-from_At a)
 
   -- ---- all moves, in order
 

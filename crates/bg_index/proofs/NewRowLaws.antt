@@ -1,27 +1,25 @@
 -- The rows that a reaction makes: their numbers, and that each is one that is due.
-use Rattle.std.proofs.Common.{◌≡◌, ℕ, zero, suc, ◌+◌, ◌<◌, ◌≤◌, ◌==◌, Bool, true, false, not, cond, if◌then◌else◌, Less, Equal, Option, Some, None, Result, Ok, Err, MatchResult, unwrap_or, option_map, is_eq, slice_get, List, [], ◌∷◌, ◌++◌, length, map, get_or, take, nat_cmp, refl, sym, ap, subst, ◌∙◌, ◌⊎◌, inl, inr, arith, eqb-true, eq-eqb}
+use Rattle.std.proofs.Common.{◌≡◌, ℕ, zero, suc, ◌+◌, ◌<◌, ◌≤◌, ◌==◌, Bool, true, false, not, cond, if◌then◌else◌, Equal, Option, None, Result, Ok, Err, MatchResult, unwrap_or, is_eq, slice_get, List, [], ◌∷◌, ◌++◌, length, map, get_or, take, nat_cmp, refl, sym, ap, subst, ◌∙◌, inl, inr, arith, eqb-true, eq-eqb}
 use Rattle.std.specs.List.{position_or_len}
 use Rattle.std.specs.List.Sorted.{IsStrictlySortedBy, IsSearchInRange, IsBinarySearchResult}
 use Rattle.std.proofs.lemmas.Bool.{false≢true, false_from_ne_true}
 use Rattle.std.proofs.lemmas.Cmp.{nat_cmp_total}
-use Rattle.std.proofs.lemmas.List.{length-map, map-append, take_all, append-nil}
+use Rattle.std.proofs.lemmas.List.{length-map, map-append, append-nil}
 use Rattle.bg_lists.specs.Lists.{Mem, here, there, At}
 use Rattle.bg_lists.specs.Orders.{asc_nil}
 use Rattle.bg_lists.proofs.Ascents.{Ascending-from_sorted, sorted_from_Ascending, one_place}
 use Rattle.bg_lists.proofs.Comparisons.{eqb-nat_cmp, Less-not_itself}
-use Rattle.bg_lists.proofs.Members.{Mem-same, Mem-map, Mem-unmap, Mem-append_cases, map-map}
+use Rattle.bg_lists.proofs.Members.{Mem-unmap, Mem-append_cases, map-map}
 use Rattle.bg_lists.proofs.Places.{At-same, At-one, At-below, At-get_or, At-unmap, At-total, At-slice_get, Mem-from_At, get_or-At, same_by_places}
 use Rattle.bg_lists.proofs.Searches.{find-search}
 use Rattle.bg_lists.proofs.Tests.{same_test}
 use Rattle.bg_lists.proofs.Words.{All-member, fails_from_find}
 use Rattle.bg_base.specs.declared.names.Link.{Link}
-use Rattle.bg_base.specs.declared.names.Link.TheVariants.{Edge}
 use Rattle.bg_base.specs.declared.names.Name.{Name}
 use Rattle.bg_base.specs.declared.names.Place.{Place}
 use Rattle.bg_base.specs.declared.names.Place.TheVariants.{Node, Region}
 use Rattle.bg_base.specs.declared.big.NodeRow.{NodeRow}
-use Rattle.bg_base.specs.declared.big.Big.{Big}
-use Rattle.bg_base.specs.Bigraph.{IsValid, row_of}
+use Rattle.bg_base.specs.Bigraph.{IsValid}
 use Rattle.bg_base.specs.Elementary.{counted}
 use Rattle.bg_base.specs.Limits.{largest_counter}
 use Rattle.bg_base.specs.Order.{name_cmp}
@@ -37,13 +35,13 @@ use Rattle.bg_rules.specs.Rules.{RuleParts, IsRule}
 use Rattle.bg_rules.proofs.Copies.{At-position}
 use Rattle.bg_rules.proofs.Patterns.{number_mem, parent_node, place_node, link_there, edge_there, site_there, site_node}
 use Rattle.bg_rules.proofs.Upwards.{is_among-member, member_from_is_among}
-use Rattle.bg_rewriting.specs.Boundaries.{Boundary, IsBelow, IsPartOf}
-use Rattle.bg_rewriting.specs.Rewriting.{late_count, number_copied, place_copied, row_copied, row_made, IsRowAfter, is_made, is_copied}
+use Rattle.bg_rewriting.specs.Boundaries.{Boundary, IsPartOf}
+use Rattle.bg_rewriting.specs.Rewriting.{late_count, number_copied, place_copied, row_copied, row_made, is_made, is_copied}
 use Rattle.bg_rewriting.proofs.Classes.{number_late}
 use Rattle.bg_rewriting.proofs.Counts.{twice_at, twice_needed}
 use Rattle.bg_index.specs.declared.reading.Reading.{Reading}
 use Rattle.bg_index.specs.Copying.{AreLate, late_part, IsRoomFor, row_with, rank_in, place_late, row_late, rows_late, AreCopied, top_made}
-use Rattle.bg_index.specs.Plans.{AreNewRows, IsRead}
+use Rattle.bg_index.specs.Plans.{IsRead}
 use Rattle.bg_index.specs.Readings.{boundary_of}
 use Rattle.bg_index.proofs.IndexLaws.{node_there}
 use Rattle.bg_index.proofs.LateLaws.{late_more, late_upto, none_late, flag_at}
@@ -181,9 +179,12 @@ module _ (host : HostState) (rule : RuleParts) (nodes : List ℕ) (reading : Rea
       let many = is_boundary.parts_many in
       let s = At-get_or rule.redex.sites site (Region site) inside in
       let t = site_node rule.redex read.is_rule.sides.is_pattern (Mem-from_At s) in
-      let stands = At-same t.1 s in
-      (t.0, stands, is_boundary.parts_are site t.0 (get_or parts site []) stands (At-get_or parts site [] (omega (arith, inside, many)))
-      (twice_needed (twice_at at rule.map a again)))
+      let stands = At-same t.1 s in (
+        t.0,
+        stands,
+        is_boundary.parts_are site t.0 (get_or parts site []) stands (At-get_or parts site [] (omega (arith, inside, many)))
+            (twice_needed (twice_at at rule.map a again)),
+      )
 
   -- it ascends, and its nodes are there
   part_up : {at site : ℕ} (flag : Bool) → At site at rule.map → flag ≡ is_among site (take at rule.map)
@@ -240,14 +241,14 @@ module _ (host : HostState) (rule : RuleParts) (nodes : List ℕ) (reading : Rea
         (length-map (rows_late host.big.nodes images part free top) (λ (row : NodeRow). row.id)
         ∙ length-map part (λ node. row_late images part free top (row_with host.big.nodes node)) ∙ sym (length-counted free (length part)))
         (λ i x y a b.
-            let w = At-unmap (λ (row : NodeRow). row.id) (rows_late host.big.nodes images part free top) a in
-            let v = At-unmap (λ node. row_late images part free top (row_with host.big.nodes node)) part w.1 in
-            let id : (row_with host.big.nodes v.0).id ≡ v.0 = ap (λ (r : NodeRow). r.id) (row_is v.0 (Mem-from_At v.1)) ∙ (there v.0 (Mem-from_At v.1)).2 in
-            let own : free + rank_in part (row_with host.big.nodes v.0).id ≡ x = ap (λ (r : NodeRow). r.id) v.2 ∙ w.2 in
-            let rank = rank_at part up v.1 in
-            let c = At-slice_get i (counted free (length part)) (slice_get-counted free (length part) i (At-below v.1)) in
-            let other : free + i ≡ y = At-one c b in
-            sym own ∙ ap (λ n. free + rank_in part n) id ∙ ap (λ n. free + n) rank ∙ other)
+        let w = At-unmap (λ (row : NodeRow). row.id) (rows_late host.big.nodes images part free top) a in
+        let v = At-unmap (λ node. row_late images part free top (row_with host.big.nodes node)) part w.1 in
+        let id : (row_with host.big.nodes v.0).id ≡ v.0 = ap (λ (r : NodeRow). r.id) (row_is v.0 (Mem-from_At v.1)) ∙ (there v.0 (Mem-from_At v.1)).2 in
+        let own : free + rank_in part (row_with host.big.nodes v.0).id ≡ x = ap (λ (r : NodeRow). r.id) v.2 ∙ w.2 in
+        let rank = rank_at part up v.1 in
+        let c = At-slice_get i (counted free (length part)) (slice_get-counted free (length part) i (At-below v.1)) in
+        let other : free + i ≡ y = At-one c b in
+        sym own ∙ ap (λ n. free + rank_in part n) id ∙ ap (λ n. free + n) rank ∙ other)
 
   abbrev IsCopied : ℕ → ℕ → List NodeRow → Type 0
   IsCopied at free rows = AreCopied host rule nodes boundary at free rows
@@ -329,26 +330,14 @@ module _ (host : HostState) (rule : RuleParts) (nodes : List ℕ) (reading : Rea
           (subst (λ (ns : List ℕ). IsCopied (at + 1) (free + length ns) (rows ++ rows_late host.big.nodes images ns free (top_made host rule boundary at))) (sym given)
           (step_of at site free flag rows asked flagged copied)))
 
-    -- the site of the reactum is there
-    pub site_inside : at < length rule.reactum.sites
-    site_inside = let less = At-below asked in let many = read.is_rule.sides.fits.as_many in omega (arith, less, many)
-
-  pub none_copied : (entries : List ℕ) (free : ℕ) (rows : List NodeRow) → free ≡ host.next_node + length rule.reactum.nodes
+  -- the rows of the reactum, before any copy
+  pub none_copied : (free : ℕ) (rows : List NodeRow) → free ≡ host.next_node + length rule.reactum.nodes
       → rows ≡ map (row_made host rule boundary) rule.reactum.nodes → IsCopied 0 free rows
-  none_copied entries free rows begins made =
+  none_copied free rows begins made =
       let none = none_late parts rule.map in
       let count : length rule.reactum.nodes ≡ length rule.reactum.nodes + late_count parts [] (take 0 rule.map) = omega (arith, none) in
       record {
         number = omega (arith, none, begins);
         numbers = ap (map (λ (row : NodeRow). row.id)) made ∙ numbers_made host rule read.is_rule boundary ∙ ap (counted host.next_node) count;
         are = λ row m. let w = Mem-unmap (row_made host rule boundary) rule.reactum.nodes (subst (λ (rs : List NodeRow). Mem row rs) made m) in is_made w.1 w.2;
-      }
-
-  pub all_copied : (entries : List ℕ) → entries ≡ rule.map → (at free : ℕ) (rows : List NodeRow) → length entries ≤ at → IsCopied at free rows
-      → AreNewRows host rule nodes boundary rows
-  all_copied entries same at free rows past copied =
-      let whole = take_all at rule.map (subst (λ (es : List ℕ). length es ≤ at) same past) in
-      record {
-        numbers = copied.numbers ∙ ap (λ es. counted host.next_node (length rule.reactum.nodes + late_count parts [] es)) whole;
-        are = copied.are;
       }

@@ -28,7 +28,13 @@ use std::alloc::Global;
 /// For the first entry of the map that asks for each site, moves of what lies in the image of the site's node and is no image
 /// to where the site of the reactum comes to lie; by node. Costs time n log n, and memory n, in the number of children of these
 /// images and of entries.
-pub fn moves_of(alloc: Global, host: &IndexedHost, rule: &Rule, map: &[u32], reading: &Reading) -> Mem<Vec<Move>>
+pub fn moves_of(
+    alloc: Global,
+    host: &IndexedHost,
+    rule: &Rule,
+    map: &[u32],
+    reading: &Reading,
+) -> Mem<Vec<Move>>
     requires read { IsRead host.now rule.now map.now reading.now }
     requires nodes_room { host.now.next_node + length rule.now.reactum.nodes + late_count (boundary_of reading.now).parts [] rule.now.map ≤ largest_counter }
     ensures { IfOk result (λ moves. AreMoves host.now rule.now map.now (boundary_of reading.now) moves.items) }
@@ -56,7 +62,15 @@ fn collected(
     let mut moves = Vec::new(alloc);
     for (at, site) in entries.iter().enumerate() {
         let place = top_made(host, rule, reading, at);
-        let nodes = tops_at(alloc, host, rule.redex().big(), map, &reading.images, late[at], *site)?;
+        let nodes = tops_at(
+            alloc,
+            host,
+            rule.redex().big(),
+            map,
+            &reading.images,
+            late[at],
+            *site,
+        )?;
         push_moves(&nodes, place, &mut moves)?;
     }
     Ok(moves)

@@ -29,7 +29,13 @@ use std::alloc::Global;
 
 /// The rows of the reactum as they will stand, in their order, and then for each late entry of the map, in order, those of
 /// the copy of its part. Costs time n log n, and memory n, in the number of nodes and ports of these and of the entries.
-pub fn new_rows_of(alloc: Global, host: &IndexedHost, rule: &Rule, map: &[u32], reading: &Reading) -> Mem<Vec<NodeRow>>
+pub fn new_rows_of(
+    alloc: Global,
+    host: &IndexedHost,
+    rule: &Rule,
+    map: &[u32],
+    reading: &Reading,
+) -> Mem<Vec<NodeRow>>
     requires read { IsRead host.now rule.now map.now reading.now }
     requires nodes_room { host.now.next_node + length rule.now.reactum.nodes + late_count (boundary_of reading.now).parts [] rule.now.map ≤ largest_counter }
     requires edges_room { host.now.next_edge + length rule.now.reactum.edges ≤ largest_counter }
@@ -41,7 +47,13 @@ pub fn new_rows_of(alloc: Global, host: &IndexedHost, rule: &Rule, map: &[u32], 
 }
 
 /// These rows of the reactum, in the host after.
-fn rows_made(alloc: Global, host: &IndexedHost, rule: &Rule, reading: &Reading, rows: &[NodeRow]) -> Mem<Vec<NodeRow>>
+fn rows_made(
+    alloc: Global,
+    host: &IndexedHost,
+    rule: &Rule,
+    reading: &Reading,
+    rows: &[NodeRow],
+) -> Mem<Vec<NodeRow>>
     requires names { IsStrictlySortedBy name_cmp rule.now.redex.outer }
     requires beside { length reading.now.links.items ≡ length rule.now.redex.outer }
     requires room { (row : NodeRowValue) → Member row rows.now → IsRoomFor host.now row }
@@ -55,7 +67,13 @@ fn rows_made(alloc: Global, host: &IndexedHost, rule: &Rule, reading: &Reading, 
 }
 
 /// A row of the reactum, in the host after.
-fn row_made(alloc: Global, host: &IndexedHost, rule: &Rule, reading: &Reading, row: &NodeRow) -> Mem<NodeRow>
+fn row_made(
+    alloc: Global,
+    host: &IndexedHost,
+    rule: &Rule,
+    reading: &Reading,
+    row: &NodeRow,
+) -> Mem<NodeRow>
     requires names { IsStrictlySortedBy name_cmp rule.now.redex.outer }
     requires beside { length reading.now.links.items ≡ length rule.now.redex.outer }
     requires room { IsRoomFor host.now row.now }
@@ -66,7 +84,13 @@ fn row_made(alloc: Global, host: &IndexedHost, rule: &Rule, reading: &Reading, r
         id: host.next_node() + row.id,
         control: row.control,
         parent: place_made(host.next_node(), &reading.places, row.parent),
-        links: links_made(alloc, host.next_edge(), names, &reading.links, row.links.as_slice())?,
+        links: links_made(
+            alloc,
+            host.next_edge(),
+            names,
+            &reading.links,
+            row.links.as_slice(),
+        )?,
     })
 }
 
@@ -91,7 +115,13 @@ fn place_at(places: &[Place], region: u32) -> Place
 }
 
 /// What links of the reactum become.
-fn links_made(alloc: Global, next: u32, names: &[Name], found: &[Link], links: &[Link]) -> Mem<PortLinks>
+fn links_made(
+    alloc: Global,
+    next: u32,
+    names: &[Name],
+    found: &[Link],
+    links: &[Link],
+) -> Mem<PortLinks>
     requires names { IsStrictlySortedBy name_cmp names.now }
     requires beside { length found.now ≡ length names.now }
     requires few { length links.now < 2 ^ 32 - 1 }
@@ -206,7 +236,14 @@ fn push_copy(
     Ok(())
 }
 
-fn row_late(alloc: Global, images: &[u32], part: &[u32], free: u32, top: Place, row: &NodeRow) -> Mem<NodeRow>
+fn row_late(
+    alloc: Global,
+    images: &[u32],
+    part: &[u32],
+    free: u32,
+    top: Place,
+    row: &NodeRow,
+) -> Mem<NodeRow>
     requires images { IsStrictlySortedBy nat_cmp images.now }
     requires part { IsStrictlySortedBy nat_cmp part.now }
     requires room { free + length part.now ≤ largest_counter }

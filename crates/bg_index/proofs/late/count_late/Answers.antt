@@ -1,4 +1,4 @@
-use Rattle.std.proofs.Common.{◌≡◌, ◌+◌, ◌<◌, ◌≤◌, List, [], length, get_or, refl, sym, ap, ◌∙◌, arith}
+use Rattle.std.proofs.Common.{List, get_or, refl, sym, ap, ◌∙◌, arith}
 use Rattle.bg_index.specs.declared.reading.Part.{Part}
 use Rattle.bg_index.specs.Copying.{parts_of, late_part}
 use Rattle.bg_index.proofs.LateLaws.{none_late, count_step, count_all}
@@ -27,6 +27,8 @@ loop-at-preserved c =
     (step.0, omega (arith, passes, few))
 
 pub returns : goal.returns
-returns c =
-    (count_all (parts_of c.args.reading.now.parts.items) c.args.entries.now c.in_ok-late.late.items c.in_ok-late.ensures c.loop-at.at c.loop-at.count
-    c.loop-at-test.false c.loop-at.invariant.0, c.loop-at.invariant.1)
+returns c = (
+  count_all (parts_of c.args.reading.now.parts.items) c.args.entries.now c.in_ok-late.late.items c.in_ok-late.ensures c.loop-at.at c.loop-at.count
+      c.loop-at-test.false c.loop-at.invariant.0,
+  c.loop-at.invariant.1,
+)

@@ -1,4 +1,4 @@
-use Rattle.std.proofs.Common.{◌≡◌, length, get_or, refl, arith}
+use Rattle.std.proofs.Common.{refl, arith}
 use Rattle.bg_index.proofs.LateLaws.{none_seen, one_more_seen, all_seen}
 use Rattle.bg_index.proofs.late.late_entries.Goals as goal
 

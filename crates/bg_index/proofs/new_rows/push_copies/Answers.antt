@@ -1,4 +1,4 @@
-use Rattle.std.proofs.Common.{◌≡◌, ◌+◌, ◌<◌, ◌≤◌, ◌++◌, ℕ, List, length, get_or, refl, sym, ap, subst, ◌∙◌, arith}
+use Rattle.std.proofs.Common.{◌+◌, ◌++◌, ℕ, List, length, get_or, refl, ap, ◌∙◌, arith}
 use Rattle.bg_base.specs.declared.big.Big.{Big}
 use Rattle.bg_index.specs.declared.reading.Part.{Part}
 use Rattle.bg_index.specs.Copying.{parts_of, late_part, rows_late}
@@ -9,7 +9,7 @@ pub loop-at-init : goal.loop-at-init
 loop-at-init c =
     let node = c.next_node.ensures in
     let count = c.len.ensures.count ∙ ap (λ (big : Big). length big.nodes) c.reactum.ensures.same in
-    none_copied c.args.host.now c.args.rule.now c.args.map.now c.args.reading.now c.requires.read c.args.entries.now (c.next_node.result + c.len.result)
+    none_copied c.args.host.now c.args.rule.now c.args.map.now c.args.reading.now c.requires.read (c.next_node.result + c.len.result)
     c.args.rows.now.items (omega (arith, node, count)) c.requires.made
 
 pub push_copy-requires-clause-part : goal.push_copy-requires-clause-part

@@ -1,5 +1,4 @@
 use Rattle.std.proofs.Common.{get_or, sym, subst}
-use Rattle.bg_lists.specs.Lists.{Mem}
 use Rattle.bg_lists.proofs.Places.{At-get_or, Mem-from_At}
 use Rattle.bg_index.specs.Copying.{IsRoomFor}
 use Rattle.bg_index.proofs.new_rows.rows_made.Goals as goal
