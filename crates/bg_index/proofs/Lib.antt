@@ -1,8 +1,10 @@
 pub mod ControlLaws
 pub mod GrowthLaws
 pub mod IndexLaws
+pub mod LateLaws
 pub mod MakingLaws
-pub mod PlanLaws
+pub mod MoveLaws
+pub mod NewRowLaws
 pub mod ReadingLaws
 pub mod StepLaws
 pub mod TouchedLaws

@@ -1,4 +1,4 @@
-pub mod Growth
+pub mod Copying
 pub mod Indexed
 pub mod Making
 pub mod Noting

@@ -17,7 +17,6 @@ mod laws;
 mod making;
 mod moves;
 mod new_rows;
-mod numbers;
 mod parts;
 mod planning;
 mod plans;

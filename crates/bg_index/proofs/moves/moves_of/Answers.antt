@@ -1,0 +1,15 @@
+use Rattle.std.proofs.Common.{length, rules, ap, subst, ◌∙◌}
+use Rattle.std.proofs.lemmas.List.Sorted.{answers_always}
+use Rattle.bg_index.specs.declared.plans.Move.{Move}
+use Rattle.bg_index.specs.Copying.{AreMoved}
+use Rattle.bg_index.specs.Readings.{boundary_of}
+use Rattle.bg_index.proofs.MoveLaws.{moves_are}
+use Rattle.bg_index.proofs.moves.moves_of.Goals as goal
+
+pub returns : goal.returns
+returns c =
+    moves_are c.args.host.now c.args.rule.now c.args.map.now c.args.reading.now c.requires.read c.in_ok-moves.moves.items c.sort_unstable_by_key.new.self.items
+    (subst (λ n. AreMoved c.args.host.now c.args.rule.now c.args.map.now (boundary_of c.args.reading.now) n c.in_ok-moves.moves.items)
+    (ap length (c.deref.ensures ∙ c.map.ensures.same)) c.in_ok-moves.ensures)
+    c.sort_unstable_by_key.ensures.permutation
+    (c.sort_unstable_by_key.ensures.sorted (λ (move : Move). move.node) (answers_always _ _ _ (λ f a r g called. search rules)))
