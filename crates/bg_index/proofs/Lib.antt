@@ -5,6 +5,7 @@ pub mod LateLaws
 pub mod MakingLaws
 pub mod MoveLaws
 pub mod NewRowLaws
+pub mod PlanLaws
 pub mod ReadingLaws
 pub mod StepLaws
 pub mod TouchedLaws

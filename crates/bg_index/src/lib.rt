@@ -17,6 +17,7 @@ mod laws;
 mod making;
 mod moves;
 mod new_rows;
+mod numbers;
 mod parts;
 mod planning;
 mod plans;
