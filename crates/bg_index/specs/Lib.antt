@@ -2,5 +2,6 @@ pub mod Indexed
 pub mod Making
 pub mod Plans
 pub mod Readings
+pub mod Sites
 pub mod Steps
 pub mod Walks

@@ -12,6 +12,7 @@ mod making;
 mod parts;
 mod plans;
 mod reading;
+mod sets;
 
 pub use indexed_host::IndexedHost;
 pub use laws::steps_leave_an_index;

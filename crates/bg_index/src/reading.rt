@@ -1,25 +1,36 @@
 //! What a rule finds round the images of its redex, read off the host before anything is changed.
 ghost use Rattle.std.specs.Prelude.{◌≡◌, ℕ, ◌<◌, ◌^◌, IfOk, IsTrue, Some, length};
+ghost use Rattle.std.specs.List.{All};
 ghost use Rattle.std.specs.List.Sorted.{IsStrictlySortedBy};
 ghost use Rattle.bg_lists.specs.Lists.{Mem as Member, At};
 ghost use Rattle.bg_base.specs.declared.names.Place.{Place as PlaceValue};
+ghost use Rattle.bg_base.specs.declared.names.Place.TheVariants.{Node};
 ghost use Rattle.bg_base.specs.Order.{name_cmp};
 ghost use Rattle.bg_base.specs.declared.big.Big.{Big as BigValue};
 ghost use Rattle.bg_base.specs.declared.names.Link.{Link as LinkValue};
 ghost use Rattle.bg_base.specs.declared.names.Link.TheVariants.{Outer};
 ghost use Rattle.bg_base.specs.declared.names.Name.{Name as NameValue};
+ghost use Rattle.bg_index.specs.declared.reading.Part.{Part as PartValue};
 ghost use Rattle.bg_index.specs.declared.reading.Tie.{Tie as TieValue};
 ghost use Rattle.bg_link.specs.Links as defined;
 ghost use Rattle.bg_link.specs.Links.{has_port, link_of};
-ghost use Rattle.bg_index.specs.Readings.{AreFound, AreNoted, IsNoted};
-ghost use Rattle.bg_rewriting.specs.Boundaries.{IsLinkOf, IsPlaceOf};
+ghost use Rattle.bg_index.specs.Plans.{IsRead};
+ghost use Rattle.bg_index.specs.Readings.{AreFound, AreNoted, IsNoted, IsReading};
+ghost use Rattle.bg_index.specs.Sites.{AreImages};
+ghost use Rattle.bg_rewriting.specs.Boundaries.{IsLinkOf, IsPartOf, IsPlaceOf, times_asked};
+ghost use Rattle.bg_rules.specs.Decomposition.{Occurs};
 ghost use Rattle.bg_rules.specs.Hosts.{IsHost};
+ghost use Rattle.bg_rules.specs.LocalConditions as local;
 ghost use Rattle.bg_rules.specs.LocalConditions.{MeetsLocally};
+ghost use Rattle.bg_rules.specs.Rules.{RuleParts, IsRule};
 ghost use Rattle.bg_rules.specs.Solid.{IsPattern};
 
 use crate::IndexedHost;
+use crate::parts::part_of;
+use crate::sets::number_set;
 use bg_base::{Big, Link, Name, Place};
 use bg_lists::{Duplicate, Mem};
+use bg_rules::{Rule, image_of};
 use std::alloc::Global;
 
 /// The nodes at a site, ascending.
@@ -38,6 +49,105 @@ pub struct Reading {
     pub links: Vec<Link>,
     pub asked: Vec<u32>,
     pub parts: Vec<Part>,
+}
+
+/// What the rule finds round its images at the nodes of the map. Costs time n log n in the size of the rule, with a
+/// search of each image among the nodes of the host, and in the number of the nodes that it lists at sites and of the
+/// children of the images above these.
+pub fn read(alloc: Global, host: &IndexedHost, rule: &Rule, map: &[u32]) -> Mem<Reading>
+    requires host { IsHost host.now }
+    requires rule { IsRule rule.now }
+    requires occurs { Occurs host.now.big rule.now.redex map.now }
+    ensures { IfOk result (λ reading. IsRead host.now rule.now map.now reading) }
+{
+    let reading = read_at(alloc, host, rule.redex().big(), rule.map(), map)?;
+    Ok(reading)
+}
+
+/// What a rule with this redex and these entries finds.
+fn read_at(alloc: Global, host: &IndexedHost, redex: &Big, entries: &[u32], map: &[u32]) -> Mem<Reading>
+    requires host { IsHost host.now }
+    requires pattern { IsPattern redex.now }
+    requires meets { MeetsLocally host.now.big redex.now map.now }
+    requires entries_there { All (λ entry. entry < length redex.now.sites) entries.now }
+    requires few { length entries.now < 2 ^ 32 }
+    ensures { IfOk result (λ reading. (rule : RuleParts) → rule.redex ≡ redex.now → rule.map ≡ entries.now
+        → IsReading host.now.big rule map.now reading) }
+{
+    let places = places_of(alloc, host, redex, map)?;
+    let links = links_of(alloc, host, redex, map)?;
+    let images = number_set(Vec::from_slice(alloc, map)?);
+    let asked = asked_of(alloc, redex.sites.len(), entries)?;
+    let parts = parts_of(alloc, host, redex, map, &images, &asked)?;
+    Ok(Reading {
+        images,
+        places,
+        links,
+        asked,
+        parts,
+    })
+}
+
+/// For each site how many of the entries ask for it.
+fn asked_of(alloc: Global, sites: u32, entries: &[u32]) -> Mem<Vec<u32>>
+    requires there { All (λ entry. entry < sites) entries.now }
+    requires few { length entries.now < 2 ^ 32 }
+    ensures many { IfOk result (λ asked. length asked.items ≡ sites) }
+    ensures are { IfOk result (λ asked. (site count : ℕ) → At count site asked.items → count ≡ times_asked entries.now site) }
+{
+    let mut asked = vec![in alloc; 0; sites as usize]?;
+    for entry in entries {
+        asked[*entry as usize] += 1;
+    }
+    Ok(asked)
+}
+
+/// For each site of the redex the nodes at it, where not exactly one entry asks for it.
+fn parts_of(
+    alloc: Global,
+    host: &IndexedHost,
+    redex: &Big,
+    map: &[u32],
+    images: &[u32],
+    asked: &[u32],
+) -> Mem<Vec<Part>>
+    requires images { AreImages host.now redex.now map.now images.now }
+    requires asked_many { length asked.now ≡ length redex.now.sites }
+    ensures many { IfOk result (λ parts. length parts.items ≡ length redex.now.sites) }
+    ensures are { IfOk result (λ parts. (site node count : ℕ) (part : PartValue) → At (Node node) site redex.now.sites → At count site asked.now
+        → At part site parts.items → (count ≡ 1 → ⊥)
+        → IsPartOf host.now.big map.now (local.image_of redex.now map.now node) part.nodes.items) }
+{
+    let mut parts = Vec::new(alloc);
+    for (site, place) in redex.sites.iter().enumerate() {
+        let nodes = nodes_at(alloc, host, redex, map, images, *place, asked[site])?;
+        parts.push(Part { nodes })?;
+    }
+    Ok(parts)
+}
+
+/// The nodes at the site that lies in the place; none where exactly one entry asks for it.
+fn nodes_at(
+    alloc: Global,
+    host: &IndexedHost,
+    redex: &Big,
+    map: &[u32],
+    images: &[u32],
+    place: Place,
+    asked: u32,
+) -> Mem<Vec<u32>>
+    requires images { AreImages host.now redex.now map.now images.now }
+    requires there { Member place redex.now.sites }
+    ensures { IfOk result (λ part. (node : ℕ) → place ≡ Node node → (asked ≡ 1 → ⊥)
+        → IsPartOf host.now.big map.now (local.image_of redex.now map.now node) part.items) }
+{
+    if asked == 1 {
+        return Ok(Vec::new(alloc));
+    }
+    match place {
+        Place::Node(node) => part_of(alloc, host, images, image_of(redex, map, node)),
+        Place::Region(_) => Ok(Vec::new(alloc)),
+    }
 }
 
 /// For each region of the redex the place of the image of a node in it.
