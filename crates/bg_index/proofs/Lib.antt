@@ -1,6 +1,9 @@
 pub mod ControlLaws
+pub mod GoneLaws
 pub mod IndexLaws
 pub mod MakingLaws
 pub mod ReadingLaws
+pub mod SetLaws
+pub mod SiteLaws
 pub mod StepLaws
 pub mod WalkLaws

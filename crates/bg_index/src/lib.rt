@@ -6,6 +6,7 @@
 
 mod controls;
 mod entries;
+mod going;
 mod indexed_host;
 mod laws;
 mod making;

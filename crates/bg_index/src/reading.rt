@@ -1,7 +1,8 @@
 //! What a rule finds round the images of its redex, read off the host before anything is changed.
-ghost use Rattle.std.specs.Prelude.{◌≡◌, ℕ, ◌<◌, ◌^◌, IfOk, IsTrue, Some, length};
+ghost use Rattle.std.specs.Prelude.{◌≡◌, ◌↔◌, ℕ, ◌<◌, ◌^◌, IfOk, IsTrue, Some, length};
 ghost use Rattle.std.specs.List.{All};
 ghost use Rattle.std.specs.List.Sorted.{IsStrictlySortedBy};
+ghost use Rattle.std.specs.Ordering.{nat_cmp};
 ghost use Rattle.bg_lists.specs.Lists.{Mem as Member, At};
 ghost use Rattle.bg_base.specs.declared.names.Place.{Place as PlaceValue};
 ghost use Rattle.bg_base.specs.declared.names.Place.TheVariants.{Node};
@@ -30,7 +31,8 @@ use crate::parts::part_of;
 use crate::sets::number_set;
 use bg_base::{Big, Link, Name, Place};
 use bg_lists::{Duplicate, Mem};
-use bg_rules::{Rule, image_of};
+use bg_rules::Rule;
+use bg_rules::images::image_of;
 use std::alloc::Global;
 
 /// The nodes at a site, ascending.
@@ -60,7 +62,7 @@ pub fn read(alloc: Global, host: &IndexedHost, rule: &Rule, map: &[u32]) -> Mem<
     requires occurs { Occurs host.now.big rule.now.redex map.now }
     ensures { IfOk result (λ reading. IsRead host.now rule.now map.now reading) }
 {
-    let reading = read_at(alloc, host, rule.redex().big(), rule.map(), map)?;
+    let reading = read_at(alloc, host, rule.redex().big(), rule.map().as_slice(), map)?;
     Ok(reading)
 }
 
@@ -76,7 +78,7 @@ fn read_at(alloc: Global, host: &IndexedHost, redex: &Big, entries: &[u32], map:
 {
     let places = places_of(alloc, host, redex, map)?;
     let links = links_of(alloc, host, redex, map)?;
-    let images = number_set(Vec::from_slice(alloc, map)?);
+    let images = images_of(alloc, map)?;
     let asked = asked_of(alloc, redex.sites.len(), entries)?;
     let parts = parts_of(alloc, host, redex, map, &images, &asked)?;
     Ok(Reading {
@@ -86,6 +88,15 @@ fn read_at(alloc: Global, host: &IndexedHost, redex: &Big, entries: &[u32], map:
         asked,
         parts,
     })
+}
+
+/// The nodes of the map in order.
+fn images_of(alloc: Global, map: &[u32]) -> Mem<Vec<u32>>
+    ensures ascending { IfOk result (λ images. IsStrictlySortedBy nat_cmp images.items) }
+    ensures same { IfOk result (λ images. (node : ℕ) → (Member node images.items ↔ Member node map.now)) }
+{
+    let copied = Vec::from_slice(alloc, map)?;
+    Ok(number_set(copied))
 }
 
 /// For each site how many of the entries ask for it.
@@ -145,7 +156,10 @@ fn nodes_at(
         return Ok(Vec::new(alloc));
     }
     match place {
-        Place::Node(node) => part_of(alloc, host, images, image_of(redex, map, node)),
+        Place::Node(node) => {
+            let part = part_of(alloc, host, images, image_of(redex, map, node))?;
+            Ok(part)
+        }
         Place::Region(_) => Ok(Vec::new(alloc)),
     }
 }
