@@ -1,5 +1,5 @@
 pub mod ControlLaws
-pub mod GrowthLaws
+pub mod GoneLaws
 pub mod IndexLaws
 pub mod LateLaws
 pub mod MakingLaws
@@ -7,6 +7,8 @@ pub mod MoveLaws
 pub mod NewRowLaws
 pub mod PlanLaws
 pub mod ReadingLaws
+pub mod SetLaws
+pub mod SiteLaws
 pub mod StepLaws
 pub mod TouchedLaws
 pub mod WalkLaws

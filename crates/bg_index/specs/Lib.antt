@@ -1,8 +1,9 @@
-pub mod Copying
+pub mod Going
 pub mod Indexed
 pub mod Making
 pub mod Noting
 pub mod Plans
 pub mod Readings
+pub mod Sites
 pub mod Steps
 pub mod Walks

@@ -9,8 +9,6 @@ mod children;
 mod controls;
 mod entries;
 mod going;
-mod growth;
-mod idle;
 mod indexed_host;
 mod late;
 mod laws;
@@ -22,8 +20,7 @@ mod parts;
 mod planning;
 mod plans;
 mod reading;
-mod touched;
-mod used;
+mod sets;
 
 pub use indexed_host::IndexedHost;
 pub use laws::steps_leave_an_index;
