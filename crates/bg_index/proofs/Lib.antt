@@ -1,5 +1,6 @@
 pub mod ControlLaws
 pub mod GoneLaws
+pub mod GrowthLaws
 pub mod IndexLaws
 pub mod LateLaws
 pub mod MakingLaws

@@ -1,15 +1,10 @@
 -- What a plan notes is what the reaction touches.
-use Rattle.std.proofs.Common.{◌≡◌, ◌⊎◌, ℕ, ◌+◌, ◌<◌, ◌≤◌, ◌++◌, ◌∷◌, [], not, IsTrue, true, false, List, length, map, filter, nat_cmp, refl, sym, ap, subst, ◌∙◌, inl, inr, arith}
+use Rattle.std.proofs.Common.{◌≡◌, ◌↔◌, ◌⊎◌, ℕ, ◌+◌, ◌<◌, ◌≤◌, ◌++◌, ◌∷◌, [], not, IsTrue, true, false, List, length, map, filter, nat_cmp, refl, sym, ap, subst, ◌∙◌, inl, inr, arith}
 use Rattle.std.specs.List.{list_all}
 use Rattle.std.proofs.lemmas.Bool.{false_from_ne_true}
-use Rattle.std.proofs.lemmas.Cmp.{nat_cmp_total}
-use Rattle.std.proofs.lemmas.Map.Lookups.{exact_unsigned}
 use Rattle.bg_lists.specs.Lists.{Mem, here, there, At}
-use Rattle.bg_lists.specs.Orders.{set_of}
-use Rattle.bg_lists.proofs.Ascents.{sorted_from_Ascending}
 use Rattle.bg_lists.proofs.Members.{Mem-append_cases, Mem-append_left, Mem-append_right, Mem-cons_cases, Mem-filter, Mem-map, Mem-same, Mem-unfilter, Mem-unmap}
 use Rattle.bg_lists.proofs.Places.{At-from_Mem}
-use Rattle.bg_lists.proofs.Sets.{Mem-set_of, Mem-unset_of, Ascending-set_of}
 use Rattle.bg_lists.proofs.Words.{All-member, list_all-member}
 use Rattle.bg_base.specs.declared.names.Place.{Place}
 use Rattle.bg_base.specs.declared.names.Place.TheVariants.{Node, Region}
@@ -359,15 +354,12 @@ module _ (host : HostState) (rule : RuleParts) (nodes : List ℕ) (boundary : Bo
         ]
       ]
 
-  marked : AreMarked host rule nodes boundary after.big (set_of nat_cmp (noted plan))
-  marked =
-      record {
-        marked = λ row m is. Mem-set_of nat_cmp_total exact_unsigned (noted plan) (marked_noted row m is);
-        each = λ node m. noted_marks node (Mem-unset_of nat_cmp_total exact_unsigned (noted plan) m);
-      }
+  module _ (changed : List ℕ) (up : IsStrictlySortedBy nat_cmp changed) (are : (node : ℕ) → Mem node changed ↔ Mem node (noted plan)) where
+    marked : AreMarked host rule nodes boundary after.big changed
+    marked = record { marked = λ row m is. (are row.id).1 (marked_noted row m is); each = λ node m. noted_marks node ((are node).0 m) }
 
-  pub planned_touched : IsTouched host.big after.big gone (set_of nat_cmp (noted plan))
-  planned_touched =
-      are_touched host rule nodes boundary after is_host.numbered is_rule is_boundary
-      (planned_reacts host rule nodes boundary plan is_host is_rule occurs is_boundary is_plan) gone (set_of nat_cmp (noted plan))
-      is_plan.gone_ascends is_plan.gone_are (sorted_from_Ascending (set_of nat_cmp (noted plan)) (Ascending-set_of nat_cmp_total exact_unsigned (noted plan))) marked
+    pub planned_touched : IsTouched host.big after.big gone changed
+    planned_touched =
+        are_touched host rule nodes boundary after is_host.numbered is_rule is_boundary
+        (planned_reacts host rule nodes boundary plan is_host is_rule occurs is_boundary is_plan) gone changed
+        is_plan.gone_ascends is_plan.gone_are up marked

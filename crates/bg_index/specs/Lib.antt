@@ -1,4 +1,6 @@
+pub mod Copying
 pub mod Going
+pub mod Growth
 pub mod Indexed
 pub mod Making
 pub mod Noting

@@ -1,14 +1,15 @@
 //! What a reaction touches: the nodes that are gone, and those that are new or changed.
-ghost use Rattle.std.specs.Prelude.{◌≡◌, ◌++◌, IfOk, OnOk, map};
+ghost use Rattle.std.specs.Prelude.{◌≡◌, ◌↔◌, ◌++◌, ℕ, IfOk, OnOk, map};
+ghost use Rattle.std.specs.List.Sorted.{IsStrictlySortedBy};
 ghost use Rattle.std.specs.Ordering.{nat_cmp};
-ghost use Rattle.bg_lists.specs.Orders.{set_of};
+ghost use Rattle.bg_lists.specs.Lists.{Mem as Member};
 ghost use Rattle.bg_index.specs.declared.entries.NodeEntry.{NodeEntry as NodeEntryValue};
 ghost use Rattle.bg_index.specs.declared.plans.Move.{Move as MoveValue};
 ghost use Rattle.bg_index.specs.Noting as noting;
 ghost use Rattle.bg_index.specs.Noting.{noted};
 
 use crate::entries::NodeEntry;
-use crate::numbers::number_set;
+use crate::sets::number_set;
 use crate::plans::{Bundle, Move, Nest, Plan};
 use bg_base::Place;
 use bg_link::Point;
@@ -27,7 +28,8 @@ pub struct Touched {
 /// The nodes that a plan makes, moves, gives other children or other points of a link, ascending. Costs time n log n, and
 /// memory n, in the number of these and of the points of the links.
 pub fn changed_of(alloc: Global, plan: &Plan) -> Mem<Vec<u32>>
-    ensures { IfOk result (λ changed. changed.items ≡ set_of nat_cmp (noted plan.now)) }
+    ensures ascending { IfOk result (λ changed. IsStrictlySortedBy nat_cmp changed.items) }
+    ensures noted { IfOk result (λ changed. (node : ℕ) → (Member node changed.items ↔ Member node (noted plan.now))) }
 {
     let nodes = noted_of(alloc, plan)?;
     Ok(number_set(nodes))
