@@ -7,6 +7,7 @@ pub mod MakingLaws
 pub mod MoveLaws
 pub mod NewRowLaws
 pub mod PlanLaws
+pub mod PlanningLaws
 pub mod ReadingLaws
 pub mod SetLaws
 pub mod SiteLaws
