@@ -4,6 +4,8 @@
 //!   the nodes of each control kept beside them, each list ascending.
 #![tactic(auto)]
 
+mod arrivals;
+mod children;
 mod controls;
 mod entries;
 mod going;
