@@ -1,21 +1,20 @@
 -- What is to lie in each new node, and in each place round the images.
-use Rattle.std.proofs.Common.{◌≡◌, ◌↔◌, ◌⊎◌, ℕ, ◌+◌, ◌<◌, ◌≤◌, ◌==◌, true, Less, Option, Some, None, unwrap_or, option_map, List, [], ◌∷◌, ◌++◌, length, map, filter, find, nat_cmp, not, refl, sym, ap, subst, ◌∙◌, inl, inr, arith, eqb-true, eq-eqb}
+use Rattle.std.proofs.Common.{◌≡◌, ◌↔◌, ◌⊎◌, ℕ, ◌+◌, ◌<◌, ◌≤◌, ◌==◌, Less, Option, Some, None, unwrap_or, option_map, List, [], ◌∷◌, ◌++◌, length, map, filter, find, nat_cmp, not, refl, sym, ap, subst, ◌∙◌, inl, inr, arith, eqb-true, eq-eqb}
 use Rattle.std.specs.List.Sorted.{IsStrictlySortedBy}
 use Rattle.std.proofs.lemmas.List.{map-append}
 use Rattle.std.proofs.lemmas.Bool.{not-true, not_from_false}
 use Rattle.bg_lists.specs.Lists.{Mem}
 use Rattle.bg_lists.specs.Orders.{Ascending}
 use Rattle.bg_lists.proofs.Ascents.{Ascending-append, Ascending-from_sorted, Ascending-map, Ascending-unmap, same_member, sorted_from_Ascending}
-use Rattle.bg_lists.proofs.Comparisons.{eqb-nat_cmp, nat_cmp-lt}
+use Rattle.bg_lists.proofs.Comparisons.{nat_cmp-lt}
 use Rattle.bg_lists.proofs.Members.{Mem-cons_cases, Mem-same, Mem-map, Mem-unmap, Mem-filter, Mem-unfilter, Mem-append_left, Mem-append_right, Mem-append_cases}
-use Rattle.bg_lists.proofs.Places.{At-from_Mem, At-below, Mem-from_At}
+use Rattle.bg_lists.proofs.Places.{At-from_Mem}
 use Rattle.bg_lists.proofs.Words.{All-member, member_from_find, fails_from_find}
 use Rattle.bg_base.specs.declared.names.Place.{Place}
-use Rattle.bg_base.specs.declared.names.Place.TheVariants.{Node, Region}
+use Rattle.bg_base.specs.declared.names.Place.TheVariants.{Node}
 use Rattle.bg_base.specs.declared.big.NodeRow.{NodeRow}
 use Rattle.bg_base.specs.declared.big.Big.{Big}
 use Rattle.bg_base.specs.Bigraph.{IsValid}
-use Rattle.bg_base.specs.Elementary.{counted}
 use Rattle.bg_base.proofs.Counted.{Mem-counted, counted_ascends}
 use Rattle.bg_base.proofs.LookUps.{tied_numbers}
 use Rattle.bg_place.specs.declared.graph.ParentRow.{ParentRow}
@@ -23,7 +22,7 @@ use Rattle.bg_place.specs.Places.{parent_row, places_of, number_of, same_place, 
 use Rattle.bg_place.specs.Rows.{parent_cmp, HasGroups}
 use Rattle.bg_place.proofs.GroupLaws.{numbers_ascend, same_numbers}
 use Rattle.bg_place.proofs.RowLaws.{same_place_from_test, same_place-itself}
-use Rattle.bg_rewriting.specs.Boundaries.{MeetsFirst, IsBelow, IsPlaceOf, Boundary}
+use Rattle.bg_rewriting.specs.Boundaries.{MeetsFirst}
 use Rattle.bg_rewriting.specs.Making.{AreDropped}
 use Rattle.bg_rewriting.specs.Rewriting.{late_count}
 use Rattle.bg_rewriting.specs.Touching.{IsDropped, is_image, is_unasked}
@@ -35,7 +34,7 @@ use Rattle.bg_rules.specs.Reaction.{HostState}
 use Rattle.bg_rules.specs.Rules.{RuleParts}
 use Rattle.bg_rules.proofs.Occurrences.{occurs_locally}
 use Rattle.bg_rules.proofs.Patterns.{parent_node, number_row, same_node_row}
-use Rattle.bg_rules.proofs.Upwards.{is_among-none, is_among-member, not_among}
+use Rattle.bg_rules.proofs.Upwards.{is_among-none, not_among}
 use Rattle.bg_index.specs.declared.entries.NodeEntry.{NodeEntry}
 use Rattle.bg_index.specs.declared.plans.Move.{Move}
 use Rattle.bg_index.specs.declared.plans.Nest.{Nest}

@@ -25,7 +25,7 @@ use bg_lists::{Mem, copies};
 use bg_rules::Rule;
 use std::alloc::Global;
 
-/// New nodes with what is to lie in them. Costs time n log n in the number of the moves and the new nodes.
+/// New nodes with what is to lie in them. Looks at the moves and the new rows alone. Costs time n log n in their number.
 pub fn entries_of(
     alloc: Global,
     host: &IndexedHost,

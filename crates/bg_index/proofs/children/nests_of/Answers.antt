@@ -1,7 +1,6 @@
 use Rattle.std.proofs.Common.{◌↔◌, List, ℕ, subst, ◌∙◌}
 use Rattle.bg_lists.specs.Lists.{Mem}
 use Rattle.bg_base.specs.declared.names.Place.{Place}
-use Rattle.bg_index.specs.declared.plans.Nest.{Nest}
 use Rattle.bg_index.specs.Arriving.{arriving, AreNestedIn}
 use Rattle.bg_index.proofs.ChildLaws.{are_nests, nested_same}
 use Rattle.bg_index.proofs.children.nests_of.Goals as goal
