@@ -1,5 +1,5 @@
 -- The nodes that are dropped.
-use Rattle.std.proofs.Common.{◌≡◌, ◌↔◌, ◌⊎◌, ℕ, zero, suc, ◌+◌, ◌<◌, ◌==◌, List, ◌++◌, length, map, filter, refl, sym, ap, subst, ◌∙◌, inl, inr, arith, eqb-true, eq-eqb}
+use Rattle.std.proofs.Common.{◌≡◌, ◌↔◌, ℕ, ◌+◌, ◌<◌, ◌==◌, List, ◌++◌, length, filter, refl, sym, subst, ◌∙◌, inl, inr, arith, eqb-true, eq-eqb}
 use Rattle.std.proofs.lemmas.Bool.{cases_lt}
 use Rattle.bg_lists.specs.Lists.{Mem, At}
 use Rattle.bg_lists.proofs.Members.{Mem-same, Mem-filter, Mem-unfilter, Mem-append_left, Mem-append_right, Mem-append_cases}

@@ -1,3 +1,4 @@
+pub mod ChildLaws
 pub mod ControlLaws
 pub mod GoneLaws
 pub mod GrowthLaws

@@ -14,13 +14,13 @@ use Rattle.bg_rewriting.specs.Boundaries.{MeetsFirst, first_here, first_above, I
 use Rattle.bg_rewriting.proofs.Walks.{child_below}
 use Rattle.bg_base.specs.declared.names.Name.{Name}
 use Rattle.bg_base.specs.declared.names.Link.{Link}
-use Rattle.bg_rules.specs.LocalConditions.{image_of, MeetsLocally}
+use Rattle.bg_rules.specs.LocalConditions.{image_of}
 use Rattle.bg_rules.specs.Reaction.{HostState}
 use Rattle.bg_rules.specs.Rules.{RuleParts}
 use Rattle.bg_rules.proofs.Patterns.{image_mem, place_node, site_there}
 use Rattle.bg_index.specs.declared.reading.Part.{Part}
 use Rattle.bg_index.specs.declared.reading.Reading.{Reading}
-use Rattle.bg_index.specs.Readings.{boundary_of, IsReading}
+use Rattle.bg_index.specs.Readings.{IsReading}
 use Rattle.bg_index.specs.Sites.{AreImages}
 use Rattle.bg_index.specs.Walks.{IsWalkable}
 

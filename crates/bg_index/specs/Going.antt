@@ -1,5 +1,5 @@
 -- Nodes that are dropped, as they are put behind one another.
-use Rattle.std.specs.Prelude.{◌≡◌, ◌⊎◌, ℕ, ◌<◌, List}
+use Rattle.std.specs.Prelude.{◌⊎◌, ℕ, ◌<◌, List}
 use Rattle.bg_lists.specs.Lists.{Mem, At}
 use Rattle.bg_index.specs.declared.reading.Part.{Part}
 

@@ -1,4 +1,4 @@
-pub mod Copying
+pub mod Arriving
 pub mod Going
 pub mod Growth
 pub mod Indexed

@@ -4,7 +4,7 @@
 //!   the nodes of each control kept beside them, each list ascending.
 #![tactic(auto)]
 
-mod bundles;
+mod arrivals;
 mod children;
 mod controls;
 mod entries;

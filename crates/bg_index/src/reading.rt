@@ -67,7 +67,13 @@ pub fn read(alloc: Global, host: &IndexedHost, rule: &Rule, map: &[u32]) -> Mem<
 }
 
 /// What a rule with this redex and these entries finds.
-fn read_at(alloc: Global, host: &IndexedHost, redex: &Big, entries: &[u32], map: &[u32]) -> Mem<Reading>
+fn read_at(
+    alloc: Global,
+    host: &IndexedHost,
+    redex: &Big,
+    entries: &[u32],
+    map: &[u32],
+) -> Mem<Reading>
     requires host { IsHost host.now }
     requires pattern { IsPattern redex.now }
     requires meets { MeetsLocally host.now.big redex.now map.now }

@@ -1,4 +1,4 @@
-use Rattle.std.proofs.Common.{◌≡◌, ◌+◌, ◌<◌, ◌++◌, length, get_or, sym, ap, subst, ◌∙◌}
+use Rattle.std.proofs.Common.{◌+◌, ◌<◌, ◌++◌, get_or, sym, ap, subst, ◌∙◌}
 use Rattle.bg_lists.proofs.Places.{At-get_or, At-same}
 use Rattle.bg_index.specs.Going.{AreGathered}
 use Rattle.bg_index.proofs.GoneLaws.{left_out, taken_in}

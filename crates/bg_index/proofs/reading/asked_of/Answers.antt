@@ -1,6 +1,5 @@
-use Rattle.std.proofs.Common.{◌≡◌, ℕ, ◌+◌, ◌<◌, List, length, take, get_or, slice_set, sym, subst, ◌∙◌, arith, length-take-le}
+use Rattle.std.proofs.Common.{ℕ, ◌+◌, List, take, get_or, slice_set, sym, subst, ◌∙◌, arith, length-take-le}
 use Rattle.std.proofs.lemmas.List.{take_more}
-use Rattle.bg_lists.specs.Lists.{At}
 use Rattle.bg_lists.proofs.Places.{At-get_or, At-same}
 use Rattle.bg_index.proofs.ControlLaws.{length-set}
 use Rattle.bg_index.proofs.ReadingLaws.{AreCounted, counted_more, counted_few}

@@ -1,6 +1,5 @@
-use Rattle.std.proofs.Common.{◌≡◌, ℕ, sym, ap, subst, ◌∙◌}
+use Rattle.std.proofs.Common.{◌≡◌, sym, ap, subst, ◌∙◌}
 use Rattle.bg_lists.proofs.Members.{Mem-same}
-use Rattle.bg_base.specs.declared.names.Place.{Place}
 use Rattle.bg_base.specs.declared.names.Place.TheVariants.{Node}
 use Rattle.bg_rewriting.specs.Boundaries.{IsPartOf}
 use Rattle.bg_rules.specs.LocalConditions.{image_of}

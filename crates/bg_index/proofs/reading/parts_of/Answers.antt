@@ -1,4 +1,4 @@
-use Rattle.std.proofs.Common.{◌≡◌, ◌+◌, ◌<◌, List, length, get_or, sym, ap, subst, ◌∙◌}
+use Rattle.std.proofs.Common.{◌+◌, ◌<◌, List, length, get_or, sym, ap, subst, ◌∙◌}
 use Rattle.bg_lists.specs.Lists.{Mem, At}
 use Rattle.bg_lists.proofs.Places.{not_At-nil, At-get_or, Mem-from_At, length-append_one}
 use Rattle.bg_base.specs.declared.names.Place.{Place}
