@@ -3,4 +3,5 @@ pub mod Making
 pub mod Plans
 pub mod Readings
 pub mod Steps
+pub mod Tied
 pub mod Walks

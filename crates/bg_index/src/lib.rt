@@ -5,7 +5,9 @@
 #![tactic(auto)]
 
 mod controls;
+mod edge_sets;
 mod entries;
+mod idle;
 mod indexed_host;
 mod laws;
 mod making;
