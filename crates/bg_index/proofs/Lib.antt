@@ -1,4 +1,5 @@
 pub mod ControlLaws
+pub mod IdleLaws
 pub mod IndexLaws
 pub mod MakingLaws
 pub mod ReadingLaws
