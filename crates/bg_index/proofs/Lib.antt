@@ -1,7 +1,11 @@
+pub mod ArrivalLaws
+pub mod BundleLaws
 pub mod ControlLaws
 pub mod IdleLaws
 pub mod IndexLaws
+pub mod KeyLaws
 pub mod MakingLaws
 pub mod ReadingLaws
 pub mod StepLaws
+pub mod UsedLaws
 pub mod WalkLaws

@@ -1,3 +1,4 @@
+pub mod Arrivals
 pub mod Indexed
 pub mod Making
 pub mod Plans

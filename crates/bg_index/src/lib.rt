@@ -4,16 +4,20 @@
 //!   the nodes of each control kept beside them, each list ascending.
 #![tactic(auto)]
 
+mod arrivals;
+mod bundles;
 mod controls;
 mod edge_sets;
 mod entries;
 mod idle;
 mod indexed_host;
+mod keys;
 mod laws;
 mod making;
 mod parts;
 mod plans;
 mod reading;
+mod used;
 
 pub use indexed_host::IndexedHost;
 pub use laws::steps_leave_an_index;
