@@ -1,9 +1,9 @@
 -- The links that lose or get points: each has a bundle, with the points that it is to have.
-use Rattle.std.proofs.Common.{◌≡◌, ℕ, ◌+◌, ◌<◌, ◌≤◌, Bool, true, false, not, List, [], ◌∷◌, ◌++◌, length, map, filter, get_or, nat_lt, is_eq, refl, sym, ap, subst, ◌∙◌, ◌⊎◌, inl, inr, arith, ltb-false, ltb-true}
+use Rattle.std.proofs.Common.{◌≡◌, ℕ, ◌+◌, ◌≤◌, Bool, true, false, not, List, [], ◌∷◌, ◌++◌, map, filter, is_eq, refl, sym, ap, subst, ◌∙◌, ◌⊎◌, inl, inr, arith, ltb-false}
 use Rattle.std.specs.List.{position_or_len}
 use Rattle.std.proofs.lemmas.Bool.{cases_Bool, false≢true}
-use Rattle.bg_lists.specs.Lists.{Mem, At, here, there}
-use Rattle.bg_lists.proofs.Members.{Mem-same, Mem-append_left, Mem-append_right, Mem-append_cases, Mem-map, Mem-unmap, Mem-filter, Mem-unfilter}
+use Rattle.bg_lists.specs.Lists.{Mem, here, there}
+use Rattle.bg_lists.proofs.Members.{Mem-append_left, Mem-append_right, Mem-append_cases, Mem-map, Mem-unmap, Mem-filter, Mem-unfilter}
 use Rattle.bg_lists.proofs.Places.{At-below, At-get_or, At-same, Mem-from_At}
 use Rattle.bg_base.specs.declared.names.Name.{Name}
 use Rattle.bg_base.specs.declared.names.Link.{Link}
@@ -22,7 +22,7 @@ use Rattle.bg_rules.specs.Reaction.{HostState}
 use Rattle.bg_rules.specs.Rules.{RuleParts}
 use Rattle.bg_rules.proofs.Patterns.{link_there, name_there}
 use Rattle.bg_rules.proofs.Upwards.{member_from_is_among}
-use Rattle.bg_rewriting.specs.Keeping.{stays_at, ports_on}
+use Rattle.bg_rewriting.specs.Keeping.{stays_at}
 use Rattle.bg_rewriting.specs.Making.{AreDropped}
 use Rattle.bg_rewriting.specs.Rewriting.{link_made, IsRowAfter, stays, is_made, is_copied}
 use Rattle.bg_rewriting.specs.Touching.{IsDropped}
@@ -30,9 +30,8 @@ use Rattle.bg_rewriting.proofs.RowLaws.{At-name}
 use Rattle.bg_index.specs.declared.arrivals.Arrival.{Arrival}
 use Rattle.bg_index.specs.declared.plans.Bundle.{Bundle}
 use Rattle.bg_index.specs.declared.plans.LinkKey.{LinkKey}
-use Rattle.bg_index.specs.declared.plans.LinkKey.TheVariants.{Edge as EdgeKey, Name as NameKey}
 use Rattle.bg_index.specs.declared.reading.Reading.{Reading}
-use Rattle.bg_index.specs.Arrivals.{key_of, arrived, arrival_key, arrived_from, points_arriving, AreArrivals, keys_lost, is_kept, is_old, IsBundleAt, AreBundlesAt}
+use Rattle.bg_index.specs.Arrivals.{key_of, arrived, arrival_key, points_arriving, AreArrivals, keys_lost, is_kept, is_old, AreBundlesAt}
 use Rattle.bg_index.specs.Plans.{IsRead, IsKeyOf, points_after, AreBundles}
 use Rattle.bg_index.specs.Readings.{boundary_of}
 use Rattle.bg_index.specs.Tied.{links_at}

@@ -1,47 +1,43 @@
 -- Which edges become idle: those of dropped nodes that no name stands for and of which no point stays.
-use Rattle.std.proofs.Common.{◌≡◌, ℕ, ◌<◌, ◌&&◌, ◌↔◌, Bool, true, false, not, Less, Option, Some, None, Result, Ok, Err, MatchResult, unwrap_or, option_map, List, [], ◌∷◌, ◌++◌, length, filter, slice_get, nat_cmp, is_eq, refl, sym, ap, subst, ◌∙◌, ◌⊎◌, inl, inr}
+use Rattle.std.proofs.Common.{◌≡◌, ℕ, Bool, true, false, not, Less, Option, Some, None, Result, Ok, Err, MatchResult, unwrap_or, option_map, List, [], ◌∷◌, length, filter, slice_get, nat_cmp, is_eq, refl, sym, ap, subst, ◌∙◌, inl, inr}
 use Rattle.std.specs.List.{list_any, position_or_len}
 use Rattle.std.specs.List.Sorted.{IsStrictlySortedBy, IsSearchInRange, IsBinarySearchResult}
-use Rattle.std.proofs.lemmas.Bool.{and_parts, and_from, not_from_false, not-true, false≢true, false_from_ne_true, cases_Bool}
+use Rattle.std.proofs.lemmas.Bool.{and_parts, and_from, not_from_false, not-true, false_from_ne_true}
 use Rattle.std.proofs.lemmas.Cmp.{nat_cmp_total}
 use Rattle.std.proofs.lemmas.Map.Lookups.{exact_unsigned}
 use Rattle.bg_lists.specs.Lists.{Mem, At, here, there}
 use Rattle.bg_lists.specs.Orders.{set_of}
 use Rattle.bg_lists.proofs.Ascents.{Ascending-from_sorted, sorted_from_Ascending, Ascending-filter, one_place}
 use Rattle.bg_lists.proofs.Comparisons.{Less-not_itself}
-use Rattle.bg_lists.proofs.Members.{Mem-same, Mem-cons_cases, Mem-append_left, Mem-append_right, Mem-append_cases, Mem-filter, Mem-unfilter}
+use Rattle.bg_lists.proofs.Members.{Mem-cons_cases, Mem-append_left, Mem-append_right, Mem-append_cases, Mem-filter, Mem-unfilter}
 use Rattle.bg_lists.proofs.Places.{Mem-from_At, slice_get-At, At-slice_get}
 use Rattle.bg_lists.proofs.Sets.{Mem-set_of, Mem-unset_of, Ascending-set_of}
-use Rattle.bg_lists.proofs.Words.{All-member, list_any-from_member, member_from_list_any, fails_from_list_any}
+use Rattle.bg_lists.proofs.Words.{All-member, member_from_list_any, fails_from_list_any}
 use Rattle.bg_base.specs.declared.names.Name.{Name}
 use Rattle.bg_base.specs.declared.names.Link.{Link}
 use Rattle.bg_base.specs.declared.names.Link.TheVariants.{Edge, Outer}
 use Rattle.bg_base.specs.declared.big.NodeRow.{NodeRow}
 use Rattle.bg_base.specs.declared.big.Big.{Big}
-use Rattle.bg_base.specs.Bigraph.{IsValid, row_of}
+use Rattle.bg_base.specs.Bigraph.{IsValid}
 use Rattle.bg_base.specs.Order.{name_cmp}
 use Rattle.bg_base.specs.OrderLaws.{name_cmp_total}
 use Rattle.bg_base.specs.Products.{has_point}
 use Rattle.bg_base.proofs.LookUps.{has_row, row_of-member}
 use Rattle.bg_place.specs.Places.{places_of, has_node}
 use Rattle.bg_link.specs.declared.graph.Point.{Point}
-use Rattle.bg_link.specs.declared.graph.Point.TheVariants.{Port, Inner}
-use Rattle.bg_link.specs.Links.{links_of, points_of, ports_from}
+use Rattle.bg_link.specs.declared.graph.Point.TheVariants.{Port}
+use Rattle.bg_link.specs.Links.{links_of, points_of}
 use Rattle.bg_link.proofs.PointLaws.{port_from}
 use Rattle.bg_link.proofs.RankLaws.{name-search}
-use Rattle.bg_rules.specs.Decomposition.{Occurs}
 use Rattle.bg_rules.specs.Instantiation.{is_among}
-use Rattle.bg_rules.specs.LocalConditions.{IsImage, MeetsLocally}
 use Rattle.bg_rules.specs.Reaction.{HostState}
-use Rattle.bg_rules.specs.Rules.{RuleParts, IsRule}
-use Rattle.bg_rules.specs.Solid.{IsPattern}
+use Rattle.bg_rules.specs.Rules.{RuleParts}
 use Rattle.bg_rules.proofs.Occurrences.{occurs_locally}
 use Rattle.bg_rules.proofs.Patterns.{image_row, link_there, edge_there, name_there}
-use Rattle.bg_rules.proofs.Upwards.{is_among-member, is_among-none, member_from_is_among, not_among}
-use Rattle.bg_rewriting.specs.Boundaries.{Boundary}
+use Rattle.bg_rules.proofs.Upwards.{is_among-none, member_from_is_among, not_among}
 use Rattle.bg_rewriting.specs.Keeping.{stays_at}
 use Rattle.bg_rewriting.specs.Making.{AreDropped, AreIdle}
-use Rattle.bg_rewriting.specs.Touching.{IsDropped, is_image, is_unasked, IsIdle, IsEdgeKept}
+use Rattle.bg_rewriting.specs.Touching.{IsDropped, is_image, is_unasked, IsIdle}
 use Rattle.bg_rewriting.proofs.Decided.{idle_is}
 use Rattle.bg_rewriting.proofs.Members.{tied_point, point_row}
 use Rattle.bg_rewriting.proofs.Rewritten.{point_port}

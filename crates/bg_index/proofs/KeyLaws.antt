@@ -1,13 +1,11 @@
 -- Links by their keys: the points of an outer name at a position, and keys put in order, each once.
-use Rattle.std.proofs.Common.{◌≡◌, ℕ, ◌<◌, ◌≤◌, ◌==◌, Bool, true, false, List, [], ◌∷◌, length, get_or, nat_lt, IsPermutation, refl, sym, ap, subst, ◌∙◌, inl, inr, arith, eqb-true, ltb-true, ltb-false}
+use Rattle.std.proofs.Common.{◌≡◌, ℕ, Bool, true, false, List, [], ◌∷◌, length, get_or, nat_lt, sym, ap, subst, ◌∙◌, inl, inr, arith, eqb-true, ltb-true, ltb-false}
 use Rattle.std.specs.List.{dedup, dedup_from}
 use Rattle.std.proofs.lemmas.Bool.{cond_both}
-use Rattle.bg_lists.specs.Lists.{Mem, At, here, there}
+use Rattle.bg_lists.specs.Lists.{Mem, here, there}
 use Rattle.bg_lists.proofs.Members.{Mem-cons_cases}
 use Rattle.bg_lists.proofs.Places.{At-below, At-get_or, At-same}
 use Rattle.bg_base.specs.declared.names.Link.{Link}
-use Rattle.bg_base.specs.declared.names.Link.TheVariants.{Edge, Outer}
-use Rattle.bg_link.specs.declared.graph.Point.{Point}
 use Rattle.bg_link.specs.Links.{links_of, points_of}
 use Rattle.bg_rules.specs.Reaction.{HostState}
 use Rattle.bg_index.specs.declared.entries.Index.{Index}

@@ -1,5 +1,5 @@
 -- The edges of a reactum that are used, and the points that arrive at them.
-use Rattle.std.proofs.Common.{◌≡◌, ℕ, ◌+◌, ◌<◌, ◌≤◌, ◌^◌, Bool, true, List, [], length, map, filter, nat_cmp, refl, sym, ap, subst, ◌∙◌, arith}
+use Rattle.std.proofs.Common.{◌≡◌, ℕ, ◌+◌, ◌<◌, Bool, List, [], length, map, filter, nat_cmp, refl, subst, ◌∙◌, arith}
 use Rattle.std.proofs.lemmas.Cmp.{nat_cmp_total}
 use Rattle.std.proofs.lemmas.Map.Lookups.{exact_unsigned}
 use Rattle.bg_lists.specs.Lists.{Mem}
@@ -12,11 +12,10 @@ use Rattle.bg_base.specs.declared.big.NodeRow.{NodeRow}
 use Rattle.bg_base.specs.declared.big.Big.{Big}
 use Rattle.bg_base.specs.Bigraph.{IsValid}
 use Rattle.bg_base.specs.Elementary.{counted}
-use Rattle.bg_base.specs.Limits.{largest_counter}
 use Rattle.bg_base.specs.Products.{has_point}
 use Rattle.bg_base.proofs.Counted.{Mem-counted}
 use Rattle.bg_rules.specs.Reaction.{HostState}
-use Rattle.bg_rules.specs.Rules.{RuleParts, IsRule}
+use Rattle.bg_rules.specs.Rules.{RuleParts}
 use Rattle.bg_rules.proofs.Patterns.{link_there, edge_there}
 use Rattle.bg_rewriting.proofs.Rewritten.{point_port, port_point}
 use Rattle.bg_index.specs.declared.arrivals.Arrival.{Arrival}

@@ -1,4 +1,4 @@
-use Rattle.std.proofs.Common.{◌≡◌, ℕ, true, inl, inr, List, map, sym, ap, subst, ◌∙◌}
+use Rattle.std.proofs.Common.{◌≡◌, true, inl, inr, List, map, sym, subst, ◌∙◌}
 use Rattle.bg_lists.specs.Lists.{Mem}
 use Rattle.bg_index.specs.declared.arrivals.Arrival.{Arrival}
 use Rattle.bg_index.specs.declared.plans.LinkKey.{LinkKey}

@@ -1,10 +1,10 @@
-use Rattle.std.proofs.Common.{◌≡◌, ℕ, List, filter, nat_cmp, sym, ap, subst, ◌∙◌}
+use Rattle.std.proofs.Common.{List, filter, nat_cmp, sym, ap, subst, ◌∙◌}
 use Rattle.std.specs.List.Sorted.{IsStrictlySortedBy}
 use Rattle.bg_lists.specs.Orders.{set_of}
 use Rattle.bg_base.specs.declared.names.Link.{Link}
 use Rattle.bg_rewriting.specs.Making.{AreIdle}
 use Rattle.bg_index.specs.Readings.{boundary_of}
-use Rattle.bg_index.specs.Tied.{edges_on, edges_named_by, is_left_idle}
+use Rattle.bg_index.specs.Tied.{edges_named_by, is_left_idle}
 use Rattle.bg_index.proofs.IdleLaws.{set_sorted, gone_there, idle_ascends, idle_are}
 use Rattle.bg_index.proofs.idle.idle_of.Goals as goal
 

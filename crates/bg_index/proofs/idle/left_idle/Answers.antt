@@ -1,4 +1,4 @@
-use Rattle.std.proofs.Common.{ℕ, rules}
+use Rattle.std.proofs.Common.{rules}
 use Rattle.std.proofs.lemmas.Fn.{filter_same}
 use Rattle.bg_index.specs.Tied.{is_left_idle}
 use Rattle.bg_index.proofs.idle.left_idle.Goals as goal

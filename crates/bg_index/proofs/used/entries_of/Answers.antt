@@ -1,4 +1,4 @@
-use Rattle.std.proofs.Common.{◌≡◌, ℕ, ◌+◌, ◌<◌, ◌++◌, ◌∷◌, [], List, get_or, take, map, sym, ap, subst, ◌∙◌, rules}
+use Rattle.std.proofs.Common.{ℕ, ◌+◌, ◌++◌, ◌∷◌, [], List, get_or, take, map, sym, ap, subst, ◌∙◌, rules}
 use Rattle.std.proofs.lemmas.List.{take_more, map-append}
 use Rattle.bg_lists.specs.Lists.{Mem}
 use Rattle.bg_lists.proofs.Places.{At-get_or, Mem-from_At}

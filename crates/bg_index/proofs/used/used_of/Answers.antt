@@ -1,4 +1,4 @@
-use Rattle.std.proofs.Common.{◌≡◌, ℕ, ◌+◌, ◌≤◌, List, length, map, sym, ap, subst, ◌∙◌, arith}
+use Rattle.std.proofs.Common.{ℕ, ◌+◌, ◌≤◌, List, length, map, subst, ◌∙◌, arith}
 use Rattle.bg_lists.specs.Lists.{Mem}
 use Rattle.bg_index.specs.declared.arrivals.Arrival.{Arrival}
 use Rattle.bg_index.specs.declared.entries.EdgeEntry.{EdgeEntry}
