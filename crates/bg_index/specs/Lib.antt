@@ -1,6 +1,4 @@
-pub mod Arriving
-pub mod Going
-pub mod Growth
+pub mod Arrivals
 pub mod Indexed
 pub mod Making
 pub mod Noting
@@ -8,4 +6,5 @@ pub mod Plans
 pub mod Readings
 pub mod Sites
 pub mod Steps
+pub mod Tied
 pub mod Walks

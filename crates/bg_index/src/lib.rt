@@ -5,14 +5,13 @@
 #![tactic(auto)]
 
 mod arrivals;
-mod children;
+mod bundles;
 mod controls;
+mod edge_sets;
 mod entries;
-mod going;
-mod growth;
 mod idle;
 mod indexed_host;
-mod late;
+mod keys;
 mod laws;
 mod making;
 mod moves;
@@ -21,8 +20,6 @@ mod parts;
 mod planning;
 mod plans;
 mod reading;
-mod sets;
-mod touched;
 mod used;
 
 pub use indexed_host::IndexedHost;

@@ -196,7 +196,7 @@ fn points_on(alloc: Global, wiring: &Wiring, link: &Link) -> Mem<Vec<Point>>
 }
 
 /// Copies of points, in their order.
-fn point_copies(alloc: Global, points: &[Point]) -> Mem<Vec<Point>>
+pub fn point_copies(alloc: Global, points: &[Point]) -> Mem<Vec<Point>>
     ensures { IfOk result (λ made. made.items ≡ points.now) }
 {
     let mut made = Vec::with_capacity(alloc, points.len())?;
@@ -206,7 +206,7 @@ fn point_copies(alloc: Global, points: &[Point]) -> Mem<Vec<Point>>
     Ok(made)
 }
 
-fn point_copy(alloc: Global, point: &Point) -> Mem<Point>
+pub fn point_copy(alloc: Global, point: &Point) -> Mem<Point>
     ensures { IfOk result (λ made. made ≡ point.now) }
 {
     match point {

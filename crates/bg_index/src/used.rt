@@ -1,21 +1,93 @@
-//! stub
-ghost use Rattle.std.specs.Prelude.{◌≡◌, ◌≤◌, ◌+◌, length, IfOk};
+//! The edges that a reaction makes, with the points of the new rows on them.
+ghost use Rattle.std.specs.Prelude.{◌≡◌, ◌+◌, ◌<◌, ◌≤◌, ◌^◌, ℕ, IfOk, filter, length, map};
+ghost use Rattle.std.specs.List.Sorted.{IsNonDecreasingBy};
+ghost use Rattle.bg_lists.specs.Lists.{Mem as Member};
+ghost use Rattle.bg_base.specs.declared.names.Link.TheVariants.{Edge};
 ghost use Rattle.bg_base.specs.Limits.{largest_counter};
-ghost use Rattle.bg_index.specs.Readings.{boundary_of};
+ghost use Rattle.bg_base.specs.Products.{has_point};
+ghost use Rattle.bg_index.specs.declared.entries.EdgeEntry.{EdgeEntry as EdgeValue};
+ghost use Rattle.bg_index.specs.Arrivals.{arrival_rank, IsArrivedAt};
+ghost use Rattle.bg_index.specs.Indexed.{edges_of};
 ghost use Rattle.bg_index.specs.Plans.{IsRead, AreNewRows, AreUsed};
+ghost use Rattle.bg_index.specs.Readings.{boundary_of};
+ghost use Rattle.bg_index.specs.Tied as tied;
+
 use crate::IndexedHost;
+use crate::arrivals::{Arrival, arrivals_of, push_arriving};
+use crate::edge_sets::{edge_set, push_edges};
 use crate::entries::EdgeEntry;
+use crate::plans::LinkKey;
 use crate::reading::Reading;
 use bg_base::NodeRow;
 use bg_lists::{Mem, OutOfMemory};
 use bg_rules::Rule;
 use std::alloc::Global;
 
-pub fn used_of(alloc: Global, host: &IndexedHost, rule: &Rule, map: &[u32], reading: &Reading, new: &[NodeRow]) -> Mem<Vec<EdgeEntry>>
+/// The edges of the reactum that a port has, with their new numbers, ascending, and the points of the new rows on them.
+/// Costs time n log n in the number of ports of the new rows.
+pub fn used_of(
+    alloc: Global,
+    host: &IndexedHost,
+    rule: &Rule,
+    map: &[u32],
+    reading: &Reading,
+    new: &[NodeRow],
+) -> Mem<Vec<EdgeEntry>>
     requires read { IsRead host.now rule.now map.now reading.now }
     requires new_are { AreNewRows host.now rule.now map.now (boundary_of reading.now) new.now }
     requires room { host.now.next_edge + length rule.now.reactum.edges ≤ largest_counter }
     ensures { IfOk result (λ used. AreUsed host.now rule.now new.now used.items) }
 {
-    Err(OutOfMemory)
+    let arrivals = arrivals_of(alloc, host, new)?;
+    let own = own_edges(alloc, rule)?;
+    let used = entries_of(alloc, &arrivals, host.next_edge(), &own)?;
+    Ok(used)
+}
+
+/// The edges of the reactum that a port has, ascending.
+fn own_edges(alloc: Global, rule: &Rule) -> Mem<Vec<u32>>
+    ensures { IfOk result (λ own. own.items ≡ filter (λ own. has_point rule.now.reactum (Edge own)) rule.now.reactum.edges) }
+{
+    let edges = edges_tied(alloc, &rule.reactum().nodes)?;
+    let own = edge_set(edges);
+    Ok(own)
+}
+
+/// The edges on ports of the rows.
+fn edges_tied(alloc: Global, rows: &[NodeRow]) -> Mem<Vec<u32>>
+    ensures { IfOk result (λ edges. edges.items ≡ tied.edges_tied rows.now) }
+{
+    let mut edges = Vec::new(alloc);
+    for row in rows {
+        push_edges(row.links.as_slice(), &mut edges)?;
+    }
+    Ok(edges)
+}
+
+/// The edges, numbered from that number on, with the points that arrive at them.
+fn entries_of(alloc: Global, arrivals: &[Arrival], next: u32, own: &[u32]) -> Mem<Vec<EdgeEntry>>
+    requires rise { IsNonDecreasingBy arrival_rank arrivals.now }
+    requires room { (edge : ℕ) → Member edge own.now → next + edge < 2 ^ 32 }
+    ensures edges { IfOk result (λ made. edges_of made.items ≡ map (λ edge. next + edge) own.now) }
+    ensures arrived { IfOk result (λ made. (entry : EdgeValue) → Member entry made.items → IsArrivedAt arrivals.now entry.edge entry) }
+{
+    let mut made = Vec::new(alloc);
+    for edge in own {
+        let entry = entry_of(alloc, arrivals, next + *edge)?;
+        made.push(entry)?;
+    }
+    Ok(made)
+}
+
+/// The edge with the points that arrive at it, where 32 bits can count them.
+fn entry_of(alloc: Global, arrivals: &[Arrival], edge: u32) -> Mem<EdgeEntry>
+    requires rise { IsNonDecreasingBy arrival_rank arrivals.now }
+    ensures { IfOk result (λ entry. IsArrivedAt arrivals.now edge entry) }
+{
+    let mut points = Vec::new(alloc);
+    push_arriving(alloc, arrivals, LinkKey::Edge(edge), &mut points)?;
+    if points.len() > u32::MAX as usize {
+        return Err(OutOfMemory);
+    }
+    Ok(EdgeEntry { edge, points })
 }
