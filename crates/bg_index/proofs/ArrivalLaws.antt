@@ -26,7 +26,7 @@ use Rattle.bg_link.specs.declared.graph.PortRow.{PortRow}
 use Rattle.bg_link.specs.Links.{port_row, ports_from, ports_in, point_of}
 use Rattle.bg_rewriting.specs.Keeping.{ports_on}
 use Rattle.bg_rewriting.proofs.RowLaws.{At-name}
-use Rattle.bg_index.specs.declared.arrivals.Arrival.{Arrival}
+use Rattle.bg_index.specs.declared.point_arrivals.Arrival.{Arrival}
 use Rattle.bg_index.specs.declared.plans.LinkKey.{LinkKey}
 use Rattle.bg_index.specs.declared.plans.LinkKey.TheVariants.{Edge as EdgeKey, Name as NameKey}
 use Rattle.bg_index.specs.Arrivals.{key_rank, key_of, arrived, arrival_rank, arrival_point, arrived_from, points_arriving, AreArrivals}

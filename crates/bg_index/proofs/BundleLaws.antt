@@ -27,7 +27,7 @@ use Rattle.bg_rewriting.specs.Making.{AreDropped}
 use Rattle.bg_rewriting.specs.Rewriting.{link_made, IsRowAfter, stays, is_made, is_copied}
 use Rattle.bg_rewriting.specs.Touching.{IsDropped}
 use Rattle.bg_rewriting.proofs.RowLaws.{At-name}
-use Rattle.bg_index.specs.declared.arrivals.Arrival.{Arrival}
+use Rattle.bg_index.specs.declared.point_arrivals.Arrival.{Arrival}
 use Rattle.bg_index.specs.declared.plans.Bundle.{Bundle}
 use Rattle.bg_index.specs.declared.plans.LinkKey.{LinkKey}
 use Rattle.bg_index.specs.declared.reading.Reading.{Reading}

@@ -1,9 +1,13 @@
 pub mod ArrivalLaws
 pub mod BundleLaws
+pub mod ChildLaws
 pub mod ControlLaws
+pub mod GoneLaws
+pub mod GrowthLaws
 pub mod IdleLaws
 pub mod IndexLaws
 pub mod KeyLaws
+pub mod LateLaws
 pub mod MakingLaws
 pub mod MoveLaws
 pub mod NewRowLaws
@@ -13,5 +17,6 @@ pub mod ReadingLaws
 pub mod SetLaws
 pub mod SiteLaws
 pub mod StepLaws
+pub mod TouchedLaws
 pub mod UsedLaws
 pub mod WalkLaws

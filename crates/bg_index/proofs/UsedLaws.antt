@@ -18,7 +18,7 @@ use Rattle.bg_rules.specs.Reaction.{HostState}
 use Rattle.bg_rules.specs.Rules.{RuleParts}
 use Rattle.bg_rules.proofs.Patterns.{link_there, edge_there}
 use Rattle.bg_rewriting.proofs.Rewritten.{point_port, port_point}
-use Rattle.bg_index.specs.declared.arrivals.Arrival.{Arrival}
+use Rattle.bg_index.specs.declared.point_arrivals.Arrival.{Arrival}
 use Rattle.bg_index.specs.declared.entries.EdgeEntry.{EdgeEntry}
 use Rattle.bg_index.specs.declared.plans.LinkKey.TheVariants.{Edge as EdgeKey}
 use Rattle.bg_index.specs.Arrivals.{AreArrivals, IsArrivedAt}

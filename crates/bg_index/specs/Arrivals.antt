@@ -14,7 +14,7 @@ use Rattle.bg_link.specs.declared.graph.Point.{Point}
 use Rattle.bg_link.specs.Links.{port_row, ports_in}
 use Rattle.bg_rules.specs.Instantiation.{is_among}
 use Rattle.bg_rules.specs.Reaction.{HostState}
-use Rattle.bg_index.specs.declared.arrivals.Arrival.{Arrival}
+use Rattle.bg_index.specs.declared.point_arrivals.Arrival.{Arrival}
 use Rattle.bg_index.specs.declared.entries.EdgeEntry.{EdgeEntry}
 use Rattle.bg_index.specs.declared.plans.Bundle.{Bundle}
 use Rattle.bg_index.specs.declared.plans.LinkKey.{LinkKey}

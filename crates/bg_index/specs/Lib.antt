@@ -1,4 +1,8 @@
 pub mod Arrivals
+pub mod Arriving
+pub mod Copying
+pub mod Going
+pub mod Growth
 pub mod Indexed
 pub mod Making
 pub mod Noting

@@ -1,93 +1,113 @@
-//! The points of new rows, by their links.
-ghost use Rattle.std.specs.Prelude.{◌≡◌, ◌==◌, ◌++◌, ◌<◌, ◌^◌, IfOk, OnOk, filter, length, map};
-ghost use Rattle.std.specs.List.Sorted.{IsNonDecreasingBy};
-ghost use Rattle.bg_index.specs.declared.arrivals.Arrival.{Arrival as ArrivalValue};
-ghost use Rattle.bg_index.specs.Arrivals as defined;
-ghost use Rattle.bg_link.specs.Links.{ports_from};
+//! Nodes that come to lie in places, by their places.
+ghost use Rattle.std.specs.Prelude.{◌≡◌, ◌++◌, map, IfOk, OnOk};
+ghost use Rattle.bg_index.specs.Arriving.{move_row, arriving};
+ghost use Rattle.bg_place.specs.Places as defined;
+ghost use Rattle.bg_place.specs.Rows as row;
 
-use crate::IndexedHost;
-use crate::keys::rank;
-use crate::making::point_copy;
-use crate::plans::LinkKey;
-use bg_base::{Link, NodeRow};
-use bg_link::Point;
+use crate::plans::Move;
+use bg_base::{NodeRow, Place};
 use bg_lists::Mem;
+use bg_place::ParentRow;
 use std::alloc::Global;
+use std::marker::Model;
 
-/// A point of a new row, and the key of its link.
+/// Nodes, each with the place in which it comes to lie, put in order by their places; beside them their numbers alone. A
+/// contract sees the nodes with their places.
 #[derive(Drop)]
-pub struct Arrival {
-    pub key: LinkKey,
-    pub point: Point,
+pub struct Arrivals {
+    rows: Vec<ParentRow>,
+    nodes: Vec<u32>,
 }
 
-/// The points of the rows by the keys of their links; those of one link stay in their order. Costs time n log n in the
-/// number of ports.
-pub fn arrivals_of(alloc: Global, host: &IndexedHost, rows: &[NodeRow]) -> Mem<Vec<Arrival>>
-    ensures { IfOk result (λ made. defined.AreArrivals host.now.big.outer rows.now made.items) }
+impl Model for Arrivals {
+    ghost use Rattle.std.specs.Prelude.{List};
+    ghost use Rattle.bg_place.specs.declared.graph.ParentRow.{ParentRow as RowOfParent};
+    ghost use Rattle.bg_place.specs.Rows.{IsGroups};
+
+    ghost Value = { List RowOfParent };
+
+    ghost view = { λ arrivals. arrivals.rows.items };
+
+    ghost invariant = { λ arrivals. IsGroups arrivals.rows.items arrivals.nodes.items };
+}
+
+impl Arrivals {
+    /// The nodes that move and then the new ones, by their places; those of one place stay in their order. Costs time
+    /// n log n in their number.
+    pub fn of(alloc: Global, moves: &[Move], new: &[NodeRow]) -> Mem<Arrivals>
+        ensures { IfOk result (λ arrivals. row.HasGroups arrivals (arriving moves.now new.now)) }
+    {
+        let mut rows = rows_of(alloc, moves, new)?;
+        rows.sort_by_key(|row| rank(row.parent))?;
+        let nodes = nodes_of(alloc, &rows)?;
+        Ok(Arrivals { rows, nodes })
+    }
+
+    /// The nodes that come to lie in the place, in their order. Takes no memory; logarithmic.
+    pub fn in_place(&self, place: Place) -> &[u32]
+        ensures { result.now ≡ defined.numbers_in place self.now }
+    {
+        let wanted = rank(place);
+        let start = self.rows.partition_point(|row| rank(row.parent) < wanted);
+        let rest = &self.rows[start..];
+        let count = rest.partition_point(|row| rank(row.parent) <= wanted);
+        &self.nodes[start..start + count]
+    }
+}
+
+/// The position of a place among all places.
+fn rank(place: Place) -> u64
+    ensures { result ≡ row.place_rank place }
 {
-    let mut made = Vec::new(alloc);
-    push_rows(host, rows, &mut made)?;
-    made.sort_by_key(|arrival| rank(arrival.key))?;
+    match place {
+        Place::Node(node) => node as u64 * 2,
+        Place::Region(region) => region as u64 * 2 + 1,
+    }
+}
+
+/// The numbers of the rows.
+fn nodes_of(alloc: Global, rows: &[ParentRow]) -> Mem<Vec<u32>>
+    ensures { IfOk result (λ made. made.items ≡ map defined.number_of rows.now) }
+{
+    let mut made = Vec::with_capacity(alloc, rows.len())?;
+    for row in rows {
+        made.push(row.node)?;
+    }
     Ok(made)
 }
 
-/// Puts the ports of the rows behind the others.
-fn push_rows(host: &IndexedHost, rows: &[NodeRow], made: &mut Vec<Arrival>) -> Mem<()>
-    ensures { OnOk result (made.new.items ≡ made.old.items ++ defined.arrived_from host.now.big.outer rows.now) }
+/// The nodes that move and then the new ones, each with its place.
+fn rows_of(alloc: Global, moves: &[Move], new: &[NodeRow]) -> Mem<Vec<ParentRow>>
+    ensures { IfOk result (λ made. made.items ≡ arriving moves.now new.now) }
 {
-    for row in rows {
-        push_ports(host, row.id, row.links.as_slice(), made)?;
-    }
-    Ok(())
+    let mut made = move_rows(alloc, moves)?;
+    push_rows(new, &mut made)?;
+    Ok(made)
 }
 
-/// Puts the ports of a node behind the others.
-fn push_ports(host: &IndexedHost, node: u32, links: &[Link], made: &mut Vec<Arrival>) -> Mem<()>
-    requires few { length links.now < 2 ^ 32 }
-    ensures { OnOk result (made.new.items ≡ made.old.items ++ map (defined.arrived host.now.big.outer) (ports_from node 0 links.now)) }
+/// The nodes that move, each with its place.
+fn move_rows(alloc: Global, moves: &[Move]) -> Mem<Vec<ParentRow>>
+    ensures { IfOk result (λ made. made.items ≡ map move_row moves.now) }
 {
-    for (at, link) in links.iter().enumerate() {
-        let index = at as u32;
-        made.push(Arrival {
-            key: host.key(link),
-            point: Point::Port { node, index },
+    let mut made = Vec::with_capacity(alloc, moves.len())?;
+    for step in moves {
+        made.push(ParentRow {
+            node: step.node,
+            parent: step.place,
+        })?;
+    }
+    Ok(made)
+}
+
+/// Puts the nodes of the rows, each with its place, behind the others.
+fn push_rows(new: &[NodeRow], made: &mut Vec<ParentRow>) -> Mem<()>
+    ensures { OnOk result (made.new.items ≡ made.old.items ++ map defined.parent_row new.now) }
+{
+    for row in new {
+        made.push(ParentRow {
+            node: row.id,
+            parent: row.parent,
         })?;
     }
     Ok(())
-}
-
-/// Puts copies of the points that arrive at the link behind the others.
-pub fn push_arriving(
-    alloc: Global,
-    arrivals: &[Arrival],
-    key: LinkKey,
-    points: &mut Vec<Point>,
-) -> Mem<()>
-    requires rise { IsNonDecreasingBy defined.arrival_rank arrivals.now }
-    ensures { OnOk result (points.new.items ≡ points.old.items ++ defined.points_arriving arrivals.now key) }
-{
-    push_points(alloc, arriving(arrivals, key), points)
-}
-
-/// Puts copies of the points behind the others.
-fn push_points(alloc: Global, arrivals: &[Arrival], points: &mut Vec<Point>) -> Mem<()>
-    ensures { OnOk result (points.new.items ≡ points.old.items ++ map defined.arrival_point arrivals.now) }
-{
-    for arrival in arrivals {
-        points.push(point_copy(alloc, &arrival.point)?)?;
-    }
-    Ok(())
-}
-
-/// Those that arrive at the link, by two binary searches.
-fn arriving(arrivals: &[Arrival], key: LinkKey) -> &[Arrival]
-    requires rise { IsNonDecreasingBy defined.arrival_rank arrivals.now }
-    ensures { result.now ≡ filter (λ (arrival : ArrivalValue). defined.arrival_rank arrival == defined.key_rank key) arrivals.now }
-{
-    let wanted = rank(key);
-    let start = arrivals.partition_point(|arrival| rank(arrival.key) < wanted);
-    let rest = &arrivals[start..];
-    let count = rest.partition_point(|arrival| rank(arrival.key) <= wanted);
-    &arrivals[start..start + count]
 }

@@ -15,7 +15,7 @@ ghost use Rattle.bg_rules.specs.Hosts.{IsHost};
 ghost use Rattle.bg_rules.specs.Instantiation.{is_among};
 
 use crate::IndexedHost;
-use crate::arrivals::{Arrival, arrivals_of, push_arriving};
+use crate::point_arrivals::{Arrival, arrivals_of, push_arriving};
 use crate::idle::is_staying;
 use crate::keys::rank;
 use crate::making::point_copies;

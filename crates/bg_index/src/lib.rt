@@ -6,12 +6,16 @@
 
 mod arrivals;
 mod bundles;
+mod children;
 mod controls;
 mod edge_sets;
 mod entries;
+mod going;
+mod growth;
 mod idle;
 mod indexed_host;
 mod keys;
+mod late;
 mod laws;
 mod making;
 mod moves;
@@ -19,7 +23,10 @@ mod new_rows;
 mod parts;
 mod planning;
 mod plans;
+mod point_arrivals;
 mod reading;
+mod sets;
+mod touched;
 mod used;
 
 pub use indexed_host::IndexedHost;

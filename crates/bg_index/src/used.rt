@@ -13,7 +13,7 @@ ghost use Rattle.bg_index.specs.Readings.{boundary_of};
 ghost use Rattle.bg_index.specs.Tied as tied;
 
 use crate::IndexedHost;
-use crate::arrivals::{Arrival, arrivals_of, push_arriving};
+use crate::point_arrivals::{Arrival, arrivals_of, push_arriving};
 use crate::edge_sets::{edge_set, push_edges};
 use crate::entries::EdgeEntry;
 use crate::plans::LinkKey;

@@ -1,6 +1,6 @@
 use Rattle.std.proofs.Common.{◌≡◌, true, inl, inr, List, map, sym, subst, ◌∙◌}
 use Rattle.bg_lists.specs.Lists.{Mem}
-use Rattle.bg_index.specs.declared.arrivals.Arrival.{Arrival}
+use Rattle.bg_index.specs.declared.point_arrivals.Arrival.{Arrival}
 use Rattle.bg_index.specs.declared.plans.LinkKey.{LinkKey}
 use Rattle.bg_index.specs.Arrivals.{arrival_key, is_old, AreBundlesAt}
 use Rattle.bg_index.proofs.BundleLaws.{bundles_are}

@@ -1,6 +1,6 @@
 use Rattle.std.proofs.Common.{ℕ, ◌+◌, ◌≤◌, List, length, map, subst, ◌∙◌, arith}
 use Rattle.bg_lists.specs.Lists.{Mem}
-use Rattle.bg_index.specs.declared.arrivals.Arrival.{Arrival}
+use Rattle.bg_index.specs.declared.point_arrivals.Arrival.{Arrival}
 use Rattle.bg_index.specs.declared.entries.EdgeEntry.{EdgeEntry}
 use Rattle.bg_index.specs.Arrivals.{IsArrivedAt}
 use Rattle.bg_index.proofs.UsedLaws.{edge_below, used_are}

@@ -2,7 +2,7 @@ use Rattle.std.proofs.Common.{rules, ◌++◌, ap, ◌∙◌}
 use Rattle.std.proofs.lemmas.List.Sorted.{answers_always, IsNonDecreasingBy-from_sort}
 use Rattle.bg_index.specs.Arrivals.{arrival_rank, arrived_from}
 use Rattle.bg_index.proofs.ArrivalLaws.{arrivals_sorted}
-use Rattle.bg_index.proofs.arrivals.arrivals_of.Goals as goal
+use Rattle.bg_index.proofs.point_arrivals.arrivals_of.Goals as goal
 
 pub returns : goal.returns
 returns c =

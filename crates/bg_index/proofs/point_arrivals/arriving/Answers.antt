@@ -1,9 +1,9 @@
 use Rattle.std.proofs.Common.{rules, of_calls, ltb, leb}
 use Rattle.std.proofs.lemmas.Fn.{always_returns_same}
-use Rattle.bg_index.specs.declared.arrivals.Arrival.{Arrival}
+use Rattle.bg_index.specs.declared.point_arrivals.Arrival.{Arrival}
 use Rattle.bg_index.specs.Arrivals.{arrival_rank}
 use Rattle.bg_index.proofs.ArrivalLaws.{arriving_found}
-use Rattle.bg_index.proofs.arrivals.arriving.Goals as goal
+use Rattle.bg_index.proofs.point_arrivals.arriving.Goals as goal
 
 pub returns : goal.returns
 returns c =

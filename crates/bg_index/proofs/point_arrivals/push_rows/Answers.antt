@@ -3,7 +3,7 @@ use Rattle.bg_base.specs.declared.names.Link.{Link}
 use Rattle.bg_link.specs.Links.{ports_from}
 use Rattle.bg_index.specs.Arrivals.{arrived, arrived_from}
 use Rattle.bg_index.proofs.ArrivalLaws.{arrived_more}
-use Rattle.bg_index.proofs.arrivals.push_rows.Goals as goal
+use Rattle.bg_index.proofs.point_arrivals.push_rows.Goals as goal
 
 pub loop-row-preserved : goal.loop-row-preserved
 loop-row-preserved c =

@@ -1,7 +1,7 @@
 use Rattle.std.proofs.Common.{◌≡◌, ◌++◌, drop, map}
 use Rattle.bg_link.specs.Links.{ports_from}
 use Rattle.bg_index.specs.Arrivals.{arrived}
-use Rattle.bg_index.proofs.arrivals.push_ports.Given as goal
+use Rattle.bg_index.proofs.point_arrivals.push_ports.Given as goal
 
 abbrev pub invariant-loop-at : goal.invariant-loop-at
 invariant-loop-at l =
