@@ -1,6 +1,7 @@
 -- What a plan notes is what the reaction touches.
 use Rattle.std.proofs.Common.{◌≡◌, ◌↔◌, ◌⊎◌, ℕ, ◌+◌, ◌<◌, ◌≤◌, ◌++◌, ◌∷◌, [], not, IsTrue, true, false, List, length, map, filter, nat_cmp, refl, sym, ap, subst, ◌∙◌, inl, inr, arith}
 use Rattle.std.specs.List.{list_all}
+use Rattle.std.specs.List.Sorted.{IsStrictlySortedBy}
 use Rattle.std.proofs.lemmas.Bool.{false_from_ne_true}
 use Rattle.bg_lists.specs.Lists.{Mem, here, there, At}
 use Rattle.bg_lists.proofs.Members.{Mem-append_cases, Mem-append_left, Mem-append_right, Mem-cons_cases, Mem-filter, Mem-map, Mem-same, Mem-unfilter, Mem-unmap}

@@ -1,21 +1,22 @@
 //! The plan of a reaction: all of it that may fail, made before anything is changed.
-ghost use Rattle.std.specs.Prelude.{◌≡◌, ◌≤◌, ◌<◌, ◌+◌, [], length, IfOk, IsErrOf, filter};
+ghost use Rattle.std.specs.Prelude.{◌≡◌, ◌≤◌, ◌<◌, ◌+◌, [], length, IfOk, OnOk, IsErrOf};
 ghost use Rattle.std.specs.List.Sorted.{IsStrictlySortedBy};
 ghost use Rattle.std.specs.Ordering.{nat_cmp};
 ghost use Rattle.bg_base.specs.Limits.{largest_counter, most_host_edges};
-ghost use Rattle.bg_rewriting.specs.Making.{AreDropped};
+ghost use Rattle.bg_rewriting.specs.Making.{AreDropped, AreIdle};
 ghost use Rattle.bg_rewriting.specs.Rewriting.{late_count};
 ghost use Rattle.bg_rules.specs.Decomposition.{Occurs};
 ghost use Rattle.bg_rules.specs.Hosts.{IsHost};
 ghost use Rattle.bg_rules.specs.Limits.{PassesALimit};
 ghost use Rattle.bg_rules.specs.Rules.{IsRule};
 ghost use Rattle.bg_index.specs.Growth.{HasNumbers};
-ghost use Rattle.bg_index.specs.Plans.{IsRead, IsReactionPlan, AreNodeChanges, AreLinkChanges};
+ghost use Rattle.bg_index.specs.Plans.{IsRead, IsReactionPlan, AreNodeChanges, AreLinkChanges, AreUsed};
 ghost use Rattle.bg_index.specs.Readings.{boundary_of};
 
 use crate::IndexedHost;
 use crate::bundles::bundles_of;
 use crate::children::{entries_of, nests_of};
+use crate::entries::EdgeEntry;
 use crate::going::gone_of;
 use crate::growth::{Counters, counters_after, is_room};
 use crate::idle::idle_of;
@@ -24,6 +25,7 @@ use crate::new_rows::new_rows_of;
 use crate::plans::{LinkChanges, NodeChanges, Plan};
 use crate::reading::{Reading, read};
 use crate::used::used_of;
+use bg_base::NodeRow;
 use bg_lists::Mem;
 use bg_rules::{ReactFault, Rule};
 use std::alloc::Global;
@@ -140,15 +142,38 @@ fn link_changes(
 {
     let idle = idle_of(alloc, host, rule, map, reading, &nodes.gone)?;
     let used = used_of(alloc, host, rule, map, reading, &nodes.new)?;
-    if !is_room(host.edge_count(), used.len() as u64, idle.len()) {
-        return Err(ReactFault::Full);
-    }
+    room_for_edges(host, rule, map, reading, &nodes.new, &idle, &used)?;
     let bundles = bundles_of(alloc, host, rule, map, reading, &nodes.gone, &idle, &nodes.new)?;
     Ok(LinkChanges {
         idle,
         used,
         bundles,
     })
+}
+
+/// Whether there is room for the edges, else `Full`.
+fn room_for_edges(
+    host: &IndexedHost,
+    rule: &Rule,
+    map: &[u32],
+    reading: &Reading,
+    new: &[NodeRow],
+    idle: &[u32],
+    used: &[EdgeEntry],
+) -> Result<(), ReactFault>
+    requires read { IsRead host.now rule.now map.now reading.now }
+    requires room { host.now.next_edge + length rule.now.reactum.edges ≤ largest_counter }
+    requires idle_ascends { IsStrictlySortedBy nat_cmp idle.now }
+    requires idle_are { AreIdle host.now.big rule.now map.now (boundary_of reading.now) idle.now }
+    requires used_are { AreUsed host.now rule.now new.now used.now }
+    ensures fits { OnOk result (length host.now.big.edges + length used.now ≤ most_host_edges + length idle.now) }
+    ensures full { IsErrOf result ReactFault.Full → PassesALimit host.now rule.now map.now }
+{
+    if is_room(host.edge_count(), used.len() as u64, idle.len()) {
+        Ok(())
+    } else {
+        Err(ReactFault::Full)
+    }
 }
 
 /// The plan of these changes, with what is to lie in the new nodes and in the places round the images.
