@@ -1,8 +1,3 @@
-use Rattle.std.proofs.Common.{◌≡◌, [], MatchOption, None, subst}
-use Rattle.bg_rewriting.specs.Rewriting.{late_count}
-use Rattle.bg_index.specs.declared.growth.Counters.{Counters}
-use Rattle.bg_index.specs.Growth.{HasNumbers}
-use Rattle.bg_index.specs.Readings.{boundary_of}
 use Rattle.bg_index.proofs.PlanningLaws.{read_numbers_pass}
 use Rattle.bg_index.proofs.planning.room_for_nodes.Goals as goal
 
