@@ -1,3 +1,4 @@
+pub mod Commits
 pub mod Indexed
 pub mod Making
 pub mod Plans

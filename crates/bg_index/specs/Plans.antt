@@ -109,7 +109,7 @@ abbrev pub points_after : HostState → List ℕ → List NodeRow → Link → L
 points_after host gone new link = filter (stays_at (λ node. not (is_among node gone))) (points_of (links_of host.big) link) ++ ports_on link new
 
 -- each link of the host that a node which is dropped or a new one is tied to is there, unless it becomes idle, with the
--- points that are to be tied to it
+-- points that are to be tied to it; and no other link
 pub record AreBundles (host : HostState) (rule : RuleParts) (nodes : List ℕ) (gone idle : List ℕ) (new : List NodeRow) (bundles : List Bundle) : Type 0 where
   pub points : (bundle : Bundle) (link : Link) → Mem bundle bundles → IsKeyOf host.big.outer bundle.key link
       → bundle.points.items ≡ points_after host gone new link
@@ -118,6 +118,9 @@ pub record AreBundles (host : HostState) (rule : RuleParts) (nodes : List ℕ) (
       → ((edge : ℕ) × (link ≡ Edge edge) × Mem edge idle) ⊎ ((bundle : Bundle) × Mem bundle bundles × IsKeyOf host.big.outer bundle.key link)
   pub got : (row : NodeRow) (link : Link) → Mem row new → Mem link row.links
       → ((edge : ℕ) × (link ≡ Edge edge) × (host.next_edge ≤ edge)) ⊎ ((bundle : Bundle) × Mem bundle bundles × IsKeyOf host.big.outer bundle.key link)
+  pub touched : (bundle : Bundle) → Mem bundle bundles → (link : Link) × IsKeyOf host.big.outer bundle.key link
+      × (((row : NodeRow) × Mem row host.big.nodes × IsDropped host.big rule nodes row.id × Mem link row.links)
+      ⊎ ((row : NodeRow) × Mem row new × Mem link row.links))
 
 -- ---- the plan
 

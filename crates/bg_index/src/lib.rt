@@ -4,10 +4,12 @@
 //!   the nodes of each control kept beside them, each list ascending.
 #![tactic(auto)]
 
+mod commit_nodes;
 mod controls;
 mod entries;
 mod indexed_host;
 mod laws;
+mod leaving;
 mod making;
 mod parts;
 mod plans;
