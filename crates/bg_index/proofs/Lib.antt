@@ -1,6 +1,12 @@
+pub mod CarryLaws
+pub mod CommitControlLaws
+pub mod CommitLinkLaws
+pub mod CommitNodeLaws
 pub mod ControlLaws
 pub mod IndexLaws
+pub mod KeyLaws
 pub mod MakingLaws
 pub mod ReadingLaws
+pub mod RoomLaws
 pub mod StepLaws
 pub mod WalkLaws

@@ -4,6 +4,9 @@
 //!   the nodes of each control kept beside them, each list ascending.
 #![tactic(auto)]
 
+mod commit;
+mod commit_controls;
+mod commit_links;
 mod commit_nodes;
 mod controls;
 mod entries;
@@ -14,6 +17,7 @@ mod making;
 mod parts;
 mod plans;
 mod reading;
+mod room;
 
 pub use indexed_host::IndexedHost;
 pub use laws::steps_leave_an_index;
