@@ -8,12 +8,14 @@ use Rattle.bg_lists.specs.Lists.{Mem, here, there, At, at_here, at_there}
 use Rattle.bg_lists.specs.Orders.{Ascending, asc_nil, asc_cons}
 use Rattle.bg_lists.proofs.Ascents.{Ascending-from_sorted, sorted_from_Ascending, Ascending-filter, Ascending-map, Ascending-unmap, same_member, one_place}
 use Rattle.bg_lists.proofs.Comparisons.{Less-not_itself, eqb-nat_cmp}
-use Rattle.bg_lists.proofs.Members.{Mem-cons_cases, Mem-map, Mem-unmap, Mem-unfilter}
+use Rattle.bg_lists.proofs.Members.{Mem-cons_cases, Mem-map, Mem-unmap, Mem-unfilter, Mem-append_left, Mem-append_right, Mem-append_cases, filter_agree_on}
 use Rattle.bg_lists.proofs.Places.{not_At-nil, At-total, At-from_Mem, Mem-from_At, At-one, At-map, At-same, get_or-At}
 use Rattle.bg_lists.proofs.Searches.{find-search}
+use Rattle.bg_lists.proofs.Tests.{same_test}
 use Rattle.bg_lists.proofs.Words.{fails_from_find}
 use Rattle.bg_base.proofs.LookUps.{tied_numbers}
 use Rattle.bg_rules.specs.Instantiation.{is_among}
+use Rattle.bg_rules.proofs.Upwards.{is_among-member, member_from_is_among}
 use Rattle.bg_index.specs.Commits.{AreFrom, IsThinned}
 use Rattle.bg_index.proofs.ControlLaws.{set_cases}
 
@@ -134,6 +136,59 @@ module _ {X : Type 0} (key : X → ℕ) where
       let none : find (λ (x : X). key x == number) xs ≡ None
       = find-search nat_cmp_total key number (λ (x : X). key x == number) (λ x. eqb-nat_cmp (key x) number) xs (Ascending-from_sorted xs up) (Err at) inside answer in
       false≢true (sym (fails_from_find (λ (x : X). key x == number) xs none m) ∙ eq-eqb (key x) number e)
+
+  -- the item with a key is taken out of the list
+  pub one_removed : (xs ys : List X) (number at : ℕ) → IsStrictlySortedBy (on key nat_cmp) xs → at < length xs
+      → IsBinarySearchResult (λ (x : X). nat_cmp (key x) number) xs (Ok at) → ys ≡ take at xs ++ drop (at + 1) xs
+      → ys ≡ filter (λ x. not (key x == number)) xs
+  one_removed xs ys number at up below answer is =
+      let w = key_found xs number at below answer in
+      is ∙ ap (λ k. take at xs ++ drop k xs) (add-one at) ∙ removed key number at w.0 xs (Ascending-from_sorted xs up) w.1 w.2
+
+  pub none_removed : (xs : List X) (number at : ℕ) → IsStrictlySortedBy (on key nat_cmp) xs → at ≤ length xs
+      → IsBinarySearchResult (λ (x : X). nat_cmp (key x) number) xs (Err at) → xs ≡ filter (λ x. not (key x == number)) xs
+  none_removed xs number at up inside answer =
+      sym (filter_all (λ x. not (key x == number)) xs
+      (λ x m. ap not (false_from_ne_true (key x == number) (λ t. key_nowhere xs number at up inside answer x m (eqb-true (key x) number t)))))
+
+  -- none of them are gone where nothing is
+  pub removed_none : (xs : List X) → xs ≡ filter (λ x. not (is_among (key x) [])) xs
+  removed_none xs = sym (filter_all (λ x. not (is_among (key x) [])) xs (λ x m. refl))
+
+  pub left_ascends : (gone : List ℕ) (xs ys : List X) → ys ≡ filter (λ x. not (is_among (key x) gone)) xs → IsStrictlySortedBy (on key nat_cmp) xs
+      → IsStrictlySortedBy (on key nat_cmp) ys
+  left_ascends gone xs ys is up =
+      subst (IsStrictlySortedBy (on key nat_cmp)) (sym is)
+      (sorted_from_Ascending {cmp = on key nat_cmp} (filter (λ x. not (is_among (key x) gone)) xs)
+      (Ascending-filter (λ x. not (is_among (key x) gone)) xs (Ascending-from_sorted xs up)))
+
+  -- one more is gone
+  pub removed_more : (front : List ℕ) (number : ℕ) (xs ys zs : List X) → ys ≡ filter (λ x. not (is_among (key x) front)) xs
+      → zs ≡ filter (λ x. not (key x == number)) ys → zs ≡ filter (λ x. not (is_among (key x) (front ++ number ∷ []))) xs
+  removed_more front number xs ys zs first second =
+      second ∙ ap (filter (λ x. not (key x == number))) first
+      ∙ filter_agree_on (λ x. not (key x == number)) strong (filter weak xs) (λ x m. ap not (sym (same x (Mem-unfilter weak xs m).1)))
+      ∙ filter_twice strong weak weaker xs
+    where
+      weak : X → Bool
+      weak = λ x. not (is_among (key x) front)
+
+      strong : X → Bool
+      strong = λ x. not (is_among (key x) (front ++ number ∷ []))
+
+      weaker : (x : X) → strong x ≡ true → weak x ≡ true
+      weaker x s =
+          ap not (false_from_ne_true (is_among (key x) front) (λ t. false≢true (sym (not-true (is_among (key x) (front ++ number ∷ [])) s)
+          ∙ is_among-member (front ++ number ∷ []) (Mem-append_left front (number ∷ []) (member_from_is_among front (key x) t)))))
+
+      same : (x : X) → weak x ≡ true → is_among (key x) (front ++ number ∷ []) ≡ (key x == number)
+      same x w =
+          same_test (is_among (key x) (front ++ number ∷ [])) (key x == number)
+          (λ t. elim (Mem-append_cases front (number ∷ []) (member_from_is_among (front ++ number ∷ []) (key x) t)) [
+            | inl m ↦ absurd (false≢true (sym (not-true (is_among (key x) front) w) ∙ is_among-member front m))
+            | inr m ↦ elim (Mem-cons_cases m) [ inl e ↦ eq-eqb (key x) number (sym e) | inr k ↦ elim k [ ] ]
+          ])
+          (λ t. is_among-member (front ++ number ∷ []) (Mem-append_right front (number ∷ []) (here (sym (eqb-true (key x) number t)))))
 
 -- ---- numbers that are left out
 

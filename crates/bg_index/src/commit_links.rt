@@ -1,5 +1,5 @@
 //! Edges are taken out, given other points, and put behind the others; names are given other points. Takes no memory.
-ghost use Rattle.std.specs.Prelude.{◌≡◌, ◌+◌, ◌≤◌, ◌++◌, ◌∷◌, [], not, length, filter, vec_len, vec_capacity};
+ghost use Rattle.std.specs.Prelude.{◌≡◌, ◌+◌, ◌<◌, ◌≤◌, ◌==◌, ◌++◌, ◌∷◌, [], not, length, take, drop, filter, vec_len, vec_capacity};
 ghost use Rattle.std.specs.List.Sorted.{IsStrictlySortedBy};
 ghost use Rattle.std.specs.Ordering.{nat_cmp};
 ghost use Rattle.bg_index.specs.declared.entries.EdgeEntry.{EdgeEntry as EdgeValue};
@@ -9,7 +9,7 @@ ghost use Rattle.bg_index.specs.Indexed.{edge_cmp};
 ghost use Rattle.bg_rules.specs.Instantiation.{is_among};
 
 use crate::entries::{EdgeEntry, NameEntry};
-use crate::leaving::stays;
+use crate::leaving::{FEW, stays};
 use crate::plans::{Bundle, LinkKey};
 
 /// Takes the idle edges out, sets the points of links, and puts the used edges behind.
@@ -31,14 +31,54 @@ pub fn change_links(
     push_edges(edges, used);
 }
 
-/// Takes these edges out. A pass over the edges where there is one.
+/// Takes these edges out. A pass over the edges where they are many.
 fn drop_edges(edges: &mut Vec<EdgeEntry>, idle: &[u32])
+    requires edges_ascend { IsStrictlySortedBy edge_cmp edges.old.items }
     requires ascending { IsStrictlySortedBy nat_cmp idle.now }
     ensures kept { edges.new.items ≡ filter (λ (entry : EdgeValue). not (is_among entry.edge idle.now)) edges.old.items }
     ensures count { vec_len edges.new ≤ vec_len edges.old }
     ensures capacity { vec_capacity edges.new ≡ vec_capacity edges.old }
 {
-    edges.retain(|entry| stays(idle, entry.edge));
+    if idle.len() < FEW {
+        take_edges(edges, idle);
+    } else {
+        edges.retain(|entry| stays(idle, entry.edge));
+    }
+}
+
+/// Takes these edges out one by one.
+fn take_edges(edges: &mut Vec<EdgeEntry>, idle: &[u32])
+    requires edges_ascend { IsStrictlySortedBy edge_cmp edges.old.items }
+    ensures kept { edges.new.items ≡ filter (λ (entry : EdgeValue). not (is_among entry.edge idle.now)) edges.old.items }
+    ensures count { vec_len edges.new ≤ vec_len edges.old }
+    ensures capacity { vec_capacity edges.new ≡ vec_capacity edges.old }
+{
+    for edge in idle {
+        take_edge(edges, *edge);
+    }
+}
+
+/// Takes the edge out.
+fn take_edge(edges: &mut Vec<EdgeEntry>, edge: u32)
+    requires edges_ascend { IsStrictlySortedBy edge_cmp edges.old.items }
+    ensures kept { edges.new.items ≡ filter (λ (entry : EdgeValue). not (entry.edge == edge)) edges.old.items }
+    ensures count { vec_len edges.new ≤ vec_len edges.old }
+    ensures capacity { vec_capacity edges.new ≡ vec_capacity edges.old }
+{
+    match edges.binary_search_by_key(&edge, |entry| entry.edge) {
+        Ok(at) => take_edge_at(edges, at),
+        Err(_) => {}
+    }
+}
+
+/// Takes the edge out that stands there.
+fn take_edge_at(edges: &mut Vec<EdgeEntry>, at: usize)
+    requires inside { at < length edges.old.items }
+    ensures taken { edges.new.items ≡ take at edges.old.items ++ drop (at + 1) edges.old.items }
+    ensures count { vec_len edges.new ≤ vec_len edges.old }
+    ensures capacity { vec_capacity edges.new ≡ vec_capacity edges.old }
+{
+    let _taken = edges.remove(at);
 }
 
 /// Sets the points of links.

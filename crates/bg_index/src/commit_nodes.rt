@@ -1,5 +1,5 @@
 //! Nodes are taken out, moved, given other children, and put behind the others. Takes no memory.
-ghost use Rattle.std.specs.Prelude.{◌≡◌, ◌≢◌, ◌+◌, ◌<◌, ◌≤◌, ◌^◌, ◌∷◌, [], ℕ, List, true, not, length, filter, vec_len, vec_capacity};
+ghost use Rattle.std.specs.Prelude.{◌≡◌, ◌≢◌, ◌+◌, ◌<◌, ◌≤◌, ◌^◌, ◌==◌, ◌∷◌, ◌++◌, [], ℕ, List, true, not, length, take, drop, filter, vec_len, vec_capacity};
 ghost use Rattle.std.specs.List.Sorted.{IsStrictlySortedBy};
 ghost use Rattle.std.specs.Ordering.{nat_cmp};
 ghost use Rattle.slab.specs.Slab.{Slab as SlabValue, get, slab_len, HasRoomFor};
@@ -13,7 +13,7 @@ ghost use Rattle.bg_index.specs.Plans.{move_cmp};
 ghost use Rattle.bg_rules.specs.Instantiation.{is_among};
 
 use crate::entries::{NodeEntry, RegionEntry, Slot, find_slot};
-use crate::leaving::stays;
+use crate::leaving::{FEW, stays};
 use crate::plans::{Move, Nest};
 use bg_base::Place;
 use slab::Slab;
@@ -45,7 +45,7 @@ pub fn change_nodes(
     push_entries(nodes, slots, entries);
 }
 
-/// Takes these nodes out. A pass over the slots.
+/// Takes these nodes out. A pass over the slots where they are many.
 fn drop_nodes(nodes: &mut Slab<NodeEntry>, slots: &mut Vec<Slot>, gone: &[u32])
     requires held { AreHeld nodes.old slots.old.items }
     requires ascending { IsStrictlySortedBy nat_cmp gone.now }
@@ -96,12 +96,52 @@ fn take_entry(nodes: &mut Slab<NodeEntry>, at: usize)
 
 /// Keeps the slots of the nodes that are none of these.
 fn keep_slots(slots: &mut Vec<Slot>, gone: &[u32])
+    requires slots_ascend { IsStrictlySortedBy slot_cmp slots.old.items }
     requires ascending { IsStrictlySortedBy nat_cmp gone.now }
     ensures kept { slots.new.items ≡ filter (λ (slot : SlotValue). not (is_among slot.node gone.now)) slots.old.items }
     ensures count { vec_len slots.new ≤ vec_len slots.old }
     ensures capacity { vec_capacity slots.new ≡ vec_capacity slots.old }
 {
-    slots.retain(|slot| stays(gone, slot.node));
+    if gone.len() < FEW {
+        take_slots(slots, gone);
+    } else {
+        slots.retain(|slot| stays(gone, slot.node));
+    }
+}
+
+/// Takes the slots of these nodes out one by one.
+fn take_slots(slots: &mut Vec<Slot>, gone: &[u32])
+    requires slots_ascend { IsStrictlySortedBy slot_cmp slots.old.items }
+    ensures kept { slots.new.items ≡ filter (λ (slot : SlotValue). not (is_among slot.node gone.now)) slots.old.items }
+    ensures count { vec_len slots.new ≤ vec_len slots.old }
+    ensures capacity { vec_capacity slots.new ≡ vec_capacity slots.old }
+{
+    for node in gone {
+        take_slot(slots, *node);
+    }
+}
+
+/// Takes the slot of the node out.
+fn take_slot(slots: &mut Vec<Slot>, node: u32)
+    requires slots_ascend { IsStrictlySortedBy slot_cmp slots.old.items }
+    ensures kept { slots.new.items ≡ filter (λ (slot : SlotValue). not (slot.node == node)) slots.old.items }
+    ensures count { vec_len slots.new ≤ vec_len slots.old }
+    ensures capacity { vec_capacity slots.new ≡ vec_capacity slots.old }
+{
+    match slots.binary_search_by_key(&node, |slot| slot.node) {
+        Ok(at) => take_slot_at(slots, at),
+        Err(_) => {}
+    }
+}
+
+/// Takes the slot out that stands there.
+fn take_slot_at(slots: &mut Vec<Slot>, at: usize)
+    requires inside { at < length slots.old.items }
+    ensures taken { slots.new.items ≡ take at slots.old.items ++ drop (at + 1) slots.old.items }
+    ensures count { vec_len slots.new ≤ vec_len slots.old }
+    ensures capacity { vec_capacity slots.new ≡ vec_capacity slots.old }
+{
+    let _taken = slots.remove(at);
 }
 
 /// Moves nodes into other places.

@@ -6,8 +6,8 @@ ghost use Rattle.bg_lists.specs.Lists.{Mem};
 ghost use Rattle.bg_index.specs.Commits.{IsThinned};
 ghost use Rattle.bg_rules.specs.Instantiation.{is_among};
 
-/// Below so many it is cheaper to take them out one by one than to pass over a list.
-const FEW: usize = 16;
+/// Fewer than so many are taken out one by one, each by moving up what stands behind it; for more a list is passed over.
+pub const FEW: usize = 16;
 
 /// Whether the number is one of these, which ascend.
 fn is_gone(gone: &[u32], number: u32) -> bool
