@@ -1,25 +1,23 @@
 -- The nodes of each control, as nodes are taken out and put behind.
-use Rattle.std.proofs.Common.{◌≡◌, ℕ, ◌<◌, ◌≤◌, ◌+◌, ◌==◌, Bool, true, false, Less, Option, Some, None, List, [], ◌∷◌, ◌++◌, ◌⊎◌, inl, inr, length, map, filter, take, find, not, nat_cmp, vec_len, vec_capacity, refl, sym, ap, subst, ◌∙◌, arith, eqb-true, eq-eqb, append_assoc, append-nil, length-append}
-use Rattle.std.specs.Ordering.{on}
+use Rattle.std.proofs.Common.{◌≡◌, ℕ, ◌<◌, ◌≤◌, ◌+◌, ◌==◌, Less, Some, None, List, [], ◌∷◌, ◌++◌, inl, inr, length, map, filter, find, not, nat_cmp, vec_capacity, refl, sym, ap, subst, ◌∙◌, arith, eqb-true, eq-eqb, append_assoc, append-nil, length-append}
 use Rattle.std.specs.List.Sorted.{IsStrictlySortedBy}
-use Rattle.std.proofs.lemmas.Bool.{cases_eq, false≢true}
+use Rattle.std.proofs.lemmas.Bool.{false≢true}
 use Rattle.std.proofs.lemmas.List.{map-append, length-map}
 use Rattle.slab.specs.Slab.{Slab, get}
-use Rattle.bg_lists.specs.Lists.{Mem, here, there, At}
-use Rattle.bg_lists.specs.Orders.{Ascending}
+use Rattle.bg_lists.specs.Lists.{Mem}
 use Rattle.bg_lists.proofs.Ascents.{Ascending-from_sorted, sorted_from_Ascending, Ascending-filter, Ascending-map, Ascending-map_on, same_member}
-use Rattle.bg_lists.proofs.Members.{Mem-cons_cases, Mem-append_cases, Mem-map, Mem-unmap, Mem-unfilter}
-use Rattle.bg_lists.proofs.Words.{member_from_find, fails_from_find, length-filter}
+use Rattle.bg_lists.proofs.Members.{Mem-cons_cases, Mem-append_cases, Mem-unmap, Mem-unfilter}
+use Rattle.bg_lists.proofs.Words.{fails_from_find, length-filter}
 use Rattle.bg_base.specs.declared.big.NodeRow.{NodeRow}
 use Rattle.bg_base.proofs.LookUps.{tied_numbers}
 use Rattle.bg_rewriting.specs.Keeping.{nodes_with}
 use Rattle.bg_rules.specs.Instantiation.{is_among}
-use Rattle.bg_rules.proofs.Upwards.{is_among-member, member_from_is_among}
+use Rattle.bg_rules.proofs.Upwards.{member_from_is_among}
 use Rattle.bg_index.specs.declared.entries.ControlEntry.{ControlEntry}
 use Rattle.bg_index.specs.declared.entries.NodeEntry.{NodeEntry}
 use Rattle.bg_index.specs.declared.entries.Slot.{Slot}
-use Rattle.bg_index.specs.Commits.{AreFrom, AreHeld, IsThinned, IsLessened, IsWithout, IsTakenOut, HasMore, IsRoomy, AreRoomy, control_key}
-use Rattle.bg_index.specs.Indexed.{control_cmp, slot_cmp, row_at, rows_of, AreSorted}
+use Rattle.bg_index.specs.Commits.{AreFrom, AreHeld, IsLessened, IsWithout, IsTakenOut, HasMore, AreRoomy, control_key}
+use Rattle.bg_index.specs.Indexed.{control_cmp, row_at, rows_of, AreSorted}
 use Rattle.bg_index.proofs.CommitNodeLaws.{held_row, same_slot}
 use Rattle.bg_index.proofs.ControlLaws.{filter-append, with_its, with_other}
 use Rattle.bg_index.proofs.KeyLaws.{from_same, from_on, from_ascends, from_there, thinned_same, thinned_on, thinned_all}
@@ -110,16 +108,21 @@ module _ (nodes : Slab NodeEntry) (slots : List Slot) (held : AreHeld nodes slot
   less_none node none =
       record {
         keys = so_far.keys;
-        each = λ z m. let w = so_far.each z m in (w.0, w.1, w.2, record {
-          thinned = w.3.thinned;
-          out = λ n k l. elim (Mem-append_cases done (node ∷ []) k) [
-            | inl d ↦ w.3.out n d l
-            | inr d ↦ (let e : node ≡ n = elim (Mem-cons_cases d) [ inl e ↦ e | inr o ↦ elim o [ ] ] in
-                no_control nodes slots held w.0.control node none
-                (subst (λ xs. Mem node xs) (sorted.controls_are w.0 w.1) (w.3.thinned.fewer node (subst (λ a. Mem a z.nodes.items) (sym e) l))))
-          ];
-          capacity = w.3.capacity;
-        });
+        each = λ z m. let w = so_far.each z m in (
+          w.0,
+          w.1,
+          w.2,
+          record {
+            thinned = w.3.thinned;
+            out = λ n k l. elim (Mem-append_cases done (node ∷ []) k) [
+              | inl d ↦ w.3.out n d l
+              | inr d ↦ (let e : node ≡ n = elim (Mem-cons_cases d) [ inl e ↦ e | inr o ↦ elim o [ ] ] in
+                  no_control nodes slots held w.0.control node none
+                  (subst (λ xs. Mem node xs) (sorted.controls_are w.0 w.1) (w.3.thinned.fewer node (subst (λ a. Mem a z.nodes.items) (sym e) l))))
+            ];
+            capacity = w.3.capacity;
+          },
+        );
       }
 
 pub less_start : (gone : List ℕ) (controls : List ControlEntry) → AreFrom control_key (IsLessened gone []) controls controls
@@ -132,11 +135,16 @@ pub less_end : (gone done : List ℕ) (first now : List ControlEntry) → done �
 less_end gone done first now all from =
     record {
       keys = from.keys;
-      each = λ z m. let w = from.each z m in (w.0, w.1, w.2, record {
-        nodes = thinned_all gone w.0.nodes.items z.nodes.items w.3.thinned
-            (λ n among l. w.3.out n (subst (λ xs. Mem n xs) (sym all) (member_from_is_among gone n among)) l);
-        capacity = w.3.capacity;
-      });
+      each = λ z m. let w = from.each z m in (
+        w.0,
+        w.1,
+        w.2,
+        record {
+          nodes = thinned_all gone w.0.nodes.items z.nodes.items w.3.thinned
+              (λ n among l. w.3.out n (subst (λ xs. Mem n xs) (sym all) (member_from_is_among gone n among)) l);
+          capacity = w.3.capacity;
+        },
+      );
     }
 
 pub without_other : (gone : List ℕ) (control node : ℕ) (entry : ControlEntry) → (entry.control ≡ control → ⊥) → IsWithout gone control node entry entry

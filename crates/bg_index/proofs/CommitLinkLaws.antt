@@ -1,5 +1,5 @@
 -- Edges that are taken out, given other points, and put behind; names that are given other points.
-use Rattle.std.proofs.Common.{◌≡◌, ℕ, ◌<◌, ◌≤◌, List, [], ◌∷◌, ◌++◌, ◌⊎◌, inl, inr, length, map, filter, not, slice_set, refl, sym, ap, subst, ◌∙◌, arith}
+use Rattle.std.proofs.Common.{◌≡◌, ℕ, ◌≤◌, List, [], ◌∷◌, ◌++◌, inl, inr, length, map, filter, not, slice_set, refl, sym, ap, subst, ◌∙◌, arith}
 use Rattle.std.specs.List.Sorted.{IsStrictlySortedBy}
 use Rattle.std.proofs.lemmas.List.{map-append}
 use Rattle.bg_lists.specs.Lists.{Mem, here, At}
@@ -13,7 +13,7 @@ use Rattle.bg_index.specs.declared.entries.NameEntry.{NameEntry}
 use Rattle.bg_index.specs.declared.plans.Bundle.{Bundle}
 use Rattle.bg_index.specs.declared.plans.LinkKey.{LinkKey}
 use Rattle.bg_index.specs.declared.plans.LinkKey.TheVariants.{Edge as EdgeKey, Name as NameKey}
-use Rattle.bg_index.specs.Commits.{AreFrom, AreBeside, IsBundled, by_bundle, by_no_bundle, IsEdgeBundled, IsNameBundled, IsEdgeLeft, AreEdgesAfter, edge_key}
+use Rattle.bg_index.specs.Commits.{AreFrom, AreBeside, IsBundled, by_bundle, by_no_bundle, IsEdgeBundled, IsNameBundled, AreEdgesAfter, edge_key}
 use Rattle.bg_index.specs.Indexed.{edge_cmp, edges_of}
 use Rattle.bg_index.proofs.CommitNodeLaws.{beside_same, beside_on, beside_set}
 use Rattle.bg_index.proofs.KeyLaws.{from_same, from_on}
@@ -103,11 +103,11 @@ module _ (old : List EdgeEntry) (idle : List ℕ) where
             ∙ ap (λ es. es ++ edges_of used) (ties.keys ∙ ap (map edge_key) drops ∙ sym (filter-map edge_key (λ edge. not (is_among edge idle)) old));
         are = λ entry m. elim (Mem-append_cases tied used m) [
           | inl k ↦ (let w = ties.each entry k in inl (record {
-              was = w.0;
-              stood = (Mem-unfilter (λ (entry : EdgeEntry). not (is_among entry.edge idle)) old (subst (λ es. Mem w.0 es) drops w.1)).0;
-              number = w.2;
-              points = w.3;
-            }))
+            was = w.0;
+            stood = (Mem-unfilter (λ (entry : EdgeEntry). not (is_among entry.edge idle)) old (subst (λ es. Mem w.0 es) drops w.1)).0;
+            number = w.2;
+            points = w.3;
+          }))
           | inr k ↦ inr k
         ];
       })

@@ -1,16 +1,16 @@
 -- Nodes that are taken out, moved, given other children, and put behind the others.
-use Rattle.std.proofs.Common.{◌≡◌, ℕ, zero, suc, ◌<◌, ◌≤◌, ◌+◌, ◌==◌, Bool, true, false, Less, Option, Some, None, unwrap_or, option_map, List, [], ◌∷◌, ◌++◌, ◌⊎◌, inl, inr, length, map, filter, take, drop, find, not, slice_set, nat_cmp, refl, sym, ap, subst, ◌∙◌, arith, eqb-true, eq-eqb, append_assoc}
+use Rattle.std.proofs.Common.{◌≡◌, ℕ, zero, suc, ◌<◌, ◌≤◌, ◌==◌, Bool, true, false, Less, Option, Some, None, unwrap_or, option_map, List, [], ◌∷◌, ◌++◌, ◌⊎◌, inl, inr, length, map, filter, take, find, not, slice_set, nat_cmp, refl, sym, ap, subst, ◌∙◌, arith, eqb-true, eq-eqb, append_assoc}
 use Rattle.std.specs.List.Sorted.{IsStrictlySortedBy}
 use Rattle.std.proofs.lemmas.Bool.{cases_Bool, cases_eq, false≢true, cond-true, cond-false, not-true, false_from_ne_true}
 use Rattle.std.proofs.lemmas.List.{map-append}
 use Rattle.slab.specs.Slab.{Slab, get, Updates}
-use Rattle.bg_lists.specs.Lists.{Mem, here, there, At, at_here, at_there}
+use Rattle.bg_lists.specs.Lists.{Mem, here, there, At, at_there}
 use Rattle.bg_lists.specs.Orders.{Ascending, asc_nil, asc_cons}
 use Rattle.bg_lists.proofs.Ascents.{Ascending-from_sorted, sorted_from_Ascending, Ascending-append, Ascending-filter, same_member}
-use Rattle.bg_lists.proofs.Comparisons.{nat_cmp-lt, lt-from_nat_cmp}
+use Rattle.bg_lists.proofs.Comparisons.{nat_cmp-lt}
 use Rattle.bg_lists.proofs.Members.{Mem-cons_cases, Mem-append_left, Mem-append_right, Mem-append_cases, Mem-unfilter, filter_agree_on, filter-map, map_agree, map-map}
-use Rattle.bg_lists.proofs.Places.{not_At-nil, Mem-from_At, At-one, At-same, At-below, At-total}
-use Rattle.bg_lists.proofs.Words.{member_from_find, fails_from_find, find-none}
+use Rattle.bg_lists.proofs.Places.{not_At-nil, Mem-from_At, At-one, At-below, At-total}
+use Rattle.bg_lists.proofs.Words.{member_from_find, fails_from_find}
 use Rattle.bg_base.specs.declared.names.Place.{Place}
 use Rattle.bg_base.specs.declared.names.Place.TheVariants.{Node, Region}
 use Rattle.bg_base.specs.declared.big.NodeRow.{NodeRow}
@@ -21,10 +21,10 @@ use Rattle.bg_index.specs.declared.entries.RegionEntry.{RegionEntry}
 use Rattle.bg_index.specs.declared.entries.Slot.{Slot}
 use Rattle.bg_index.specs.declared.plans.Move.{Move}
 use Rattle.bg_index.specs.declared.plans.Nest.{Nest}
-use Rattle.bg_index.specs.Commits.{entry_cmp, AreBeside, IsHeld, AreHeld, AreLeft, LeadOn, IsPut, IsMoved, IsNested, by_nest, by_none, IsFilled, IsRegionFilled, ArePushed, IsNodeLeft, AreNodesAfter}
+use Rattle.bg_index.specs.Commits.{AreBeside, AreHeld, AreLeft, LeadOn, IsPut, IsMoved, IsNested, by_nest, by_none, IsFilled, IsRegionFilled, ArePushed, IsNodeLeft, AreNodesAfter}
 use Rattle.bg_index.specs.Indexed.{slot_cmp, no_row, row_at, rows_of}
 use Rattle.bg_index.specs.Making.{IsPushed}
-use Rattle.bg_index.specs.Plans.{move_cmp, moved, rows_after}
+use Rattle.bg_index.specs.Plans.{moved}
 use Rattle.bg_index.proofs.ControlLaws.{set_cases, length-set}
 
 -- ---- lists
@@ -168,21 +168,28 @@ module _ (R : NodeEntry → NodeEntry → Type 0) (nodes new_nodes : Slab NodeEn
       let w = member_from_find (λ (slot : Slot). slot.node == node) slots slot found in
       elim (cases_eq other.at slot.at) [
         | inl same ↦ (let both : Some entry ≡ Some was = sym there_entry ∙ ap (get nodes) (sym same) ∙ e in
-            let one : entry ≡ was = cc in
-            (after, ap (get new_nodes) same ∙ updates.changed,
-            subst (λ x. R x after) one (this (held_number nodes slots held slot entry w.0 there_entry ∙ eqb-true slot.node node w.1))))
-        | inr differ ↦ (was, updates.others other.at differ ∙ e,
-            others was (λ id. differ (ap (λ (s : Slot). s.at) (same_slot nodes slots held other slot m w.0
-            (sym (held_number nodes slots held other was m e) ∙ id ∙ sym (eqb-true slot.node node w.1))))))
+            let one : entry ≡ was = cc in (
+              after,
+              ap (get new_nodes) same ∙ updates.changed,
+              subst (λ x. R x after) one (this (held_number nodes slots held slot entry w.0 there_entry ∙ eqb-true slot.node node w.1)),
+            ))
+        | inr differ ↦ (
+          was,
+          updates.others other.at differ ∙ e,
+          others was (λ id. differ (ap (λ (s : Slot). s.at) (same_slot nodes slots held other slot m w.0
+              (sym (held_number nodes slots held other was m e) ∙ id ∙ sym (eqb-true slot.node node w.1))))),
+        )
       ]
 
   -- so where the node is not there
   pub lead_same : (node : ℕ) → find (λ (slot : Slot). slot.node == node) slots ≡ None → new_nodes ≡ nodes
       → ((other : NodeEntry) → (other.row.id ≡ node → ⊥) → R other other) → LeadOn R nodes new_nodes slots
-  lead_same node none same others slot m entry e =
-      (entry, ap (λ (s : Slab NodeEntry). get s slot.at) same ∙ e,
-      others entry (λ id. false≢true (sym (fails_from_find (λ (slot : Slot). slot.node == node) slots none m)
-      ∙ eq-eqb slot.node node (sym (held_number nodes slots held slot entry m e) ∙ id))))
+  lead_same node none same others slot m entry e = (
+    entry,
+    ap (λ (s : Slab NodeEntry). get s slot.at) same ∙ e,
+    others entry (λ id. false≢true (sym (fails_from_find (λ (slot : Slot). slot.node == node) slots none m)
+        ∙ eq-eqb slot.node node (sym (held_number nodes slots held slot entry m e) ∙ id))),
+  )
 
 -- a slot leads to something
 pub never_none : (nodes : Slab NodeEntry) (slots : List Slot) → AreHeld nodes slots → (node : ℕ) (slot : Slot)
@@ -305,8 +312,11 @@ module _ (nest : Nest) (region : ℕ) (is : nest.place ≡ Region region) where
   -- where there is no such region
   pub region_past : (regions : List RegionEntry) → length regions ≤ region → AreBeside (IsRegionFilled (nest ∷ [])) regions regions
   region_past regions past =
-      record { many = refl; each = λ i was x a b. subst (IsRegionFilled (nest ∷ []) i was) (At-one a b)
-      (region_other i was (λ e. let below = At-below a in absurd (omega arith))) }
+      record {
+        many = refl;
+        each = λ i was x a b. subst (IsRegionFilled (nest ∷ []) i was) (At-one a b)
+            (region_other i was (λ e. let below = At-below a in absurd (omega arith)));
+      }
 
 pub region_on : (xs ys : List Nest) (first second third : List RegionEntry) → AreBeside (IsRegionFilled xs) first second → AreBeside (IsRegionFilled ys) second third
     → AreBeside (IsRegionFilled (xs ++ ys)) first third
@@ -417,9 +427,18 @@ module _ (nodes dropped shifted filled new_nodes : Slab NodeEntry) (slots new_sl
         are = λ slot m. let k = pushed.held.held slot m in
             elim (pushed.kept slot m) [
               | inl w ↦ (k.entry, k.found, k.number, inl (left_node slot k.entry w.0 (sym w.1 ∙ k.found)))
-              | inr w ↦ (k.entry, k.found, k.number, inr (w.0, w.1, held_number new_nodes new_slots pushed.held slot w.0 m w.2,
+              | inr w ↦ (
+                k.entry,
+                k.found,
+                k.number,
+                inr (
+                  w.0,
+                  w.1,
+                  held_number new_nodes new_slots pushed.held slot w.0 m w.2,
                   (let both : Some k.entry ≡ Some w.0 = sym k.found ∙ w.2 in
-                  let one : k.entry ≡ w.0 = cc in ap (λ (e : NodeEntry). e.children.items) one)))
+                      let one : k.entry ≡ w.0 = cc in ap (λ (e : NodeEntry). e.children.items) one),
+                ),
+              )
             ];
       }
     where

@@ -1,15 +1,15 @@
 -- Lists of items with keys that ascend: an item is set, a key is found; and numbers that are left out of a list.
-use Rattle.std.proofs.Common.{◌≡◌, ℕ, zero, suc, ◌<◌, ◌≤◌, ◌+◌, ◌==◌, Bool, true, false, Less, Equal, None, Some, Result, Ok, Err, MatchResult, List, [], ◌∷◌, ◌++◌, ◌⊎◌, inl, inr, length, map, filter, take, drop, find, not, slice_set, nat_cmp, is_eq, refl, sym, ap, subst, ◌∙◌, arith, eqb-true, eq-eqb, add-one}
+use Rattle.std.proofs.Common.{◌≡◌, ℕ, zero, suc, ◌<◌, ◌≤◌, ◌+◌, ◌==◌, Bool, true, Less, Equal, None, Ok, Err, List, [], ◌∷◌, ◌++◌, inl, inr, length, map, filter, take, drop, find, not, slice_set, nat_cmp, is_eq, refl, sym, ap, subst, ◌∙◌, arith, eqb-true, eq-eqb, add-one}
 use Rattle.std.specs.Ordering.{on}
-use Rattle.std.specs.List.Sorted.{IsStrictlySortedBy, IsSearchInRange, IsBinarySearchResult}
-use Rattle.std.proofs.lemmas.Bool.{cases_Bool, cases_eq, false≢true, cond-true, cond-false, not-true, false_from_ne_true}
+use Rattle.std.specs.List.Sorted.{IsStrictlySortedBy, IsBinarySearchResult}
+use Rattle.std.proofs.lemmas.Bool.{cases_Bool, false≢true, cond-true, cond-false, not-true, false_from_ne_true}
 use Rattle.std.proofs.lemmas.Cmp.{nat_cmp_total}
 use Rattle.bg_lists.specs.Lists.{Mem, here, there, At, at_here, at_there}
-use Rattle.bg_lists.specs.Orders.{Ascending, asc_nil, asc_cons}
+use Rattle.bg_lists.specs.Orders.{Ascending, asc_cons}
 use Rattle.bg_lists.proofs.Ascents.{Ascending-from_sorted, sorted_from_Ascending, Ascending-filter, Ascending-map, Ascending-unmap, same_member, one_place}
 use Rattle.bg_lists.proofs.Comparisons.{Less-not_itself, eqb-nat_cmp}
 use Rattle.bg_lists.proofs.Members.{Mem-cons_cases, Mem-map, Mem-unmap, Mem-unfilter, Mem-append_left, Mem-append_right, Mem-append_cases, filter_agree_on}
-use Rattle.bg_lists.proofs.Places.{not_At-nil, At-total, At-from_Mem, Mem-from_At, At-one, At-map, At-same, get_or-At}
+use Rattle.bg_lists.proofs.Places.{not_At-nil, At-total, At-from_Mem, Mem-from_At, At-map, At-same, get_or-At}
 use Rattle.bg_lists.proofs.Searches.{find-search}
 use Rattle.bg_lists.proofs.Tests.{same_test}
 use Rattle.bg_lists.proofs.Words.{fails_from_find}
@@ -116,9 +116,14 @@ module _ {X : Type 0} (key : X → ℕ) where
         each = λ x m. let w = At-from_Mem m in
             elim (set_cases xs at new w.1) [
               | inl v ↦ (stood, Mem-from_At a, sym named ∙ ap key v.1, subst (λ y. R stood y) v.1 is)
-              | inr v ↦ (x, Mem-from_At v.1, refl, others x (Mem-from_At v.1)
-                  (λ e. v.0 (one_place {Below = λ m n. nat_cmp m n ≡ Less} (map key xs) (λ n less. Less-not_itself nat_cmp_total n less)
-                  (Ascending-map key xs (λ x y less. less) (Ascending-from_sorted xs up)) (At-same e (At-map key v.1)) (At-map key a))))
+              | inr v ↦ (
+                x,
+                Mem-from_At v.1,
+                refl,
+                others x (Mem-from_At v.1)
+                    (λ e. v.0 (one_place {Below = λ m n. nat_cmp m n ≡ Less} (map key xs) (λ n less. Less-not_itself nat_cmp_total n less)
+                    (Ascending-map key xs (λ x y less. less) (Ascending-from_sorted xs up)) (At-same e (At-map key v.1)) (At-map key a))),
+              )
             ];
       }
 

@@ -7,6 +7,7 @@ pub mod IndexLaws
 pub mod KeyLaws
 pub mod MakingLaws
 pub mod ReadingLaws
+pub mod ReadyLaws
 pub mod RoomLaws
 pub mod StepLaws
 pub mod WalkLaws

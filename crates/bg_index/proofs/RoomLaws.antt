@@ -1,19 +1,17 @@
 -- Room that is made, and what is seen stays.
-use Rattle.std.proofs.Common.{◌≡◌, ℕ, ◌<◌, ◌≤◌, ◌+◌, ◌^◌, Option, unwrap_or, option_map, List, [], ◌∷◌, ◌++◌, inl, inr, length, map, take, drop, slice_set, vec_len, vec_capacity, refl, sym, ap, subst, ◌∙◌, arith}
+use Rattle.std.proofs.Common.{◌≡◌, ℕ, ◌<◌, ◌≤◌, ◌+◌, ◌^◌, Option, unwrap_or, option_map, List, [], ◌∷◌, ◌++◌, inl, inr, length, take, drop, slice_set, vec_len, vec_capacity, refl, sym, ap, subst, ◌∙◌, arith}
 use Rattle.std.specs.List.Sorted.{IsStrictlySortedBy}
 use Rattle.std.proofs.lemmas.List.{take-append-drop}
-use Rattle.slab.specs.Slab.{Slab, get}
-use Rattle.bg_lists.specs.Lists.{Mem, here, there, At}
+use Rattle.slab.specs.Slab.{get}
+use Rattle.bg_lists.specs.Lists.{Mem, there, At}
 use Rattle.bg_lists.proofs.Members.{Mem-cons_cases, Mem-append_left, Mem-append_right, Mem-append_cases, map_agree}
 use Rattle.bg_lists.proofs.Places.{Mem-from_At}
 use Rattle.bg_base.specs.declared.big.NodeRow.{NodeRow}
 use Rattle.bg_index.specs.declared.entries.ControlEntry.{ControlEntry}
 use Rattle.bg_index.specs.declared.entries.Index.{Index}
 use Rattle.bg_index.specs.declared.entries.NodeEntry.{NodeEntry}
-use Rattle.bg_index.specs.declared.entries.Slot.{Slot}
 use Rattle.bg_index.specs.Commits.{AreFrom, AreRoomier, AreRoomy, IsRoomier, IsRoomy, control_key}
-use Rattle.bg_index.specs.Indexed.{IsIndex, IsIndexOf, IsKept, AreSorted, control_cmp, slot_cmp, host_of, no_row, row_at, rows_of, edges_of}
-use Rattle.bg_place.specs.Places.{places_of}
+use Rattle.bg_index.specs.Indexed.{IsIndex, IsIndexOf, AreSorted, control_cmp, slot_cmp, host_of, no_row, row_at, rows_of, edges_of}
 use Rattle.bg_rewriting.specs.Keeping.{nodes_with}
 use Rattle.bg_rules.specs.Reaction.{HostState}
 use Rattle.bg_index.proofs.KeyLaws.{from_ascends, from_set, from_there}
@@ -80,9 +78,12 @@ module _ (controls : List ControlEntry) (at : ℕ) (was new : ControlEntry) (up 
       let w = from_there control_key (λ x y. x ≡ was → y ≡ new) controls (slice_set controls at new)
       (from_set control_key (λ x y. x ≡ was → y ≡ new) controls up at was new stood named (λ _. refl)
       (λ x k differ same. absurd (differ (ap control_key same)))) up was (Mem-from_At stood) in
-      let one = w.3 refl in
-      (w.0, w.1, subst (λ y. IsRoomy other.control more y) (sym one)
-      (record { named = named ∙ its ∙ sym e ∙ ap (λ (r : NodeRow). r.control) same; room = room }))
+      let one = w.3 refl in (
+        w.0,
+        w.1,
+        subst (λ y. IsRoomy other.control more y) (sym one)
+            (record { named = named ∙ its ∙ sym e ∙ ap (λ (r : NodeRow). r.control) same; room = room }),
+      )
 
 -- ---- the index
 

@@ -15,7 +15,12 @@ use bg_base::NodeRow;
 use slab::Slab;
 
 /// Takes the gone nodes out of the lists of their controls. No other control is looked at.
-pub fn take_out(nodes: &Slab<NodeEntry>, slots: &[Slot], controls: &mut Vec<ControlEntry>, gone: &[u32])
+pub fn take_out(
+    nodes: &Slab<NodeEntry>,
+    slots: &[Slot],
+    controls: &mut Vec<ControlEntry>,
+    gone: &[u32],
+)
     requires held { AreHeld nodes.now slots.now }
     requires sorted { AreSorted (rows_of nodes.now slots.now) controls.old.items }
     requires ascending { IsStrictlySortedBy nat_cmp gone.now }
@@ -27,7 +32,13 @@ pub fn take_out(nodes: &Slab<NodeEntry>, slots: &[Slot], controls: &mut Vec<Cont
 }
 
 /// Takes a gone node out of the list of its control.
-fn take_out_node(nodes: &Slab<NodeEntry>, slots: &[Slot], controls: &mut Vec<ControlEntry>, node: u32, gone: &[u32])
+fn take_out_node(
+    nodes: &Slab<NodeEntry>,
+    slots: &[Slot],
+    controls: &mut Vec<ControlEntry>,
+    node: u32,
+    gone: &[u32],
+)
     requires held { AreHeld nodes.now slots.now }
     requires ascending { IsStrictlySortedBy control_cmp controls.old.items }
     requires nodes_ascend { (entry : ControlValue) → Mem entry controls.old.items → IsStrictlySortedBy nat_cmp entry.nodes.items }

@@ -172,7 +172,12 @@ fn move_node(nodes: &mut Slab<NodeEntry>, slots: &[Slot], node: u32, place: Plac
 }
 
 /// Sets what lies in places.
-fn set_nests(nodes: &mut Slab<NodeEntry>, slots: &[Slot], regions: &mut Vec<RegionEntry>, nests: Vec<Nest>)
+fn set_nests(
+    nodes: &mut Slab<NodeEntry>,
+    slots: &[Slot],
+    regions: &mut Vec<RegionEntry>,
+    nests: Vec<Nest>,
+)
     requires held { AreHeld nodes.old slots.now }
     ensures nodes { LeadOn (IsFilled nests.items) nodes.old nodes.new slots.now }
     ensures regions { AreBeside (IsRegionFilled nests.items) regions.old.items regions.new.items }

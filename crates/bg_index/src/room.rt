@@ -74,7 +74,12 @@ fn make_controls(alloc: Global, controls: &mut Vec<ControlEntry>, entries: &[Nod
 }
 
 /// Room for so many more nodes in the list of the control.
-fn make_control(alloc: Global, controls: &mut Vec<ControlEntry>, control: u32, more: usize) -> Mem<()>
+fn make_control(
+    alloc: Global,
+    controls: &mut Vec<ControlEntry>,
+    control: u32,
+    more: usize,
+) -> Mem<()>
     requires ascending { IsStrictlySortedBy control_cmp controls.old.items }
     ensures ascending { IsStrictlySortedBy control_cmp controls.new.items }
     ensures roomier { AreRoomier controls.old.items controls.new.items }

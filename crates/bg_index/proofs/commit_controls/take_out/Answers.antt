@@ -1,4 +1,4 @@
-use Rattle.std.proofs.Common.{ℕ, List, take, get_or, sym, subst}
+use Rattle.std.proofs.Common.{ℕ, List, take, sym, subst}
 use Rattle.std.proofs.lemmas.List.{take_more}
 use Rattle.bg_lists.proofs.Places.{Mem-from_At, At-get_or}
 use Rattle.bg_rules.proofs.Upwards.{is_among-member}

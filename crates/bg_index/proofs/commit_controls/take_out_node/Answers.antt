@@ -1,5 +1,4 @@
-use Rattle.std.proofs.Common.{◌≡◌, Some, None, option_copied, sym, ap, ◌∙◌, eqb-true, ◌==◌}
-use Rattle.slab.specs.Slab.{get}
+use Rattle.std.proofs.Common.{option_copied, sym, ap, ◌∙◌, eqb-true, ◌==◌}
 use Rattle.bg_lists.proofs.Words.{member_from_find}
 use Rattle.bg_index.specs.declared.entries.Slot.{Slot}
 use Rattle.bg_index.proofs.CommitControlLaws.{less_more, less_none}

@@ -1,4 +1,4 @@
-use Rattle.std.proofs.Common.{List, not, sym, subst, ◌∙◌}
+use Rattle.std.proofs.Common.{not, sym, subst, ◌∙◌}
 use Rattle.bg_lists.specs.Lists.{Mem}
 use Rattle.bg_lists.proofs.Members.{Mem-unfilter}
 use Rattle.bg_rules.specs.Instantiation.{is_among}

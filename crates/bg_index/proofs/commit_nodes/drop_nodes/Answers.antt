@@ -1,6 +1,5 @@
-use Rattle.std.proofs.Common.{sym, subst}
+use Rattle.std.proofs.Common.{subst}
 use Rattle.bg_lists.specs.Lists.{Mem}
-use Rattle.bg_index.specs.declared.entries.Slot.{Slot}
 use Rattle.bg_index.specs.Commits.{AreLeft}
 use Rattle.bg_index.proofs.CommitNodeLaws.{left_so}
 use Rattle.bg_index.proofs.commit_nodes.drop_nodes.Goals as goal

@@ -1,4 +1,4 @@
-use Rattle.std.proofs.Common.{◌≡◌, length, ◌++◌, ◌∷◌, [], List, take, get_or, refl, sym, subst, ◌∙◌}
+use Rattle.std.proofs.Common.{◌++◌, ◌∷◌, [], List, take, get_or, refl, sym, subst, ◌∙◌}
 use Rattle.std.proofs.lemmas.List.{take_more}
 use Rattle.bg_lists.proofs.Ascents.{Ascending-from_sorted}
 use Rattle.bg_lists.proofs.Comparisons.{lt-from_nat_cmp}

@@ -1,12 +1,11 @@
-use Rattle.std.proofs.Common.{◌≡◌, ◌<◌, ◌≤◌, ◌++◌, ◌∷◌, [], length, get_or, take, refl, sym, ap, subst, ◌∙◌, arith, append-nil}
+use Rattle.std.proofs.Common.{length, take, refl, sym, subst, ◌∙◌, arith, append-nil}
 use Rattle.std.proofs.lemmas.Iterator.Adapters.{YieldsList-from_vec}
-use Rattle.std.proofs.lemmas.Iterator.Consumers.{YieldsList-turn, YieldsList-end, YieldsList-so_far}
+use Rattle.std.proofs.lemmas.Iterator.Consumers.{YieldsList-turn, YieldsList-so_far}
 use Rattle.bg_lists.specs.Lists.{Mem}
 use Rattle.bg_lists.proofs.Ascents.{Ascending-from_sorted}
 use Rattle.bg_lists.proofs.Comparisons.{lt-from_nat_cmp}
 use Rattle.bg_lists.proofs.Places.{At-get_or, At-same, Mem-from_At, length-append_one}
-use Rattle.bg_index.specs.declared.entries.NodeEntry.{NodeEntry}
-use Rattle.bg_index.specs.Commits.{ArePushed, entry_cmp}
+use Rattle.bg_index.specs.Commits.{entry_cmp}
 use Rattle.bg_index.specs.Indexed.{rows_of}
 use Rattle.bg_index.proofs.CommitNodeLaws.{front_below, pushed_none, pushed_more, went_through}
 use Rattle.bg_index.proofs.commit_nodes.push_entries.Goals as goal

@@ -1,4 +1,4 @@
-use Rattle.std.proofs.Common.{◌∷◌, [], refl, sym}
+use Rattle.std.proofs.Common.{◌∷◌, []}
 use Rattle.bg_index.specs.Commits.{IsFilled, IsRegionFilled}
 use Rattle.bg_index.proofs.CommitNodeLaws.{beside_same, lead_none, no_node, no_region}
 use Rattle.bg_index.proofs.commit_nodes.set_nest.Goals as goal

@@ -1,8 +1,8 @@
-use Rattle.std.proofs.Common.{◌++◌, ◌∷◌, [], List, refl, sym, subst, ◌∙◌}
+use Rattle.std.proofs.Common.{◌++◌, ◌∷◌, [], List, refl, subst, ◌∙◌}
 use Rattle.std.proofs.lemmas.Iterator.Adapters.{YieldsList-from_vec}
 use Rattle.std.proofs.lemmas.Iterator.Consumers.{YieldsList-end}
 use Rattle.bg_index.specs.declared.plans.Nest.{Nest}
-use Rattle.bg_index.specs.Commits.{AreBeside, LeadOn, IsFilled, IsRegionFilled}
+use Rattle.bg_index.specs.Commits.{LeadOn, IsFilled}
 use Rattle.bg_index.proofs.CommitNodeLaws.{filled_id, filled_none, filled_on, lead_held, lead_none, lead_on, region_none, region_on, went_through}
 use Rattle.bg_index.proofs.commit_nodes.set_nests.Goals as goal
 

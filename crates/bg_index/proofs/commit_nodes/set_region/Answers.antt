@@ -1,4 +1,4 @@
-use Rattle.std.proofs.Common.{◌≡◌, ◌<◌, ◌≤◌, length, get_or, rules, refl, sym, arith}
+use Rattle.std.proofs.Common.{◌≡◌, ◌<◌, ◌≤◌, length, get_or, rules, refl, sym}
 use Rattle.bg_lists.proofs.Places.{At-get_or, At-same}
 use Rattle.bg_index.proofs.CommitNodeLaws.{region_set, region_past}
 use Rattle.bg_index.proofs.commit_nodes.set_region.Goals as goal
