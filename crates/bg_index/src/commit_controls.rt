@@ -14,7 +14,7 @@ use crate::leaving::leave_out;
 use bg_base::NodeRow;
 use slab::Slab;
 
-/// Takes the gone nodes out of the lists of their controls. No other control is looked at.
+/// Takes the gone nodes out of the lists of their controls, by two look-ups each. No other control is looked at.
 pub fn take_out(
     nodes: &Slab<NodeEntry>,
     slots: &[Slot],

@@ -16,7 +16,8 @@ use bg_lists::{Mem, OutOfMemory};
 use slab::Slab;
 use std::alloc::Global;
 
-/// Room for all that the plan puts behind. What is seen does not change, also where there is no memory.
+/// Room for all that the plan puts behind. What is seen does not change, also where there is no memory. It costs a look-up for
+/// each new node, and moving what has to lie elsewhere.
 pub fn make_room(alloc: Global, index: &mut Index, plan: &Plan) -> Mem<()>
     requires index { IsIndex index.old }
     ensures index { IsIndex index.new }
