@@ -1,8 +1,4 @@
-pub mod Arrivals
-pub mod Arriving
-pub mod Copying
-pub mod Going
-pub mod Growth
+pub mod Commits
 pub mod Indexed
 pub mod Making
 pub mod Noting

@@ -164,9 +164,10 @@ pub record IsPlan (host : HostState) (rule : RuleParts) (nodes : List ℕ) (boun
 
 -- ---- the change
 
--- there is room for all that is to be put behind
+-- there is room for all that is to be put behind, and 32 bits tell where in the slab it goes
 pub record HasRoom (index : Index) (plan : Plan) : Type 0 where
   pub nodes : HasRoomFor index.nodes (length plan.entries.items)
+  pub few : index.nodes.capacity ≤ 2 ^ 32
   pub slots : vec_len index.slots + length plan.entries.items ≤ vec_capacity index.slots
   pub edges : vec_len index.edges + length plan.used.items ≤ vec_capacity index.edges
   pub controls : (entry : NodeEntry) → Mem entry plan.entries.items → (control : ControlEntry) × Mem control index.controls.items

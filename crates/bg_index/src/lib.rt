@@ -4,9 +4,10 @@
 //!   the nodes of each control kept beside them, each list ascending.
 #![tactic(auto)]
 
-mod arrivals;
-mod bundles;
-mod children;
+mod commit;
+mod commit_controls;
+mod commit_links;
+mod commit_nodes;
 mod controls;
 mod edge_sets;
 mod entries;
@@ -17,6 +18,7 @@ mod indexed_host;
 mod keys;
 mod late;
 mod laws;
+mod leaving;
 mod making;
 mod moves;
 mod new_rows;
@@ -25,9 +27,7 @@ mod planning;
 mod plans;
 mod point_arrivals;
 mod reading;
-mod sets;
-mod touched;
-mod used;
+mod room;
 
 pub use indexed_host::IndexedHost;
 pub use laws::steps_leave_an_index;

@@ -1,0 +1,151 @@
+//! Edges are taken out, given other points, and put behind the others; names are given other points. Takes no memory.
+ghost use Rattle.std.specs.Prelude.{◌≡◌, ◌+◌, ◌<◌, ◌≤◌, ◌==◌, ◌++◌, ◌∷◌, [], not, length, take, drop, filter, vec_len, vec_capacity};
+ghost use Rattle.std.specs.List.Sorted.{IsStrictlySortedBy};
+ghost use Rattle.std.specs.Ordering.{nat_cmp};
+ghost use Rattle.bg_index.specs.declared.entries.EdgeEntry.{EdgeEntry as EdgeValue};
+ghost use Rattle.bg_index.specs.declared.plans.LinkKey.TheVariants.{Edge as EdgeKey, Name as NameKey};
+ghost use Rattle.bg_index.specs.Commits.{AreBeside, AreEdgesAfter, AreFrom, IsEdgeBundled, IsNameBundled, edge_key};
+ghost use Rattle.bg_index.specs.Indexed.{edge_cmp};
+ghost use Rattle.bg_rules.specs.Instantiation.{is_among};
+
+use crate::entries::{EdgeEntry, NameEntry};
+use crate::leaving::{FEW, stays};
+use crate::plans::{Bundle, LinkKey};
+
+/// Takes the idle edges out, sets the points of links, and puts the used edges behind.
+pub fn change_links(
+    edges: &mut Vec<EdgeEntry>,
+    names: &mut Vec<NameEntry>,
+    idle: &[u32],
+    bundles: Vec<Bundle>,
+    used: Vec<EdgeEntry>,
+)
+    requires ascending { IsStrictlySortedBy edge_cmp edges.old.items }
+    requires idle_ascends { IsStrictlySortedBy nat_cmp idle.now }
+    requires room { vec_len edges.old + length used.items ≤ vec_capacity edges.old }
+    ensures edges { AreEdgesAfter edges.old.items idle.now bundles.items used.items edges.new.items }
+    ensures names { AreBeside (IsNameBundled bundles.items) names.old.items names.new.items }
+{
+    drop_edges(edges, idle);
+    set_bundles(edges, names, bundles);
+    push_edges(edges, used);
+}
+
+/// Takes these edges out. A pass over the edges where they are many.
+fn drop_edges(edges: &mut Vec<EdgeEntry>, idle: &[u32])
+    requires edges_ascend { IsStrictlySortedBy edge_cmp edges.old.items }
+    requires ascending { IsStrictlySortedBy nat_cmp idle.now }
+    ensures kept { edges.new.items ≡ filter (λ (entry : EdgeValue). not (is_among entry.edge idle.now)) edges.old.items }
+    ensures count { vec_len edges.new ≤ vec_len edges.old }
+    ensures capacity { vec_capacity edges.new ≡ vec_capacity edges.old }
+{
+    if idle.len() < FEW {
+        take_edges(edges, idle);
+    } else {
+        edges.retain(|entry| stays(idle, entry.edge));
+    }
+}
+
+/// Takes these edges out one by one.
+fn take_edges(edges: &mut Vec<EdgeEntry>, idle: &[u32])
+    requires edges_ascend { IsStrictlySortedBy edge_cmp edges.old.items }
+    ensures kept { edges.new.items ≡ filter (λ (entry : EdgeValue). not (is_among entry.edge idle.now)) edges.old.items }
+    ensures count { vec_len edges.new ≤ vec_len edges.old }
+    ensures capacity { vec_capacity edges.new ≡ vec_capacity edges.old }
+{
+    for edge in idle {
+        take_edge(edges, *edge);
+    }
+}
+
+/// Takes the edge out.
+fn take_edge(edges: &mut Vec<EdgeEntry>, edge: u32)
+    requires edges_ascend { IsStrictlySortedBy edge_cmp edges.old.items }
+    ensures kept { edges.new.items ≡ filter (λ (entry : EdgeValue). not (entry.edge == edge)) edges.old.items }
+    ensures count { vec_len edges.new ≤ vec_len edges.old }
+    ensures capacity { vec_capacity edges.new ≡ vec_capacity edges.old }
+{
+    match edges.binary_search_by_key(&edge, |entry| entry.edge) {
+        Ok(at) => take_edge_at(edges, at),
+        Err(_) => {}
+    }
+}
+
+/// Takes the edge out that stands there.
+fn take_edge_at(edges: &mut Vec<EdgeEntry>, at: usize)
+    requires inside { at < length edges.old.items }
+    ensures taken { edges.new.items ≡ take at edges.old.items ++ drop (at + 1) edges.old.items }
+    ensures count { vec_len edges.new ≤ vec_len edges.old }
+    ensures capacity { vec_capacity edges.new ≡ vec_capacity edges.old }
+{
+    let _taken = edges.remove(at);
+}
+
+/// Sets the points of links.
+fn set_bundles(edges: &mut Vec<EdgeEntry>, names: &mut Vec<NameEntry>, bundles: Vec<Bundle>)
+    requires ascending { IsStrictlySortedBy edge_cmp edges.old.items }
+    ensures edges { AreFrom edge_key (IsEdgeBundled bundles.items) edges.old.items edges.new.items }
+    ensures names { AreBeside (IsNameBundled bundles.items) names.old.items names.new.items }
+    ensures count { vec_len edges.new ≡ vec_len edges.old }
+    ensures capacity { vec_capacity edges.new ≡ vec_capacity edges.old }
+{
+    for bundle in bundles {
+        set_bundle(edges, names, bundle);
+    }
+}
+
+/// Sets the points of a link.
+fn set_bundle(edges: &mut Vec<EdgeEntry>, names: &mut Vec<NameEntry>, bundle: Bundle)
+    requires ascending { IsStrictlySortedBy edge_cmp edges.old.items }
+    ensures edges { AreFrom edge_key (IsEdgeBundled (bundle ∷ [])) edges.old.items edges.new.items }
+    ensures names { AreBeside (IsNameBundled (bundle ∷ [])) names.old.items names.new.items }
+    ensures count { vec_len edges.new ≡ vec_len edges.old }
+    ensures capacity { vec_capacity edges.new ≡ vec_capacity edges.old }
+{
+    match bundle.key {
+        LinkKey::Edge(edge) => set_edge(edges, edge, bundle),
+        LinkKey::Name(at) => set_name(names, at, bundle),
+    }
+}
+
+/// Sets the points of the edge of the bundle.
+fn set_edge(edges: &mut Vec<EdgeEntry>, edge: u32, bundle: Bundle)
+    requires ascending { IsStrictlySortedBy edge_cmp edges.old.items }
+    requires key { bundle.key ≡ EdgeKey edge }
+    ensures edges { AreFrom edge_key (IsEdgeBundled (bundle ∷ [])) edges.old.items edges.new.items }
+    ensures count { vec_len edges.new ≡ vec_len edges.old }
+    ensures capacity { vec_capacity edges.new ≡ vec_capacity edges.old }
+{
+    match edges.binary_search_by_key(&edge, |entry| entry.edge) {
+        Ok(at) => set_points(&mut edges[at], bundle),
+        Err(_) => {}
+    }
+}
+
+/// Gives the edge the points of the bundle.
+fn set_points(entry: &mut EdgeEntry, bundle: Bundle)
+    ensures edge { entry.new.edge ≡ entry.old.edge }
+    ensures points { entry.new.points.items ≡ bundle.points.items }
+{
+    entry.points = bundle.points;
+}
+
+/// Sets the points of the outer name of the bundle.
+fn set_name(names: &mut Vec<NameEntry>, at: u32, bundle: Bundle)
+    requires key { bundle.key ≡ NameKey at }
+    ensures { AreBeside (IsNameBundled (bundle ∷ [])) names.old.items names.new.items }
+{
+    if let Some(entry) = names.get_mut(at as usize) {
+        entry.points = bundle.points;
+    }
+}
+
+/// Puts edges behind the others, where there is room for them.
+fn push_edges(edges: &mut Vec<EdgeEntry>, used: Vec<EdgeEntry>)
+    requires room { vec_len edges.old + length used.items ≤ vec_capacity edges.old }
+    ensures { edges.new.items ≡ edges.old.items ++ used.items }
+{
+    for entry in used {
+        edges.push_reserved(entry);
+    }
+}
