@@ -1,4 +1,7 @@
+pub mod ArrivalLaws
+pub mod BundleLaws
 pub mod CarryLaws
+pub mod ChildLaws
 pub mod CommitControlLaws
 pub mod CommitLinkLaws
 pub mod CommitNodeLaws
@@ -8,14 +11,18 @@ pub mod GrowthLaws
 pub mod IdleLaws
 pub mod IndexLaws
 pub mod KeyLaws
+pub mod LateLaws
 pub mod MakingLaws
 pub mod MoveLaws
 pub mod NewRowLaws
 pub mod PlanLaws
 pub mod PlanningLaws
+pub mod ReactingLaws
 pub mod ReadingLaws
 pub mod ReadyLaws
 pub mod RoomLaws
+pub mod SetLaws
+pub mod SiteLaws
 pub mod StepLaws
 pub mod TouchedLaws
 pub mod UsedLaws

@@ -1,4 +1,9 @@
+pub mod Arrivals
+pub mod Arriving
 pub mod Commits
+pub mod Copying
+pub mod Going
+pub mod Growth
 pub mod Indexed
 pub mod Making
 pub mod Noting

@@ -4,6 +4,9 @@
 //!   the nodes of each control kept beside them, each list ascending.
 #![tactic(auto)]
 
+mod arrivals;
+mod bundles;
+mod children;
 mod commit;
 mod commit_controls;
 mod commit_links;
@@ -28,6 +31,10 @@ mod plans;
 mod point_arrivals;
 mod reading;
 mod room;
+mod sets;
+mod touched;
+mod used;
 
 pub use indexed_host::IndexedHost;
 pub use laws::steps_leave_an_index;
+pub use touched::Touched;

@@ -25,9 +25,20 @@ pub struct Touched {
     pub changed: Vec<u32>,
 }
 
+/// What a reaction by the plan touches.
+pub fn touched_by(alloc: Global, plan: &Plan) -> Mem<Touched>
+    ensures gone { IfOk result (λ touched. touched.gone.items ≡ plan.now.gone.items) }
+    ensures ascending { IfOk result (λ touched. IsStrictlySortedBy nat_cmp touched.changed.items) }
+    ensures noted { IfOk result (λ touched. (node : ℕ) → (Member node touched.changed.items ↔ Member node (noted plan.now))) }
+{
+    let gone = Vec::from_slice(alloc, &plan.gone)?;
+    let changed = changed_of(alloc, plan)?;
+    Ok(Touched { gone, changed })
+}
+
 /// The nodes that a plan makes, moves, gives other children or other points of a link, ascending. Costs time n log n, and
 /// memory n, in the number of these and of the points of the links.
-pub fn changed_of(alloc: Global, plan: &Plan) -> Mem<Vec<u32>>
+fn changed_of(alloc: Global, plan: &Plan) -> Mem<Vec<u32>>
     ensures ascending { IfOk result (λ changed. IsStrictlySortedBy nat_cmp changed.items) }
     ensures noted { IfOk result (λ changed. (node : ℕ) → (Member node changed.items ↔ Member node (noted plan.now))) }
 {
