@@ -1,5 +1,5 @@
 //! Nodes are taken out, moved, given other children, and put behind the others. Takes no memory.
-ghost use Rattle.std.specs.Prelude.{◌≡◌, ◌≢◌, ◌+◌, ◌<◌, ◌≤◌, ◌^◌, ◌==◌, ◌∷◌, ◌++◌, [], ℕ, List, true, not, length, take, drop, filter, vec_len, vec_capacity};
+ghost use Rattle.std.specs.Prelude.{◌≡◌, ◌≢◌, ◌+◌, ◌<◌, ◌≤◌, ◌^◌, ◌==◌, ◌∷◌, ◌++◌, [], ℕ, List, None, true, not, length, take, drop, filter, vec_len, vec_capacity};
 ghost use Rattle.std.specs.List.Sorted.{IsStrictlySortedBy};
 ghost use Rattle.std.specs.Ordering.{nat_cmp};
 ghost use Rattle.slab.specs.Slab.{Slab as SlabValue, get, slab_len, HasRoomFor};
@@ -87,6 +87,7 @@ fn take_node(nodes: &mut Slab<NodeEntry>, slots: &[Slot], node: u32)
 
 /// Takes the entry out that is kept there.
 fn take_entry(nodes: &mut Slab<NodeEntry>, at: usize)
+    ensures vacated { get nodes.new at ≡ None }
     ensures others { (other : ℕ) → other ≢ at → get nodes.new other ≡ get nodes.old other }
     ensures count { slab_len nodes.new ≤ slab_len nodes.old }
     ensures capacity { nodes.new.capacity ≡ nodes.old.capacity }
