@@ -1,7 +1,7 @@
 -- The links that lose or get points: each has a bundle, with the points that it is to have.
-use Rattle.std.proofs.Common.{◌≡◌, ℕ, ◌+◌, ◌≤◌, Bool, true, false, not, List, [], ◌∷◌, ◌++◌, map, filter, is_eq, refl, sym, ap, subst, ◌∙◌, ◌⊎◌, inl, inr, arith, ltb-false}
+use Rattle.std.proofs.Common.{◌≡◌, ℕ, ◌+◌, ◌≤◌, true, false, not, List, [], ◌∷◌, ◌++◌, map, filter, is_eq, refl, sym, ap, subst, ◌∙◌, ◌⊎◌, inl, inr, arith, ltb-false}
 use Rattle.std.specs.List.{position_or_len}
-use Rattle.std.proofs.lemmas.Bool.{cases_Bool, false≢true}
+use Rattle.std.proofs.lemmas.Bool.{not-false, cases_Bool, false≢true}
 use Rattle.bg_lists.specs.Lists.{Mem, here, there}
 use Rattle.bg_lists.proofs.Members.{Mem-append_left, Mem-append_right, Mem-append_cases, Mem-map, Mem-unmap, Mem-filter, Mem-unfilter}
 use Rattle.bg_lists.proofs.Places.{At-below, At-get_or, At-same, Mem-from_At}
@@ -47,11 +47,7 @@ key_is outer (Outer name) named = (name, At-name outer (named name refl), refl)
 
 -- a key that is left out is that of an idle edge
 lost_edge : (outer : List Name) (idle : List ℕ) (link : Link) → is_kept idle (key_of outer link) ≡ false → (edge : ℕ) × (link ≡ Edge edge) × Mem edge idle
-lost_edge outer idle (Edge edge) e = (edge, refl, member_from_is_among idle edge (among (is_among edge idle) e))
-  where
-    among : (b : Bool) → not b ≡ false → b ≡ true
-    among true e = refl
-    among false e = sym e
+lost_edge outer idle (Edge edge) e = (edge, refl, member_from_is_among idle edge (not-false (is_among edge idle) e))
 lost_edge outer idle (Outer name) e = absurd (false≢true (sym e))
 
 -- so of one that is that of a new edge

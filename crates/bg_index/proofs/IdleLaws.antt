@@ -2,7 +2,7 @@
 use Rattle.std.proofs.Common.{◌≡◌, ℕ, Bool, true, false, not, Less, Option, Some, None, Result, Ok, Err, MatchResult, unwrap_or, option_map, List, [], ◌∷◌, length, filter, slice_get, nat_cmp, is_eq, refl, sym, ap, subst, ◌∙◌, inl, inr}
 use Rattle.std.specs.List.{list_any, position_or_len}
 use Rattle.std.specs.List.Sorted.{IsStrictlySortedBy, IsSearchInRange, IsBinarySearchResult}
-use Rattle.std.proofs.lemmas.Bool.{and_parts, and_from, not_from_false, not-true, false_from_ne_true}
+use Rattle.std.proofs.lemmas.Bool.{not-false, and_parts, and_from, not_from_false, not-true, false_from_ne_true}
 use Rattle.std.proofs.lemmas.Cmp.{nat_cmp_total}
 use Rattle.std.proofs.lemmas.Map.Lookups.{exact_unsigned}
 use Rattle.bg_lists.specs.Lists.{Mem, At, here, there}
@@ -213,11 +213,7 @@ module _ (host : HostState) (rule : RuleParts) (nodes : List ℕ) (reading : Rea
     no_point_stays {edge} {row} none m k =
         let w = tied_point host.big m k in
         let fails : not (is_among row.id gone) ≡ false = fails_from_list_any staying (points_of (links_of host.big) (Edge edge)) none (Port row.id w.0) w.1 in
-        (are row.id).0 (member_from_is_among gone row.id (among (is_among row.id gone) fails))
-      where
-        among : (b : Bool) → not b ≡ false → b ≡ true
-        among true e = refl
-        among false e = sym e
+        (are row.id).0 (member_from_is_among gone row.id (not-false (is_among row.id gone) fails))
 
     place_named : {at : ℕ} {name : Name} {link : Link} → At name at rule.redex.outer → At link at reading.links.items
         → slice_get reading.links.items (place_of rule.reactum.outer name) ≡ Some link

@@ -12,6 +12,7 @@ pub mod IdleLaws
 pub mod IndexLaws
 pub mod KeyLaws
 pub mod LateLaws
+pub mod LinkKeyLaws
 pub mod MakingLaws
 pub mod MoveLaws
 pub mod NewRowLaws

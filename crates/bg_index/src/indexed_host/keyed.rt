@@ -14,7 +14,7 @@ use bg_link::Point;
 
 impl IndexedHost {
     /// The key of the link. Takes no memory; logarithmic in the number of outer names.
-    pub fn key(&self, link: &Link) -> LinkKey
+    pub(crate) fn key(&self, link: &Link) -> LinkKey
         ensures { result ≡ key_of self.now.big.outer link.now }
     {
         let _ = &self.index;
@@ -25,7 +25,7 @@ impl IndexedHost {
     }
 
     /// The points of the link with the key, ascending. Takes no memory; logarithmic in the number of edges.
-    pub fn points_at(&self, key: LinkKey) -> &[Point]
+    pub(crate) fn points_at(&self, key: LinkKey) -> &[Point]
         ensures { (link : LinkValue) → IsKeyOf self.now.big.outer key link → result.now ≡ points_of (links_of self.now.big) link }
     {
         match key {

@@ -4,7 +4,7 @@ use Rattle.bg_lists.specs.Lists.{Mem}
 use Rattle.bg_lists.proofs.Words.{Mem-permutation, Mem-unpermutation}
 use Rattle.bg_index.specs.contracts.plans.LinkKeyPartialEq.TheImpl.{ghosts}
 use Rattle.bg_index.specs.declared.plans.LinkKey.{LinkKey}
-use Rattle.bg_index.proofs.KeyLaws.{Mem-dedup, Mem-undedup, same_key_from_test}
+use Rattle.bg_index.proofs.LinkKeyLaws.{Mem-dedup, Mem-undedup, same_key_from_test}
 use Rattle.bg_index.proofs.bundles.key_set.Goals as goal
 
 pub returns-clause-into : goal.returns-clause-into

@@ -1,6 +1,6 @@
 use Rattle.std.proofs.Common.{◌≡◌, List, true, false, nat_lt, length, get_or, subst, ◌∙◌}
 use Rattle.bg_index.specs.declared.entries.NameEntry.{NameEntry}
-use Rattle.bg_index.proofs.KeyLaws.{named_points, no_named}
+use Rattle.bg_index.proofs.LinkKeyLaws.{named_points, no_named}
 use Rattle.bg_index.proofs.indexed_host.IndexedHost.points_of_name.Goals as goal
 
 pub returns-in-Some : goal.returns-in-Some
