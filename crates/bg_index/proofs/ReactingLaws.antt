@@ -51,3 +51,14 @@ module _ (host : HostState) (rule : RuleParts) (nodes : List ℕ) (plan : Plan) 
           (planned_host (host_of mid) rule nodes is_mid.boundary plan is_index.is_host is_rule mid_occurs is_mid.is_boundary is_mid.is_plan is_mid.within)
           plan.gone.items (moved plan.moves.items) (new_rows plan) new
           (carried_step mid new rule nodes is_mid.boundary plan is_index is_mid.is_plan done))
+
+      pub done_reacts : Reacts host rule nodes (host_of new)
+      done_reacts = subst (Reacts host rule nodes) (sym done_host) plan_reacts
+
+      pub done_touched : (gone changed : List ℕ) → gone ≡ plan.gone.items → IsStrictlySortedBy nat_cmp changed
+          → ((node : ℕ) → Mem node changed ↔ Mem node (noted plan)) → IsTouched host.big (host_of new).big gone changed
+      done_touched gone changed same_gone up are =
+          let back = sym done_host in
+          let lost = sym same_gone in
+          subst (λ (h : HostState). IsTouched host.big h.big gone changed) back
+          (subst (λ nodes_gone. IsTouched host.big (host_planned host plan).big nodes_gone changed) lost (plan_touches changed up are))
