@@ -1,8 +1,8 @@
 -- Where a host has no room for what a reaction makes of it, the reaction passes a limit.
-use Rattle.std.proofs.Common.{◌≡◌, ◌↔◌, ℕ, ◌+◌, ◌<◌, ◌≤◌, [], not, List, length, map, filter, nat_cmp, sym, ap, subst, ◌∙◌, arith}
+use Rattle.std.proofs.Common.{ℕ, ◌+◌, ◌<◌, ◌≤◌, [], List, length, filter, nat_cmp, arith}
 use Rattle.std.specs.List.Sorted.{IsStrictlySortedBy}
 use Rattle.bg_base.specs.declared.names.Link.TheVariants.{Edge}
-use Rattle.bg_base.specs.Limits.{most_host_nodes, most_host_edges, largest_counter}
+use Rattle.bg_base.specs.Limits.{most_host_edges}
 use Rattle.bg_base.specs.Products.{has_point}
 use Rattle.bg_rewriting.specs.Boundaries.{Boundary, IsBoundary}
 use Rattle.bg_rewriting.specs.Making.{AreDropped, AreIdle}

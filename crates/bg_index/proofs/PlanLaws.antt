@@ -1,15 +1,13 @@
 -- A plan of a reaction leads to the host after it, and what is carried out of it is a step there.
-use Rattle.std.proofs.Common.{◌≡◌, ◌↔◌, ◌⊎◌, ℕ, ◌+◌, ◌<◌, ◌≤◌, ◌^◌, ◌++◌, [], is_some, Bool, not, false, true, Some, Option, Less, unwrap_or, option_map, List, length, map, filter, refl, sym, ap, subst, ◌∙◌, inl, inr, arith}
-use Rattle.std.proofs.lemmas.Bool.{cases_Bool}
+use Rattle.std.proofs.Common.{◌≡◌, ◌⊎◌, ℕ, ◌+◌, ◌<◌, ◌≤◌, ◌^◌, ◌++◌, [], is_some, not, true, Some, Option, Less, unwrap_or, option_map, List, length, map, filter, refl, sym, ap, subst, ◌∙◌, inl, inr, arith}
 use Rattle.slab.specs.Slab.{get}
 use Rattle.bg_lists.specs.Lists.{Mem, At}
 use Rattle.bg_lists.proofs.Ascents.{Ascending-from_sorted, one_place}
 use Rattle.bg_lists.proofs.Comparisons.{Less-not_itself}
-use Rattle.bg_lists.proofs.Members.{Mem-append_cases, Mem-append_right, Mem-filter, Mem-map, Mem-same, Mem-unfilter, Mem-unmap}
+use Rattle.bg_lists.proofs.Members.{Mem-append_cases, Mem-map, Mem-same, Mem-unfilter, Mem-unmap}
 use Rattle.bg_lists.proofs.Places.{At-below, At-from_Mem, At-same, At-total}
 use Rattle.bg_lists.proofs.Words.{All-member}
 use Rattle.bg_base.specs.declared.names.Name.{Name}
-use Rattle.bg_base.specs.declared.names.Place.{Place}
 use Rattle.bg_base.specs.declared.names.Place.TheVariants.{Node, Region}
 use Rattle.bg_base.specs.declared.names.Link.{Link}
 use Rattle.bg_base.specs.declared.names.Link.TheVariants.{Edge, Outer}
@@ -34,7 +32,7 @@ use Rattle.bg_rules.specs.Limits.{IsWithinLimits}
 use Rattle.bg_rules.specs.Reaction.{HostState, Reacts}
 use Rattle.bg_rules.specs.Rules.{RuleParts, IsRule}
 use Rattle.bg_rules.proofs.Kept.{result_is_host}
-use Rattle.bg_rules.proofs.Upwards.{is_among-member, member_from_is_among}
+use Rattle.bg_rules.proofs.Upwards.{is_among-member}
 use Rattle.bg_index.specs.declared.entries.EdgeEntry.{EdgeEntry}
 use Rattle.bg_index.specs.declared.entries.Index.{Index}
 use Rattle.bg_index.specs.declared.entries.NameEntry.{NameEntry}
@@ -44,8 +42,8 @@ use Rattle.bg_index.specs.declared.entries.Slot.{Slot}
 use Rattle.bg_index.specs.declared.plans.LinkKey.{LinkKey}
 use Rattle.bg_index.specs.declared.plans.LinkKey.TheVariants.{Edge as EdgeKey, Name as NameKey}
 use Rattle.bg_index.specs.declared.plans.Plan.{Plan}
-use Rattle.bg_index.specs.Indexed.{no_row, row_at, rows_of, edges_of, host_of, IsIndex, IsKept}
-use Rattle.bg_index.specs.Plans.{moved, rows_after, new_rows, host_planned, IsKeyOf, IsPlan, ChildrenSet, set_children, same_children, PointsSet, set_points, same_points, IsStaying, IsStayingEdge, IsCarriedOut}
+use Rattle.bg_index.specs.Indexed.{no_row, row_at, edges_of, host_of, IsIndex}
+use Rattle.bg_index.specs.Plans.{moved, new_rows, host_planned, IsKeyOf, IsPlan, ChildrenSet, set_children, same_children, PointsSet, set_points, same_points, IsStaying, IsStayingEdge, IsCarriedOut}
 use Rattle.bg_index.specs.Steps.{AreChildren, ChildrenFrom, as_before, made_anew, RegionFrom, region_before, region_anew, PointsFrom, points_before, kept_and_new, IsStep}
 
 -- ---- where a plan leads

@@ -1,5 +1,5 @@
 -- The parts of a plan make a plan.
-use Rattle.std.proofs.Common.{◌≡◌, ◌↔◌, ℕ, ◌+◌, ◌<◌, ◌≤◌, ◌^◌, [], List, length, map, filter, nat_cmp, sym, ap, subst, ◌∙◌, arith}
+use Rattle.std.proofs.Common.{◌≡◌, ◌↔◌, ℕ, ◌+◌, ◌<◌, ◌≤◌, ◌^◌, [], List, length, filter, nat_cmp, sym, ap, subst, ◌∙◌, arith}
 use Rattle.std.specs.List.Sorted.{IsStrictlySortedBy}
 use Rattle.std.proofs.lemmas.List.{length-map}
 use Rattle.bg_lists.specs.Lists.{Mem}
@@ -20,7 +20,6 @@ use Rattle.bg_index.specs.declared.plans.Move.{Move}
 use Rattle.bg_index.specs.declared.plans.Plan.{Plan}
 use Rattle.bg_index.specs.declared.reading.Reading.{Reading}
 use Rattle.bg_index.specs.Growth.{HasNumbers}
-use Rattle.bg_index.specs.Indexed.{edges_of}
 use Rattle.bg_index.specs.Plans.{IsRead, AreBundles, AreFilled, AreMoves, AreNests, AreNewRows, AreUsed, IsPlan, IsReactionPlan, rows_after, new_rows}
 use Rattle.bg_index.specs.Readings.{boundary_of}
 use Rattle.bg_index.proofs.GrowthLaws.{numbers_pass, edges_pass, planned_within}

@@ -1,5 +1,5 @@
 -- A plan is ready to be carried out.
-use Rattle.std.proofs.Common.{◌≡◌, ℕ, ◌<◌, ◌≤◌, ◌+◌, List, [], Less, length, map, nat_cmp, sym, ap, subst, ◌∙◌, arith}
+use Rattle.std.proofs.Common.{◌≡◌, ℕ, ◌<◌, ◌+◌, List, [], Less, length, map, nat_cmp, sym, ap, subst, ◌∙◌, arith}
 use Rattle.bg_lists.specs.Orders.{Ascending}
 use Rattle.bg_lists.specs.Lists.{Mem}
 use Rattle.bg_lists.proofs.Ascents.{sorted_from_Ascending, Ascending-unmap}
@@ -13,11 +13,10 @@ use Rattle.bg_rewriting.specs.Rewriting.{late_count}
 use Rattle.bg_rules.specs.Rules.{RuleParts}
 use Rattle.bg_index.specs.declared.entries.Index.{Index}
 use Rattle.bg_index.specs.declared.entries.NodeEntry.{NodeEntry}
-use Rattle.bg_index.specs.declared.entries.Slot.{Slot}
 use Rattle.bg_index.specs.declared.plans.Plan.{Plan}
 use Rattle.bg_index.specs.Commits.{entry_cmp, IsReady}
 use Rattle.bg_index.specs.Indexed.{IsIndex, host_of, row_at, rows_of}
-use Rattle.bg_index.specs.Plans.{IsPlan, new_rows}
+use Rattle.bg_index.specs.Plans.{IsPlan}
 use Rattle.bg_index.proofs.CarryLaws.{index_held}
 use Rattle.bg_index.proofs.CommitNodeLaws.{held_row}
 

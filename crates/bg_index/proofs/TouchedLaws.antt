@@ -1,8 +1,7 @@
 -- What a plan notes is what the reaction touches.
-use Rattle.std.proofs.Common.{◌≡◌, ◌↔◌, ◌⊎◌, ℕ, ◌+◌, ◌<◌, ◌≤◌, ◌++◌, ◌∷◌, [], not, IsTrue, true, false, List, length, map, filter, nat_cmp, refl, sym, ap, subst, ◌∙◌, inl, inr, arith}
+use Rattle.std.proofs.Common.{◌≡◌, ◌↔◌, ◌⊎◌, ℕ, ◌+◌, ◌<◌, ◌≤◌, ◌++◌, ◌∷◌, [], not, IsTrue, true, List, map, filter, nat_cmp, refl, sym, ap, subst, ◌∙◌, inl, inr, arith}
 use Rattle.std.specs.List.{list_all}
 use Rattle.std.specs.List.Sorted.{IsStrictlySortedBy}
-use Rattle.std.proofs.lemmas.Bool.{false_from_ne_true}
 use Rattle.bg_lists.specs.Lists.{Mem, here, there, At}
 use Rattle.bg_lists.proofs.Members.{Mem-append_cases, Mem-append_left, Mem-append_right, Mem-cons_cases, Mem-filter, Mem-map, Mem-same, Mem-unfilter, Mem-unmap}
 use Rattle.bg_lists.proofs.Places.{At-from_Mem}
@@ -10,7 +9,7 @@ use Rattle.bg_lists.proofs.Words.{All-member, list_all-member}
 use Rattle.bg_base.specs.declared.names.Place.{Place}
 use Rattle.bg_base.specs.declared.names.Place.TheVariants.{Node, Region}
 use Rattle.bg_base.specs.declared.names.Link.{Link}
-use Rattle.bg_base.specs.declared.names.Link.TheVariants.{Edge, Outer}
+use Rattle.bg_base.specs.declared.names.Link.TheVariants.{Edge}
 use Rattle.bg_base.specs.declared.big.NodeRow.{NodeRow}
 use Rattle.bg_base.specs.Bigraph.{has_link, has_place}
 use Rattle.bg_base.proofs.Counted.{Mem-counted}
@@ -18,7 +17,7 @@ use Rattle.bg_base.proofs.LookUps.{member_from_has_edge, row_from_has}
 use Rattle.bg_link.specs.declared.graph.Point.{Point}
 use Rattle.bg_link.specs.declared.graph.Point.TheVariants.{Port, Inner}
 use Rattle.bg_link.specs.Links.{links_of, points_of}
-use Rattle.bg_rewriting.specs.Boundaries.{Boundary, IsBoundary, IsOutside}
+use Rattle.bg_rewriting.specs.Boundaries.{Boundary, IsBoundary}
 use Rattle.bg_rewriting.specs.Keeping.{ports_on, stays_at}
 use Rattle.bg_rewriting.specs.Touching.{IsDropped, is_image, is_unasked, IsMarked, is_new, is_moved, is_round, lost_point, got_point, AreMarked, IsTouched}
 use Rattle.bg_rewriting.proofs.Below.{first_meets, first_member}
@@ -30,12 +29,11 @@ use Rattle.bg_rules.specs.Hosts.{IsHost}
 use Rattle.bg_rules.specs.Instantiation.{is_among}
 use Rattle.bg_rules.specs.Limits.{IsWithinLimits}
 use Rattle.bg_rules.specs.LocalConditions.{at_place, above, image_of, Meets}
-use Rattle.bg_rules.specs.Reaction.{HostState, Reacts}
+use Rattle.bg_rules.specs.Reaction.{HostState}
 use Rattle.bg_rules.specs.Rules.{RuleParts, IsRule}
 use Rattle.bg_rules.proofs.Occurrences.{occurs_locally}
 use Rattle.bg_rules.proofs.Patterns.{same_node_row}
 use Rattle.bg_rules.proofs.Upwards.{is_among-member, is_among-none}
-use Rattle.bg_index.specs.declared.entries.EdgeEntry.{EdgeEntry}
 use Rattle.bg_index.specs.declared.entries.NodeEntry.{NodeEntry}
 use Rattle.bg_index.specs.declared.plans.Bundle.{Bundle}
 use Rattle.bg_index.specs.declared.plans.Move.{Move}
@@ -336,8 +334,8 @@ module _ (host : HostState) (rule : RuleParts) (nodes : List ℕ) (boundary : Bo
           w.1,
           w.2,
           got_point w.3
-          (Mem-append_right (map (moved plan.moves.items) (filter (λ (r : NodeRow). not (is_among r.id gone)) host.big.nodes)) (new_rows plan) v.1)
-          (new_above v.1) v.2,
+              (Mem-append_right (map (moved plan.moves.items) (filter (λ (r : NodeRow). not (is_among r.id gone)) host.big.nodes)) (new_rows plan) v.1)
+              (new_above v.1) v.2,
         )
       ]
 

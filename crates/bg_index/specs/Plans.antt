@@ -1,5 +1,5 @@
 -- What a reaction is to leave of an indexed host, made before anything is changed; and a host that was changed so.
-use Rattle.std.specs.Prelude.{◌≡◌, ◌⊎◌, ℕ, ◌<◌, ◌≤◌, ◌+◌, ◌^◌, ◌==◌, not, Some, None, unwrap_or, option_map, find, List, [], ◌++◌, length, map, filter, vec_len, vec_capacity}
+use Rattle.std.specs.Prelude.{◌≡◌, ◌⊎◌, ℕ, ◌<◌, ◌≤◌, ◌+◌, ◌^◌, ◌==◌, not, Some, unwrap_or, option_map, find, List, [], ◌++◌, length, map, filter, vec_len, vec_capacity}
 use Rattle.std.specs.List.Sorted.{IsStrictlySortedBy}
 use Rattle.std.specs.Ordering.{nat_cmp, on}
 use Rattle.std.specs.declared.cmp.Ordering.{Ordering}
@@ -44,7 +44,7 @@ use Rattle.bg_index.specs.declared.plans.NodeChanges.{NodeChanges}
 use Rattle.bg_index.specs.declared.plans.Plan.{Plan}
 use Rattle.bg_index.specs.declared.reading.Reading.{Reading}
 use Rattle.bg_index.specs.Indexed.{slot_cmp, control_cmp, rows_of, edges_of}
-use Rattle.bg_index.specs.Readings.{boundary_of, IsReading}
+use Rattle.bg_index.specs.Readings.{IsReading}
 use Rattle.bg_index.specs.Steps.{AreChildren}
 
 -- ---- where a plan is made

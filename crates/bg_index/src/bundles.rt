@@ -15,12 +15,12 @@ ghost use Rattle.bg_rules.specs.Hosts.{IsHost};
 ghost use Rattle.bg_rules.specs.Instantiation.{is_among};
 
 use crate::IndexedHost;
-use crate::point_arrivals::{Arrival, arrivals_of, push_arriving};
 use crate::idle::is_staying;
 use crate::keys::rank;
 use crate::making::point_copies;
 use crate::parts::is_left;
 use crate::plans::{Bundle, LinkKey};
+use crate::point_arrivals::{Arrival, arrivals_of, push_arriving};
 use crate::reading::Reading;
 use bg_base::{Link, NodeRow};
 use bg_link::Point;

@@ -71,7 +71,13 @@ fn plan_at(
 }
 
 /// The nodes that are dropped, ascending.
-fn dropped(alloc: Global, host: &IndexedHost, rule: &Rule, map: &[u32], reading: &Reading) -> Mem<Vec<u32>>
+fn dropped(
+    alloc: Global,
+    host: &IndexedHost,
+    rule: &Rule,
+    map: &[u32],
+    reading: &Reading,
+) -> Mem<Vec<u32>>
     requires read { IsRead host.now rule.now map.now reading.now }
     ensures ascending { IfOk result (λ gone. IsStrictlySortedBy nat_cmp gone.items) }
     ensures dropped { IfOk result (λ gone. AreDropped host.now.big rule.now map.now gone.items) }
@@ -143,7 +149,16 @@ fn link_changes(
     let idle = idle_of(alloc, host, rule, map, reading, &nodes.gone)?;
     let used = used_of(alloc, host, rule, map, reading, &nodes.new)?;
     room_for_edges(host, rule, map, reading, &nodes.new, &idle, &used)?;
-    let bundles = bundles_of(alloc, host, rule, map, reading, &nodes.gone, &idle, &nodes.new)?;
+    let bundles = bundles_of(
+        alloc,
+        host,
+        rule,
+        map,
+        reading,
+        &nodes.gone,
+        &idle,
+        &nodes.new,
+    )?;
     Ok(LinkChanges {
         idle,
         used,

@@ -9,8 +9,8 @@ ghost use Rattle.bg_index.specs.Noting as noting;
 ghost use Rattle.bg_index.specs.Noting.{noted};
 
 use crate::entries::NodeEntry;
-use crate::sets::number_set;
 use crate::plans::{Bundle, Move, Nest, Plan};
+use crate::sets::number_set;
 use bg_base::Place;
 use bg_link::Point;
 use bg_lists::Mem;

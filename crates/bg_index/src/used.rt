@@ -13,10 +13,10 @@ ghost use Rattle.bg_index.specs.Readings.{boundary_of};
 ghost use Rattle.bg_index.specs.Tied as tied;
 
 use crate::IndexedHost;
-use crate::point_arrivals::{Arrival, arrivals_of, push_arriving};
 use crate::edge_sets::{edge_set, push_edges};
 use crate::entries::EdgeEntry;
 use crate::plans::LinkKey;
+use crate::point_arrivals::{Arrival, arrivals_of, push_arriving};
 use crate::reading::Reading;
 use bg_base::NodeRow;
 use bg_lists::{Mem, OutOfMemory};
