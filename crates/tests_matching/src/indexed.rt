@@ -44,7 +44,7 @@ fn has_link(indexed: &IndexedHost, node: u32, port: usize, link: &Link) -> bool 
 }
 
 /// Whether each row is found.
-fn has_rows(indexed: &IndexedHost, host: &Host) -> bool {
+pub(crate) fn has_rows(indexed: &IndexedHost, host: &Host) -> bool {
     host.big().nodes.iter().all(|row| has_row(indexed, row)
         && has_links(indexed, row)
         && is_listed(indexed, row))

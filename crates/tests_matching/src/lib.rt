@@ -7,6 +7,8 @@ mod decompositions;
 #[cfg(test)]
 mod embeddings;
 #[cfg(test)]
+mod in_place;
+#[cfg(test)]
 mod indexed;
 #[cfg(test)]
 mod models;
