@@ -11,7 +11,8 @@ use Rattle.bg_link.specs.declared.graph.PortRow.{PortRow}
 use Rattle.bg_link.specs.declared.graph.Point.{Point}
 use Rattle.bg_link.specs.declared.graph.Point.TheVariants.{Port}
 use Rattle.bg_link.specs.Links.{port_row, ports_from, ports_in, point_of, links_of, points_of}
-use Rattle.bg_rewriting.specs.Keeping.{nodes_with, ports_on, stays_at}
+use Rattle.bg_rewriting.specs.Keeping.{ports_on, stays_at}
+use Rattle.bg_rules.specs.Lookups.{nodes_with}
 
 filter-append : {X : Type 0} (test : X → Bool) (xs ys : List X) → filter test (xs ++ ys) ≡ filter test xs ++ filter test ys
 filter-append test [] ys = refl

@@ -48,7 +48,7 @@ some_or_none P (x ∷ xs) decide =
       ]
     ]
 
-is_link : (link : Link) (links : List Link) → Mem link links ⊎ (Mem link links → ⊥)
+pub is_link : (link : Link) (links : List Link) → Mem link links ⊎ (Mem link links → ⊥)
 is_link link links =
     elim (cases_Bool (list_any (λ other. same_link other link) links)) [
       | inl has ↦ (let w = member_from_list_any (λ other. same_link other link) links has in inl (Mem-same (same_link_from_test w.0 link w.2) w.1))

@@ -3,6 +3,7 @@ pub mod Decomposition
 pub mod LocalConditions
 pub mod Parting
 pub mod Images
+pub mod Lookups
 pub mod Occurrences
 pub mod Instantiation
 pub mod Climbs
