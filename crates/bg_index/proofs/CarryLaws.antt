@@ -1,5 +1,5 @@
 -- A plan is carried out where each list is as it says.
-use Rattle.std.proofs.Common.{◌≡◌, ℕ, List, ◌++◌, inl, inr, length, map, filter, not, refl, ap, subst, ◌∙◌}
+use Rattle.std.proofs.Common.{◌≡◌, ℕ, ◌+◌, ◌≤◌, List, ◌++◌, inl, inr, length, map, filter, not, vec_len, vec_capacity, refl, ap, subst, ◌∙◌}
 use Rattle.std.specs.List.Sorted.{IsStrictlySortedBy}
 use Rattle.bg_lists.specs.Lists.{Mem}
 use Rattle.bg_lists.proofs.Members.{Mem-append_cases, Mem-unmap, Mem-unfilter}
@@ -7,7 +7,7 @@ use Rattle.bg_base.specs.declared.names.Place.{Place}
 use Rattle.bg_base.specs.declared.names.Place.TheVariants.{Node, Region}
 use Rattle.bg_base.specs.declared.big.NodeRow.{NodeRow}
 use Rattle.bg_link.specs.declared.graph.Point.{Point}
-use Rattle.bg_rewriting.specs.Keeping.{nodes_with}
+use Rattle.bg_rules.specs.Lookups.{nodes_with}
 use Rattle.bg_rules.specs.Instantiation.{is_among}
 use Rattle.bg_index.specs.declared.entries.ControlEntry.{ControlEntry}
 use Rattle.bg_index.specs.declared.entries.EdgeEntry.{EdgeEntry}
@@ -29,11 +29,13 @@ index_held index is =
       held = λ slot m. let k = is.nested.kept slot m in record { entry = k.entry; found = k.found; number = k.number };
     }
 
-pub index_roomy : (index : Index) (plan : Plan) → HasRoom index plan → AreRoomy (new_rows plan) (length plan.entries.items) index.controls.items
+pub index_roomy : (index : Index) (plan : Plan) → HasRoom index plan → AreRoomy (new_rows plan) (new_rows plan) index.controls.items
 index_roomy index plan room row m =
     let w = Mem-unmap (λ (entry : NodeEntry). entry.row) plan.entries.items m in
     let v = room.controls w.0 w.1 in
-    (v.0, v.1, record { named = v.2 ∙ ap (λ (r : NodeRow). r.control) w.2; room = v.3 })
+    let same = ap (λ (r : NodeRow). r.control) w.2 in
+    let room = subst (λ n. vec_len v.0.nodes + length (nodes_with n (new_rows plan)) ≤ vec_capacity v.0.nodes) same v.3 in
+    (v.0, v.1, record { named = v.2 ∙ same; room = room })
 
 children_set : (plan : Plan) (place : Place) (before list : List ℕ) → IsNested plan.nests.items place before list → ChildrenSet plan place before list
 children_set plan place before list (by_nest m e l) = set_children m e l

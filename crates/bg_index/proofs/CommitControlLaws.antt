@@ -1,22 +1,22 @@
 -- The nodes of each control, as nodes are taken out and put behind.
-use Rattle.std.proofs.Common.{◌≡◌, ℕ, ◌<◌, ◌≤◌, ◌+◌, ◌==◌, Less, Some, None, List, [], ◌∷◌, ◌++◌, inl, inr, length, map, filter, find, not, nat_cmp, vec_capacity, refl, sym, ap, subst, ◌∙◌, arith, eqb-true, eq-eqb, append_assoc, append-nil, length-append}
+use Rattle.std.proofs.Common.{◌≡◌, ℕ, ◌≤◌, ◌+◌, ◌==◌, Less, Some, None, List, [], ◌∷◌, ◌++◌, inl, inr, length, map, filter, find, not, nat_cmp, vec_capacity, refl, sym, ap, subst, ◌∙◌, arith, eqb-true, eq-eqb, append_assoc, append-nil, length-append}
 use Rattle.std.specs.List.Sorted.{IsStrictlySortedBy}
 use Rattle.std.proofs.lemmas.Bool.{false≢true}
-use Rattle.std.proofs.lemmas.List.{map-append, length-map}
+use Rattle.std.proofs.lemmas.List.{map-append}
 use Rattle.slab.specs.Slab.{Slab, get}
-use Rattle.bg_lists.specs.Lists.{Mem}
+use Rattle.bg_lists.specs.Lists.{Mem, here}
 use Rattle.bg_lists.proofs.Ascents.{Ascending-from_sorted, sorted_from_Ascending, Ascending-filter, Ascending-map, Ascending-map_on, same_member}
-use Rattle.bg_lists.proofs.Members.{Mem-cons_cases, Mem-append_cases, Mem-unmap, Mem-unfilter}
+use Rattle.bg_lists.proofs.Members.{Mem-cons_cases, Mem-append_cases, Mem-append_left, Mem-append_right, Mem-unmap, Mem-unfilter}
 use Rattle.bg_lists.proofs.Words.{fails_from_find, length-filter}
 use Rattle.bg_base.specs.declared.big.NodeRow.{NodeRow}
 use Rattle.bg_base.proofs.LookUps.{tied_numbers}
-use Rattle.bg_rewriting.specs.Keeping.{nodes_with}
+use Rattle.bg_rules.specs.Lookups.{nodes_with}
 use Rattle.bg_rules.specs.Instantiation.{is_among}
 use Rattle.bg_rules.proofs.Upwards.{member_from_is_among}
 use Rattle.bg_index.specs.declared.entries.ControlEntry.{ControlEntry}
 use Rattle.bg_index.specs.declared.entries.NodeEntry.{NodeEntry}
 use Rattle.bg_index.specs.declared.entries.Slot.{Slot}
-use Rattle.bg_index.specs.Commits.{AreFrom, AreHeld, IsLessened, IsWithout, IsTakenOut, HasMore, AreRoomy, control_key}
+use Rattle.bg_index.specs.Commits.{AreFrom, AreHeld, IsLessened, IsWithout, IsTakenOut, HasMore, HasRoomy, AreRoomy, control_key}
 use Rattle.bg_index.specs.Indexed.{control_cmp, row_at, rows_of, AreSorted}
 use Rattle.bg_index.proofs.CommitNodeLaws.{held_row, same_slot}
 use Rattle.bg_index.proofs.ControlLaws.{filter-append, with_its, with_other}
@@ -28,11 +28,6 @@ pub with_both : (control : ℕ) (rows more : List NodeRow) → nodes_with contro
 with_both control rows more =
     ap (map (λ (r : NodeRow). r.id)) (filter-append (λ (r : NodeRow). r.control == control) rows more)
     ∙ map-append (λ (r : NodeRow). r.id) (filter (λ (r : NodeRow). r.control == control) rows) (filter (λ (r : NodeRow). r.control == control) more)
-
-pub with_few : (control : ℕ) (rows : List NodeRow) → length (nodes_with control rows) ≤ length rows
-with_few control rows =
-    let all = length-map (filter (λ (r : NodeRow). r.control == control) rows) (λ (r : NodeRow). r.id) in
-    let few = length-filter (λ (r : NodeRow). r.control == control) rows in omega arith
 
 module _ (nodes : Slab NodeEntry) (slots : List Slot) (held : AreHeld nodes slots) where
   -- the row of a control that has the number is that of a slot
@@ -182,25 +177,27 @@ one_key controls up x y m n e =
     same_member {cmp = control_cmp} (Ascending-from_sorted controls up) m n (tied_numbers x.control y.control e) (tied_numbers y.control x.control (sym e))
 
 -- there is room left
-pub roomy_now : (rows done : List NodeRow) (row : NodeRow) (more : ℕ) (first now : List ControlEntry) → IsStrictlySortedBy control_cmp first
-    → AreRoomy rows more first → AreFrom control_key (HasMore done) first now → Mem row rows → length done < more → AreRoomy (row ∷ []) 1 now
-roomy_now rows done row more first now up roomy so_far m less other k =
-    let e : row ≡ other = elim (Mem-cons_cases k) [ inl e ↦ e | inr o ↦ elim o [ ] ] in
-    let w = roomy row m in
+pub roomy_now : (done rest : List NodeRow) (row : NodeRow) (first now : List ControlEntry) → IsStrictlySortedBy control_cmp first
+    → AreRoomy ((done ++ row ∷ []) ++ rest) ((done ++ row ∷ []) ++ rest) first → AreFrom control_key (HasMore done) first now → HasRoomy row.control 1 now
+roomy_now done rest row first now up roomy so_far =
+    let w = roomy row (Mem-append_left (done ++ row ∷ []) rest (Mem-append_right done (row ∷ []) (here refl))) in
     let v = from_there control_key (HasMore done) first now so_far up w.0 w.1 in
-    let long : length v.0.nodes.items ≡ length w.0.nodes.items + length (nodes_with v.0.control done)
-    = ap length v.3.nodes ∙ length-append w.0.nodes.items (nodes_with v.0.control done) in
-    let few = with_few v.0.control done in
+    let named : v.0.control ≡ row.control = v.2 ∙ w.2.named in
+    let long : length v.0.nodes.items ≡ length w.0.nodes.items + length (nodes_with row.control done)
+    = ap length v.3.nodes ∙ length-append w.0.nodes.items (nodes_with v.0.control done)
+    ∙ ap (λ n. length w.0.nodes.items + length (nodes_with n done)) named in
+    let all = ap length (with_both row.control (done ++ row ∷ []) rest) ∙ length-append (nodes_with row.control (done ++ row ∷ [])) (nodes_with row.control rest) in
+    let mine = ap length (with_its done row row.control refl) ∙ length-append (nodes_with row.control done) (row.id ∷ []) in
     let now_long = v.0.nodes.ok.0 in
     let was_long = w.0.nodes.ok.0 in
     let room = w.2.room in
     let same = v.3.capacity in
-    (v.0, v.1, record { named = v.2 ∙ w.2.named ∙ ap (λ (r : NodeRow). r.control) e; room = omega arith })
+    (v.0, v.1, record { named = named; room = omega arith })
 
 -- so after nodes were taken out
-pub roomy_out : (rows : List NodeRow) (more : ℕ) (gone : List ℕ) (first now : List ControlEntry) → IsStrictlySortedBy control_cmp first
-    → AreRoomy rows more first → AreFrom control_key (IsTakenOut gone) first now → AreRoomy rows more now
-roomy_out rows more gone first now up roomy out row m =
+pub roomy_out : (rows all : List NodeRow) (gone : List ℕ) (first now : List ControlEntry) → IsStrictlySortedBy control_cmp first
+    → AreRoomy rows all first → AreFrom control_key (IsTakenOut gone) first now → AreRoomy rows all now
+roomy_out rows all gone first now up roomy out row m =
     let w = roomy row m in
     let v = from_there control_key (IsTakenOut gone) first now out up w.0 w.1 in
     let few : length v.0.nodes.items ≤ length w.0.nodes.items

@@ -14,7 +14,7 @@ use Rattle.bg_lists.proofs.Members.{Mem-cons_cases, Mem-append_left, Mem-append_
 use Rattle.bg_lists.proofs.Places.{not_At-nil, At-below, At-total, At-from_Mem, Mem-from_At, At-one, At-same, At-map, get_or-At}
 use Rattle.bg_lists.proofs.Searches.{rising_from_Ascending}
 use Rattle.bg_base.specs.declared.big.NodeRow.{NodeRow}
-use Rattle.bg_rewriting.specs.Keeping.{nodes_with}
+use Rattle.bg_rules.specs.Lookups.{nodes_with}
 use Rattle.bg_index.specs.declared.entries.ControlEntry.{ControlEntry}
 use Rattle.bg_index.specs.Indexed.{control_cmp, AreSorted}
 use Rattle.bg_index.proofs.IndexLaws.{none_there}

@@ -1,7 +1,7 @@
 -- Which edges become idle: those of dropped nodes that no name stands for and of which no point stays.
-use Rattle.std.proofs.Common.{◌≡◌, ℕ, Bool, true, false, not, Less, Option, Some, None, Result, Ok, Err, MatchResult, unwrap_or, option_map, List, [], ◌∷◌, length, filter, slice_get, nat_cmp, is_eq, refl, sym, ap, subst, ◌∙◌, inl, inr}
+use Rattle.std.proofs.Common.{◌≡◌, ℕ, Bool, true, false, not, Less, Option, Some, None, unwrap_or, option_map, List, [], ◌∷◌, filter, slice_get, nat_cmp, is_eq, refl, sym, ap, subst, ◌∙◌, inl, inr}
 use Rattle.std.specs.List.{list_any, position_or_len}
-use Rattle.std.specs.List.Sorted.{IsStrictlySortedBy, IsSearchInRange, IsBinarySearchResult}
+use Rattle.std.specs.List.Sorted.{IsStrictlySortedBy}
 use Rattle.std.proofs.lemmas.Bool.{not-false, and_parts, and_from, not_from_false, not-true, false_from_ne_true}
 use Rattle.std.proofs.lemmas.Cmp.{nat_cmp_total}
 use Rattle.std.proofs.lemmas.Map.Lookups.{exact_unsigned}
@@ -28,7 +28,6 @@ use Rattle.bg_link.specs.declared.graph.Point.{Point}
 use Rattle.bg_link.specs.declared.graph.Point.TheVariants.{Port}
 use Rattle.bg_link.specs.Links.{links_of, points_of}
 use Rattle.bg_link.proofs.PointLaws.{port_from}
-use Rattle.bg_link.proofs.RankLaws.{name-search}
 use Rattle.bg_rules.specs.Instantiation.{is_among}
 use Rattle.bg_rules.specs.Reaction.{HostState}
 use Rattle.bg_rules.specs.Rules.{RuleParts}
@@ -109,18 +108,6 @@ set_sorted edges = sorted_from_Ascending {cmp = nat_cmp} (set_of nat_cmp edges) 
 
 abbrev place_of : List Name → Name → ℕ
 place_of outer name = position_or_len (λ (other : Name). is_eq (name_cmp other name)) outer
-
--- what a binary search of the names answers
-pub link-search_at : (outer : List Name) (links : List Link) (name : Name) → IsStrictlySortedBy name_cmp outer → length links ≡ length outer
-    → (r : Result ℕ ℕ) → IsSearchInRange r (length outer) → IsBinarySearchResult (λ other. name_cmp other name) outer r
-    → MatchResult r (λ at. slice_get links at ≡ slice_get links (place_of outer name)) (λ _. None ≡ slice_get links (place_of outer name))
-link-search_at outer links name up many (Ok at) range answer = ap (slice_get links) (sym (name-search outer name up (Ok at) range answer))
-link-search_at outer links name up many (Err at) range answer =
-    sym (ap (slice_get links) (name-search outer name up (Err at) range answer ∙ sym many) ∙ past links)
-  where
-    past : (items : List Link) → slice_get items (length items) ≡ None
-    past [] = refl
-    past (item ∷ items) = past items
 
 one_found : (edge : ℕ) (found : Option Link) → Mem edge (edge_found found) → found ≡ Some (Edge edge)
 one_found edge None m = elim m [ ]

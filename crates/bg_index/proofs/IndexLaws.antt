@@ -33,7 +33,7 @@ use Rattle.bg_link.specs.Rows.{point_cmp}
 use Rattle.bg_link.proofs.AbsentLaws.{no_points}
 use Rattle.bg_link.proofs.PointLaws.{points_of-ascend, linked}
 use Rattle.bg_link.proofs.RankLaws.{name-search, position_inside}
-use Rattle.bg_rewriting.specs.Keeping.{nodes_with}
+use Rattle.bg_rules.specs.Lookups.{nodes_with}
 use Rattle.bg_rewriting.proofs.Members.{children_up}
 use Rattle.bg_rules.specs.Reaction.{HostState}
 use Rattle.bg_index.specs.declared.entries.ControlEntry.{ControlEntry}

@@ -68,11 +68,6 @@ take_past zero (x ∷ xs) le = absurd (omega arith)
 take_past (suc n) [] le = refl
 take_past (suc n) (x ∷ xs) le = ap (λ ys. x ∷ ys) (take_past n xs (omega arith))
 
-pub take_short : {X : Type 0} (n : ℕ) (xs : List X) → length (take n xs) ≤ n
-take_short zero xs = omega arith
-take_short (suc n) [] = omega arith
-take_short (suc n) (x ∷ xs) = let rest = take_short n xs in omega arith
-
 -- ---- items with keys
 
 module _ {X : Type 0} (key : X → ℕ) where

@@ -9,7 +9,8 @@ use Rattle.bg_lists.proofs.Comparisons.{eqb-nat_cmp}
 use Rattle.bg_lists.proofs.Places.{not_At-nil, At-get_or, At-one, length-append_one}
 use Rattle.bg_rules.specs.Instantiation.{is_among}
 use Rattle.bg_rewriting.specs.Rewriting.{late_count}
-use Rattle.bg_index.specs.Copying.{AreLate, late_part}
+use Rattle.bg_index.specs.Copying.{late_part}
+use Rattle.bg_index.specs.Readings.{AreLate}
 
 -- ---- lists side by side
 

@@ -1,6 +1,7 @@
 pub mod ArrivalLaws
 pub mod BundleLaws
 pub mod CarryLaws
+pub mod CauseLaws
 pub mod ChildLaws
 pub mod CommitControlLaws
 pub mod CommitLinkLaws
@@ -25,6 +26,7 @@ pub mod RoomLaws
 pub mod SetLaws
 pub mod SiteLaws
 pub mod StepLaws
+pub mod TiedLaws
 pub mod TouchedLaws
 pub mod UsedLaws
 pub mod WalkLaws

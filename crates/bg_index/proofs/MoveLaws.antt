@@ -39,9 +39,9 @@ use Rattle.bg_rewriting.proofs.Decided.{moves_so, stays_so}
 use Rattle.bg_rewriting.proofs.Members.{Mem-children, child_row, children_up}
 use Rattle.bg_index.specs.declared.plans.Move.{Move}
 use Rattle.bg_index.specs.declared.reading.Reading.{Reading}
-use Rattle.bg_index.specs.Copying.{AreLate, tops_at, moves_to, top_made, IsTop, IsMoved, AreMoved}
+use Rattle.bg_index.specs.Copying.{tops_at, moves_to, top_made, IsTop, IsMoved, AreMoved}
 use Rattle.bg_index.specs.Plans.{move_cmp, moved, AreMoves, IsRead}
-use Rattle.bg_index.specs.Readings.{boundary_of}
+use Rattle.bg_index.specs.Readings.{AreLate, boundary_of}
 use Rattle.bg_index.proofs.LateLaws.{flag_at}
 use Rattle.bg_index.proofs.NewRowLaws.{image_test}
 

@@ -40,9 +40,9 @@ use Rattle.bg_rewriting.specs.Rewriting.{late_count, number_copied, place_copied
 use Rattle.bg_rewriting.proofs.Classes.{number_late}
 use Rattle.bg_rewriting.proofs.Counts.{twice_at, twice_needed}
 use Rattle.bg_index.specs.declared.reading.Reading.{Reading}
-use Rattle.bg_index.specs.Copying.{AreLate, late_part, IsRoomFor, row_with, rank_in, place_late, row_late, rows_late, AreCopied, top_made}
+use Rattle.bg_index.specs.Copying.{late_part, IsRoomFor, row_with, rank_in, place_late, row_late, rows_late, AreCopied, top_made}
 use Rattle.bg_index.specs.Plans.{IsRead}
-use Rattle.bg_index.specs.Readings.{boundary_of}
+use Rattle.bg_index.specs.Readings.{AreLate, boundary_of}
 use Rattle.bg_index.proofs.IndexLaws.{node_there}
 use Rattle.bg_index.proofs.LateLaws.{late_more, late_upto, none_late, flag_at}
 

@@ -1,18 +1,19 @@
 -- Room that is made, and what is seen stays.
-use Rattle.std.proofs.Common.{◌≡◌, ℕ, ◌<◌, ◌≤◌, ◌+◌, ◌^◌, Option, unwrap_or, option_map, List, [], ◌∷◌, ◌++◌, inl, inr, length, take, drop, slice_set, vec_len, vec_capacity, refl, sym, ap, subst, ◌∙◌, arith}
-use Rattle.std.specs.List.Sorted.{IsStrictlySortedBy}
-use Rattle.std.proofs.lemmas.List.{take-append-drop}
+use Rattle.std.proofs.Common.{◌≡◌, ℕ, ◌<◌, ◌≤◌, ◌+◌, ◌-◌, ◌^◌, ◌==◌, true, false, is_lt, ltb, leb, nat_cmp, filter, map, Option, unwrap_or, option_map, List, [], ◌∷◌, ◌++◌, inl, inr, length, take, drop, slice_set, vec_len, vec_capacity, refl, sym, ap, subst, ◌∙◌, arith}
+use Rattle.std.specs.List.Sorted.{IsNonDecreasingBy, IsPartitionedBy, IsPartitionPoint, IsStableBy, IsStrictlySortedBy}
+use Rattle.std.proofs.lemmas.List.{length-map, map-id, take-append-drop}
 use Rattle.slab.specs.Slab.{get}
 use Rattle.bg_lists.specs.Lists.{Mem, there, At}
-use Rattle.bg_lists.proofs.Members.{Mem-cons_cases, Mem-append_left, Mem-append_right, Mem-append_cases, map_agree}
+use Rattle.bg_lists.proofs.Members.{Mem-cons_cases, Mem-append_left, Mem-append_right, Mem-append_cases, filter-map, map-map, map_agree}
+use Rattle.bg_lists.proofs.Groups.{group_found, stable_group}
 use Rattle.bg_lists.proofs.Places.{Mem-from_At}
 use Rattle.bg_base.specs.declared.big.NodeRow.{NodeRow}
 use Rattle.bg_index.specs.declared.entries.ControlEntry.{ControlEntry}
 use Rattle.bg_index.specs.declared.entries.Index.{Index}
 use Rattle.bg_index.specs.declared.entries.NodeEntry.{NodeEntry}
-use Rattle.bg_index.specs.Commits.{AreFrom, AreRoomier, AreRoomy, IsRoomier, IsRoomy, control_key}
+use Rattle.bg_index.specs.Commits.{AreFrom, AreRoomier, AreRoomy, HasRoomy, IsRoomier, IsRoomy, control_key}
 use Rattle.bg_index.specs.Indexed.{IsIndex, IsIndexOf, AreSorted, control_cmp, slot_cmp, host_of, no_row, row_at, rows_of, edges_of}
-use Rattle.bg_rewriting.specs.Keeping.{nodes_with}
+use Rattle.bg_rules.specs.Lookups.{nodes_with}
 use Rattle.bg_rules.specs.Reaction.{HostState}
 use Rattle.bg_index.proofs.KeyLaws.{from_ascends, from_set, from_there}
 
@@ -36,16 +37,49 @@ roomier_insert n entry xs was m =
     ] in
     (was, all, refl, refl, omega arith)
 
-pub roomy_kept : (rows : List NodeRow) (more : ℕ) (old new : List ControlEntry) → AreRoomier old new → AreRoomy rows more old → AreRoomy rows more new
-roomy_kept rows more old new roomier roomy row m =
+pub roomy_kept : (rows all : List NodeRow) (old new : List ControlEntry) → AreRoomier old new → AreRoomy rows all old → AreRoomy rows all new
+roomy_kept rows all old new roomier roomy row m =
     let v = roomy row m in let w = roomier v.0 v.1 in
     let room = v.2.room in let same = w.3 in let higher = w.4 in
     (w.0, w.1, record { named = w.2 ∙ v.2.named; room = omega arith })
 
-pub roomy_both : (rows more_rows : List NodeRow) (more : ℕ) (controls : List ControlEntry) → AreRoomy rows more controls → AreRoomy more_rows more controls
-    → AreRoomy (rows ++ more_rows) more controls
-roomy_both rows more_rows more controls first second row m =
+pub roomy_both : (rows more_rows all : List NodeRow) (controls : List ControlEntry) → AreRoomy rows all controls → AreRoomy more_rows all controls
+    → AreRoomy (rows ++ more_rows) all controls
+roomy_both rows more_rows all controls first second row m =
     elim (Mem-append_cases rows more_rows m) [ inl k ↦ first row k | inr k ↦ second row k ]
+
+pub roomy_one : (row : NodeRow) (all : List NodeRow) (controls : List ControlEntry) → HasRoomy row.control (length (nodes_with row.control all)) controls
+    → AreRoomy (row ∷ []) all controls
+roomy_one row all controls is other m =
+    let same : row ≡ other = elim (Mem-cons_cases m) [ inl e ↦ e | inr k ↦ elim k [ ] ] in
+    subst (λ (r : NodeRow). HasRoomy r.control (length (nodes_with r.control all)) controls) same is
+
+-- ---- how many rows have a control
+
+-- the controls of the rows in order have each as often as a row does
+pub wanted_counts : (entries : List NodeEntry) (made sorted : List ℕ) → made ≡ map (λ (entry : NodeEntry). entry.row.control) entries
+    → IsStableBy (λ x y. is_lt (nat_cmp x y)) made sorted → (control : ℕ)
+    → length (filter (λ other. other == control) sorted) ≡ length (nodes_with control (map (λ (entry : NodeEntry). entry.row) entries))
+wanted_counts entries made sorted are stable control =
+    let rows : List NodeRow = map (λ (entry : NodeEntry). entry.row) entries in
+    let theirs : List NodeRow = filter (λ (row : NodeRow). row.control == control) rows in
+    ap length (stable_group (λ (n : ℕ). n) made sorted stable control)
+    ∙ ap (λ xs. length (filter (λ other. other == control) xs)) (are ∙ sym (map-map (λ (entry : NodeEntry). entry.row) (λ (row : NodeRow). row.control) entries))
+    ∙ ap length (filter-map (λ (row : NodeRow). row.control) (λ other. other == control) rows)
+    ∙ length-map theirs (λ (row : NodeRow). row.control)
+    ∙ sym (length-map theirs (λ (row : NodeRow). row.id))
+
+-- two searches by the number
+pub equal_found : (numbers : List ℕ) (number start count : ℕ) → IsNonDecreasingBy (λ (n : ℕ). n) numbers → start ≤ length numbers
+    → (IsPartitionedBy (λ y. ltb y number) numbers → IsPartitionPoint (λ y. ltb y number ≡ true) (λ y. ltb y number ≡ false) numbers start)
+    → (IsPartitionedBy (λ y. leb y number) (take (length numbers - start) (drop start numbers))
+    → IsPartitionPoint (λ y. leb y number ≡ true) (λ y. leb y number ≡ false) (take (length numbers - start) (drop start numbers)) count)
+    → take (start + count - start) (drop start numbers) ≡ filter (λ other. other == number) numbers
+equal_found numbers number start count rise inside lower upper =
+    group_found (λ (n : ℕ). n) (λ (n : ℕ). n) numbers numbers rise (sym (map-id numbers)) number start count inside lower upper
+    ∙ map-id (filter (λ other. other == number) numbers)
+
+-- ---- a control that gets room
 
 module _ (controls : List ControlEntry) (at : ℕ) (was new : ControlEntry) (up : IsStrictlySortedBy control_cmp controls) (stood : At was at controls)
     (named : new.control ≡ was.control) (is : IsRoomier was new) where
@@ -71,18 +105,16 @@ module _ (controls : List ControlEntry) (at : ℕ) (was new : ControlEntry) (up 
             let v = from_there control_key IsRoomier controls (slice_set controls at new) set_from up w.0 w.1 in (v.0, v.1, v.2 ∙ w.2);
       }
 
-  pub room_there : (control more : ℕ) → was.control ≡ control → vec_len new.nodes + more ≤ vec_capacity new.nodes → (row : NodeRow) → row.control ≡ control
-      → AreRoomy (row ∷ []) more (slice_set controls at new)
-  room_there control more its room row e other m =
-      let same : row ≡ other = elim (Mem-cons_cases m) [ inl e ↦ e | inr k ↦ elim k [ ] ] in
+  pub room_there : (control more : ℕ) → was.control ≡ control → vec_len new.nodes + more ≤ vec_capacity new.nodes
+      → HasRoomy control more (slice_set controls at new)
+  room_there control more its room =
       let w = from_there control_key (λ x y. x ≡ was → y ≡ new) controls (slice_set controls at new)
       (from_set control_key (λ x y. x ≡ was → y ≡ new) controls up at was new stood named (λ _. refl)
       (λ x k differ same. absurd (differ (ap control_key same)))) up was (Mem-from_At stood) in
       let one = w.3 refl in (
         w.0,
         w.1,
-        subst (λ y. IsRoomy other.control more y) (sym one)
-            (record { named = named ∙ its ∙ sym e ∙ ap (λ (r : NodeRow). r.control) same; room = room }),
+        subst (λ y. IsRoomy control more y) (sym one) (record { named = named ∙ its; room = room }),
       )
 
 -- ---- the index

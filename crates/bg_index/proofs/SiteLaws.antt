@@ -20,7 +20,7 @@ use Rattle.bg_rules.specs.Rules.{RuleParts}
 use Rattle.bg_rules.proofs.Patterns.{image_mem, place_node, site_there}
 use Rattle.bg_index.specs.declared.reading.Part.{Part}
 use Rattle.bg_index.specs.declared.reading.Reading.{Reading}
-use Rattle.bg_index.specs.Readings.{IsReading}
+use Rattle.bg_index.specs.Readings.{AreLate, IsReading}
 use Rattle.bg_index.specs.Sites.{AreImages}
 use Rattle.bg_index.specs.Walks.{IsWalkable}
 
@@ -104,6 +104,7 @@ module _ (host pattern : Big) (entries nodes : List ℕ) (reading : Reading)
     (links_are : (i : ℕ) (name : Name) (link : Link) → At name i pattern.outer → At link i reading.links.items → IsLinkOf host pattern nodes name link)
     (asked_many : length reading.asked.items ≡ length pattern.sites)
     (asked_are : (site count : ℕ) → At count site reading.asked.items → count ≡ times_asked entries site)
+    (late_are : AreLate entries reading.late.items)
     (parts_many : length reading.parts.items ≡ length pattern.sites)
     (parts_are : AreParts host pattern nodes reading.asked.items reading.parts.items) where
   read_by : (rule : RuleParts) → IsReading host (record rule { redex = pattern; map = entries }) nodes reading
@@ -125,6 +126,7 @@ module _ (host pattern : Big) (entries nodes : List ℕ) (reading : Reading)
         };
         asked_many = asked_many;
         asked_are = asked_are;
+        late_are = late_are;
       }
 
   pub reading_is : (rule : RuleParts) → rule.redex ≡ pattern → rule.map ≡ entries → IsReading host rule nodes reading

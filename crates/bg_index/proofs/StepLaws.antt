@@ -12,7 +12,8 @@ use Rattle.bg_place.specs.Places.{places_of, children_of}
 use Rattle.bg_link.specs.declared.graph.Point.{Point}
 use Rattle.bg_link.specs.Links.{links_of, points_of}
 use Rattle.bg_rewriting.specs.Boundaries.{Boundary, IsBoundary}
-use Rattle.bg_rewriting.specs.Keeping.{nodes_with, ports_on, stays_at}
+use Rattle.bg_rewriting.specs.Keeping.{ports_on, stays_at}
+use Rattle.bg_rules.specs.Lookups.{nodes_with}
 use Rattle.bg_rewriting.proofs.Keeps.{nodes_after, ports_after, points_are}
 use Rattle.bg_rewriting.proofs.Members.{Mem-children, child_row, children_up}
 use Rattle.bg_rewriting.proofs.Reacted.{children_stay, roots_stay, points_stay}

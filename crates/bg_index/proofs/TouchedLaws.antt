@@ -40,13 +40,14 @@ use Rattle.bg_index.specs.declared.plans.Move.{Move}
 use Rattle.bg_index.specs.declared.plans.Nest.{Nest}
 use Rattle.bg_index.specs.declared.plans.Plan.{Plan}
 use Rattle.bg_index.specs.Indexed.{edges_of}
-use Rattle.bg_index.specs.Noting.{place_noted, nests_noted, point_noted, points_noted, bundles_noted, noted}
+use Rattle.bg_index.specs.Noting.{place_noted, nests_noted, bundles_noted, noted}
 use Rattle.bg_index.specs.Plans.{moved, new_rows, host_planned, points_after, IsPlan}
+use Rattle.bg_index.specs.PortNodes.{port_node, port_nodes}
 use Rattle.bg_index.proofs.PlanLaws.{planned_reacts, planned_host}
 
 -- ---- members of what is noted
 
-nest_in : {nest : Nest} {node : ℕ} (nests : List Nest) → Mem nest nests → nest.place ≡ Node node → Mem node (nests_noted nests)
+pub nest_in : {nest : Nest} {node : ℕ} (nests : List Nest) → Mem nest nests → nest.place ≡ Node node → Mem node (nests_noted nests)
 nest_in [] m e = elim m [ ]
 nest_in {node = node} (other ∷ nests) (here same) e =
     Mem-append_left (place_noted other.place) (nests_noted nests)
@@ -57,7 +58,7 @@ place_is : {node : ℕ} (place : Place) → Mem node (place_noted place) → pla
 place_is (Node other) m = elim (Mem-cons_cases m) [ inl e ↦ ap Node e | inr k ↦ elim k [ ] ]
 place_is (Region region) m = elim m [ ]
 
-nest_of : {node : ℕ} (nests : List Nest) → Mem node (nests_noted nests) → (nest : Nest) × Mem nest nests × (nest.place ≡ Node node)
+pub nest_of : {node : ℕ} (nests : List Nest) → Mem node (nests_noted nests) → (nest : Nest) × Mem nest nests × (nest.place ≡ Node node)
 nest_of [] m = elim m [ ]
 nest_of (nest ∷ nests) m =
     elim (Mem-append_cases (place_noted nest.place) (nests_noted nests) m) [
@@ -65,35 +66,35 @@ nest_of (nest ∷ nests) m =
       | inr k ↦ (let w = nest_of nests k in (w.0, there w.1, w.2))
     ]
 
-point_in : {node index : ℕ} (points : List Point) → Mem (Port node index) points → Mem node (points_noted points)
+pub point_in : {node index : ℕ} (points : List Point) → Mem (Port node index) points → Mem node (port_nodes points)
 point_in [] m = elim m [ ]
 point_in {node} (other ∷ points) (here same) =
-    Mem-append_left (point_noted other) (points_noted points) (subst (λ p. Mem node (point_noted p)) (sym same) (here refl))
-point_in (other ∷ points) (there m) = Mem-append_right (point_noted other) (points_noted points) (point_in points m)
+    Mem-append_left (port_node other) (port_nodes points) (subst (λ p. Mem node (port_node p)) (sym same) (here refl))
+point_in (other ∷ points) (there m) = Mem-append_right (port_node other) (port_nodes points) (point_in points m)
 
-port_is : {node : ℕ} (point : Point) → Mem node (point_noted point) → (index : ℕ) × (point ≡ Port node index)
+port_is : {node : ℕ} (point : Point) → Mem node (port_node point) → (index : ℕ) × (point ≡ Port node index)
 port_is (Port other index) m = elim (Mem-cons_cases m) [ inl e ↦ (index, ap (λ n. Port n index) e) | inr k ↦ elim k [ ] ]
 port_is (Inner name) m = elim m [ ]
 
-point_in_points : {node : ℕ} (points : List Point) → Mem node (points_noted points) → (index : ℕ) × Mem (Port node index) points
+pub point_in_points : {node : ℕ} (points : List Point) → Mem node (port_nodes points) → (index : ℕ) × Mem (Port node index) points
 point_in_points [] m = elim m [ ]
 point_in_points (point ∷ points) m =
-    elim (Mem-append_cases (point_noted point) (points_noted points) m) [
+    elim (Mem-append_cases (port_node point) (port_nodes points) m) [
       | inl k ↦ (let w = port_is point k in (w.0, here w.1))
       | inr k ↦ (let w = point_in_points points k in (w.0, there w.1))
     ]
 
-bundle_in : {bundle : Bundle} {node : ℕ} (bundles : List Bundle) → Mem bundle bundles → Mem node (points_noted bundle.points.items) → Mem node (bundles_noted bundles)
+bundle_in : {bundle : Bundle} {node : ℕ} (bundles : List Bundle) → Mem bundle bundles → Mem node (port_nodes bundle.points.items) → Mem node (bundles_noted bundles)
 bundle_in [] m k = elim m [ ]
 bundle_in {node = node} (other ∷ bundles) (here same) k =
-    Mem-append_left (points_noted other.points.items) (bundles_noted bundles)
-    (subst (λ (b : Bundle). Mem node (points_noted b.points.items)) (sym same) k)
-bundle_in (other ∷ bundles) (there m) k = Mem-append_right (points_noted other.points.items) (bundles_noted bundles) (bundle_in bundles m k)
+    Mem-append_left (port_nodes other.points.items) (bundles_noted bundles)
+    (subst (λ (b : Bundle). Mem node (port_nodes b.points.items)) (sym same) k)
+bundle_in (other ∷ bundles) (there m) k = Mem-append_right (port_nodes other.points.items) (bundles_noted bundles) (bundle_in bundles m k)
 
-bundle_of : {node : ℕ} (bundles : List Bundle) → Mem node (bundles_noted bundles) → (bundle : Bundle) × Mem bundle bundles × Mem node (points_noted bundle.points.items)
+bundle_of : {node : ℕ} (bundles : List Bundle) → Mem node (bundles_noted bundles) → (bundle : Bundle) × Mem bundle bundles × Mem node (port_nodes bundle.points.items)
 bundle_of [] m = elim m [ ]
 bundle_of (bundle ∷ bundles) m =
-    elim (Mem-append_cases (points_noted bundle.points.items) (bundles_noted bundles) m) [
+    elim (Mem-append_cases (port_nodes bundle.points.items) (bundles_noted bundles) m) [
       | inl k ↦ (bundle, here refl, k)
       | inr k ↦ (let w = bundle_of bundles k in (w.0, there w.1, w.2))
     ]
@@ -134,19 +135,19 @@ module _ (host : HostState) (rule : RuleParts) (nodes : List ℕ) (boundary : Bo
   abbrev gone : List ℕ
   gone = plan.gone.items
 
-  after_host : IsHost after
+  pub after_host : IsHost after
   after_host = planned_host host rule nodes boundary plan is_host is_rule occurs is_boundary is_plan within
 
   -- ---- rows before and after
 
-  node_below : {row : NodeRow} → Mem row host.big.nodes → row.id < host.next_node
+  pub node_below : {row : NodeRow} → Mem row host.big.nodes → row.id < host.next_node
   node_below m = All-member (λ (r : NodeRow). r.id < host.next_node) host.big.nodes is_host.numbered.nodes_below m
 
-  edge_below : {edge : ℕ} → Mem edge host.big.edges → edge < host.next_edge
+  pub edge_below : {edge : ℕ} → Mem edge host.big.edges → edge < host.next_edge
   edge_below m = All-member (λ e. e < host.next_edge) host.big.edges is_host.numbered.edges_below m
 
   -- a row that is not dropped is there after, moved
-  there_after : {row : NodeRow} → Mem row host.big.nodes → (IsDropped host.big rule nodes row.id → ⊥) → Mem (moved plan.moves.items row) after.big.nodes
+  pub there_after : {row : NodeRow} → Mem row host.big.nodes → (IsDropped host.big rule nodes row.id → ⊥) → Mem (moved plan.moves.items row) after.big.nodes
   there_after {row} m kept =
       Mem-append_left (map (moved plan.moves.items) (filter (λ (r : NodeRow). not (is_among r.id gone)) host.big.nodes)) (new_rows plan)
       (Mem-map (moved plan.moves.items)
@@ -154,7 +155,7 @@ module _ (host : HostState) (rule : RuleParts) (nodes : List ℕ) (boundary : Bo
       (ap not (is_among-none gone row.id (λ k. kept ((is_plan.gone_are row.id).0 k))))))
 
   -- a row after is new, or was there and is not dropped, with the same number and the same links
-  origin : {row : NodeRow} → Mem row after.big.nodes
+  pub origin : {row : NodeRow} → Mem row after.big.nodes
       → Mem row (new_rows plan) ⊎ ((was : NodeRow) × Mem was host.big.nodes × (was.id ≡ row.id) × (was.links ≡ row.links) × (IsDropped host.big rule nodes was.id → ⊥))
   origin {row} m =
       elim (Mem-append_cases (map (moved plan.moves.items) (filter (λ (r : NodeRow). not (is_among r.id gone)) host.big.nodes)) (new_rows plan) m) [
@@ -171,7 +172,7 @@ module _ (host : HostState) (rule : RuleParts) (nodes : List ℕ) (boundary : Bo
         | inr k ↦ inl k
       ]
 
-  new_above : {row : NodeRow} → Mem row (new_rows plan) → host.next_node ≤ row.id
+  pub new_above : {row : NodeRow} → Mem row (new_rows plan) → host.next_node ≤ row.id
   new_above {row} m =
       (Mem-counted host.next_node _ row.id
       (subst (λ ns. Mem row.id ns) is_plan.rows_are.numbers (Mem-map (λ (r : NodeRow). r.id) m))).0
@@ -199,26 +200,26 @@ module _ (host : HostState) (rule : RuleParts) (nodes : List ℕ) (boundary : Bo
       ∙ sym (points_are after.big link after_host.numbered.ground.no_inner)
 
   -- an edge on a port of a row after is an edge after
-  edge_after : {row : NodeRow} {edge : ℕ} → Mem row after.big.nodes → Mem (Edge edge) row.links → Mem edge after.big.edges
+  pub edge_after : {row : NodeRow} {edge : ℕ} → Mem row after.big.nodes → Mem (Edge edge) row.links → Mem edge after.big.edges
   edge_after {row} {edge} m k =
       member_from_has_edge after.big.edges edge
       (list_all-member (has_link after.big) row.links
       (All-member (λ (r : NodeRow). IsTrue (list_all (has_link after.big) r.links)) after.big.nodes after_host.numbered.ground.valid.links_there m) k)
 
-  edge_before : {row : NodeRow} {edge : ℕ} → Mem row host.big.nodes → Mem (Edge edge) row.links → Mem edge host.big.edges
+  pub edge_before : {row : NodeRow} {edge : ℕ} → Mem row host.big.nodes → Mem (Edge edge) row.links → Mem edge host.big.edges
   edge_before {row} {edge} m k =
       member_from_has_edge host.big.edges edge
       (list_all-member (has_link host.big) row.links
       (All-member (λ (r : NodeRow). IsTrue (list_all (has_link host.big) r.links)) host.big.nodes is_host.numbered.ground.valid.links_there m) k)
 
-  used_above : {edge : ℕ} → Mem edge (edges_of plan.used.items) → host.next_edge ≤ edge
+  pub used_above : {edge : ℕ} → Mem edge (edges_of plan.used.items) → host.next_edge ≤ edge
   used_above {edge} m =
       let w = Mem-unmap (λ own. host.next_edge + own) _ (subst (λ es. Mem edge es) is_plan.used_are.edges m) in
       let is : host.next_edge + w.0 ≡ edge = w.2 in
       omega (arith, is)
 
   -- an idle edge is on no port after
-  idle_gone : {row : NodeRow} {edge : ℕ} → Mem row after.big.nodes → Mem (Edge edge) row.links → Mem edge plan.idle.items → ⊥
+  pub idle_gone : {row : NodeRow} {edge : ℕ} → Mem row after.big.nodes → Mem (Edge edge) row.links → Mem edge plan.idle.items → ⊥
   idle_gone {row} {edge} m k idle =
       elim (Mem-append_cases (filter (λ e. not (is_among e plan.idle.items)) host.big.edges) (edges_of plan.used.items) (edge_after m k)) [
         | inl n ↦ (let w = (Mem-unfilter (λ e. not (is_among e plan.idle.items)) host.big.edges n).1 in
@@ -310,7 +311,7 @@ module _ (host : HostState) (rule : RuleParts) (nodes : List ℕ) (boundary : Bo
       (v.0, v.2, v.3)
 
   -- a node in which an image of a region lies is there, and is not dropped
-  round_row : {node : ℕ} → Mem (Node node) boundary.places → (row : NodeRow) × Mem row host.big.nodes × (row.id ≡ node) × (IsDropped host.big rule nodes row.id → ⊥)
+  pub round_row : {node : ℕ} → Mem (Node node) boundary.places → (row : NodeRow) × Mem row host.big.nodes × (row.id ≡ node) × (IsDropped host.big rule nodes row.id → ⊥)
   round_row m =
       let a = (At-from_Mem m).1 in
       let w = place_row a in

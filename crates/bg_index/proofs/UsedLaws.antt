@@ -1,6 +1,7 @@
 -- The edges of a reactum that are used, and the points that arrive at them.
-use Rattle.std.proofs.Common.{◌≡◌, ℕ, ◌+◌, ◌<◌, Bool, List, [], length, map, filter, nat_cmp, refl, subst, ◌∙◌, arith}
+use Rattle.std.proofs.Common.{◌≡◌, ℕ, ◌+◌, ◌<◌, Bool, List, [], length, map, filter, nat_cmp, refl, sym, ap, subst, ◌∙◌, arith}
 use Rattle.std.proofs.lemmas.Cmp.{nat_cmp_total}
+use Rattle.std.proofs.lemmas.List.{length-map}
 use Rattle.std.proofs.lemmas.Map.Lookups.{exact_unsigned}
 use Rattle.bg_lists.specs.Lists.{Mem}
 use Rattle.bg_lists.specs.Orders.{set_of}
@@ -45,6 +46,14 @@ pub edge_below : (big : Big) (edge : ℕ) → big.edges ≡ counted 0 (length bi
 edge_below big edge e m =
     let w = Mem-unfilter (λ own. has_point big (Edge own)) big.edges m in
     let v = Mem-counted 0 (length big.edges) edge (subst (λ es. Mem edge es) e w.0) in omega (arith, v.1)
+
+-- as many edges are used as the reactum uses
+pub used_many : (host : HostState) (rule : RuleParts) (used : List EdgeEntry)
+    → edges_of used ≡ map (λ own. host.next_edge + own) (filter (λ own. has_point rule.reactum (Edge own)) rule.reactum.edges)
+    → length used ≡ length (filter (λ own. has_point rule.reactum (Edge own)) rule.reactum.edges)
+used_many host rule used edges =
+    sym (length-map used (λ (entry : EdgeEntry). entry.edge)) ∙ ap length edges
+    ∙ length-map (filter (λ own. has_point rule.reactum (Edge own)) rule.reactum.edges) (λ own. host.next_edge + own)
 
 pub used_are : (host : HostState) (rule : RuleParts) (new : List NodeRow) (arrivals : List Arrival) (used : List EdgeEntry)
     → IsValid host.big → AreArrivals host.big.outer new arrivals

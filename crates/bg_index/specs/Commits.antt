@@ -9,7 +9,7 @@ use Rattle.bg_base.specs.declared.names.Place.{Place}
 use Rattle.bg_base.specs.declared.names.Place.TheVariants.{Node, Region}
 use Rattle.bg_base.specs.declared.big.NodeRow.{NodeRow}
 use Rattle.bg_link.specs.declared.graph.Point.{Point}
-use Rattle.bg_rewriting.specs.Keeping.{nodes_with}
+use Rattle.bg_rules.specs.Lookups.{nodes_with}
 use Rattle.bg_rules.specs.Instantiation.{is_among}
 use Rattle.bg_index.specs.declared.entries.ControlEntry.{ControlEntry}
 use Rattle.bg_index.specs.declared.entries.EdgeEntry.{EdgeEntry}
@@ -162,9 +162,13 @@ pub record IsRoomy (control more : ℕ) (entry : ControlEntry) : Type 0 where
   pub named : entry.control ≡ control
   pub room : vec_len entry.nodes + more ≤ vec_capacity entry.nodes
 
--- each control of a row is there, with room for so many more
-abbrev pub AreRoomy : List NodeRow → ℕ → List ControlEntry → Type 0
-AreRoomy rows more controls = (row : NodeRow) → Mem row rows → (entry : ControlEntry) × Mem entry controls × IsRoomy row.control more entry
+-- such a control is there
+abbrev pub HasRoomy : ℕ → ℕ → List ControlEntry → Type 0
+HasRoomy control more controls = (entry : ControlEntry) × Mem entry controls × IsRoomy control more entry
+
+-- each control of the rows is there, with room for its nodes among all of these
+abbrev pub AreRoomy : List NodeRow → List NodeRow → List ControlEntry → Type 0
+AreRoomy rows all controls = (row : NodeRow) → Mem row rows → HasRoomy row.control (length (nodes_with row.control all)) controls
 
 -- ---- links
 

@@ -28,11 +28,6 @@ use Rattle.bg_index.specs.Plans.{move_cmp}
 abbrev pub parts_of : List Part → List (List ℕ)
 parts_of parts = map (λ (part : Part). part.nodes.items) parts
 
--- for each entry whether an earlier one asks for the same site
-pub record AreLate (entries : List ℕ) (late : List Bool) : Type 0 where
-  pub many : length late ≡ length entries
-  pub are : (at site : ℕ) (flag : Bool) → At site at entries → At flag at late → flag ≡ is_among site (take at entries)
-
 -- the nodes at the site where the entry is late, none where it is not
 abbrev pub late_part : List (List ℕ) → Bool → ℕ → List ℕ
 late_part parts late site = if late then slice_index_or parts site [] else []

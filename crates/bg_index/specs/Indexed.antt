@@ -14,7 +14,7 @@ use Rattle.bg_place.specs.declared.graph.Places.{Places}
 use Rattle.bg_place.specs.Places.{places_of, children_of}
 use Rattle.bg_link.specs.declared.graph.Links.{Links}
 use Rattle.bg_link.specs.Links.{links_of, points_of}
-use Rattle.bg_rewriting.specs.Keeping.{nodes_with}
+use Rattle.bg_rules.specs.Lookups.{nodes_with}
 use Rattle.bg_rules.specs.Hosts.{IsHost}
 use Rattle.bg_rules.specs.Reaction.{HostState}
 use Rattle.bg_index.specs.declared.entries.ControlEntry.{ControlEntry}

@@ -1,5 +1,6 @@
 pub mod Arrivals
 pub mod Arriving
+pub mod Causes
 pub mod Commits
 pub mod Copying
 pub mod Going
@@ -8,8 +9,10 @@ pub mod Indexed
 pub mod Making
 pub mod Noting
 pub mod Plans
+pub mod PortNodes
 pub mod Readings
 pub mod Sites
 pub mod Steps
+pub mod Telling
 pub mod Tied
 pub mod Walks

@@ -17,7 +17,8 @@ use Rattle.bg_base.specs.Products.{has_point}
 use Rattle.bg_link.specs.declared.graph.Point.{Point}
 use Rattle.bg_link.specs.Links.{links_of, points_of}
 use Rattle.bg_rewriting.specs.Boundaries.{Boundary, IsBoundary}
-use Rattle.bg_rewriting.specs.Keeping.{nodes_with, ports_on, stays_at}
+use Rattle.bg_rewriting.specs.Keeping.{ports_on, stays_at}
+use Rattle.bg_rules.specs.Lookups.{nodes_with}
 use Rattle.bg_rewriting.specs.Making.{AreDropped, AreIdle}
 use Rattle.bg_rewriting.specs.Rewriting.{IsRowAfter, late_count}
 use Rattle.bg_rewriting.specs.Touching.{IsDropped}
@@ -171,7 +172,8 @@ pub record HasRoom (index : Index) (plan : Plan) : Type 0 where
   pub slots : vec_len index.slots + length plan.entries.items ≤ vec_capacity index.slots
   pub edges : vec_len index.edges + length plan.used.items ≤ vec_capacity index.edges
   pub controls : (entry : NodeEntry) → Mem entry plan.entries.items → (control : ControlEntry) × Mem control index.controls.items
-      × (control.control ≡ entry.row.control) × (vec_len control.nodes + length plan.entries.items ≤ vec_capacity control.nodes)
+      × (control.control ≡ entry.row.control)
+      × (vec_len control.nodes + length (nodes_with entry.row.control (new_rows plan)) ≤ vec_capacity control.nodes)
 
 -- the children of a place: those that are planned for it, or those before where none are
 pub data ChildrenSet (plan : Plan) (place : Place) (before list : List ℕ) : Type 0 where

@@ -1,5 +1,5 @@
 -- What is read off a host round the images of a rule's redex, before the host is changed.
-use Rattle.std.specs.Prelude.{◌≡◌, ◌↔◌, ◌⊎◌, ℕ, ◌<◌, List, length, map}
+use Rattle.std.specs.Prelude.{◌≡◌, ◌↔◌, ◌⊎◌, ℕ, ◌<◌, Bool, List, length, map, take}
 use Rattle.std.specs.List.Sorted.{IsStrictlySortedBy}
 use Rattle.std.specs.Ordering.{nat_cmp}
 use Rattle.bg_lists.specs.Lists.{Mem, At}
@@ -11,6 +11,7 @@ use Rattle.bg_base.specs.declared.names.Link.TheVariants.{Outer}
 use Rattle.bg_base.specs.declared.big.NodeRow.{NodeRow}
 use Rattle.bg_base.specs.declared.big.Big.{Big}
 use Rattle.bg_rewriting.specs.Boundaries.{Boundary, IsBoundary, IsPlaceOf, times_asked}
+use Rattle.bg_rules.specs.Instantiation.{is_among}
 use Rattle.bg_rules.specs.LocalConditions.{IsImage}
 use Rattle.bg_rules.specs.Rules.{RuleParts}
 use Rattle.bg_index.specs.declared.reading.Part.{Part}
@@ -21,13 +22,19 @@ abbrev pub boundary_of : Reading → Boundary
 boundary_of reading =
     record { places = reading.places.items; links = reading.links.items; parts = map (λ (part : Part). part.nodes.items) reading.parts.items }
 
--- the images in order, what lies round them, and how many entries ask for each site
+-- for each entry whether an earlier one asks for the same site
+pub record AreLate (entries : List ℕ) (late : List Bool) : Type 0 where
+  pub many : length late ≡ length entries
+  pub are : (at site : ℕ) (flag : Bool) → At site at entries → At flag at late → flag ≡ is_among site (take at entries)
+
+-- the images in order, what lies round them, how many entries ask for each site, and which are late
 pub record IsReading (host : Big) (rule : RuleParts) (nodes : List ℕ) (reading : Reading) : Type 0 where
   pub images_ascend : IsStrictlySortedBy nat_cmp reading.images.items
   pub images_are : (node : ℕ) → Mem node reading.images.items ↔ Mem node nodes
   pub is_boundary : IsBoundary host rule nodes (boundary_of reading)
   pub asked_many : length reading.asked.items ≡ length rule.redex.sites
   pub asked_are : (site count : ℕ) → At count site reading.asked.items → count ≡ times_asked rule.map site
+  pub late_are : AreLate rule.map reading.late.items
 
 -- ---- as far as the rows of the redex have been looked at
 

@@ -15,7 +15,8 @@ use Rattle.bg_place.specs.Places.{places_of, children_of}
 use Rattle.bg_link.specs.declared.graph.Point.{Point}
 use Rattle.bg_link.specs.Links.{links_of, points_of}
 use Rattle.bg_rewriting.specs.Boundaries.{Boundary}
-use Rattle.bg_rewriting.specs.Keeping.{nodes_with, ports_on, stays_at}
+use Rattle.bg_rewriting.specs.Keeping.{ports_on, stays_at}
+use Rattle.bg_rules.specs.Lookups.{nodes_with}
 use Rattle.bg_rewriting.specs.Touching.{IsDropped}
 use Rattle.bg_rules.specs.Instantiation.{is_among}
 use Rattle.bg_rules.specs.Reaction.{HostState}

@@ -14,33 +14,33 @@ use std::marker::Model;
 /// Nodes, each with the place in which it comes to lie, put in order by their places; beside them their numbers alone. A
 /// contract sees the nodes with their places.
 #[derive(Drop)]
-pub struct Arrivals {
+pub struct NodesByPlace {
     rows: Vec<ParentRow>,
     nodes: Vec<u32>,
 }
 
-impl Model for Arrivals {
+impl Model for NodesByPlace {
     ghost use Rattle.std.specs.Prelude.{List};
     ghost use Rattle.bg_place.specs.declared.graph.ParentRow.{ParentRow as RowOfParent};
     ghost use Rattle.bg_place.specs.Rows.{IsGroups};
 
     ghost Value = { List RowOfParent };
 
-    ghost view = { λ arrivals. arrivals.rows.items };
+    ghost view = { λ placed. placed.rows.items };
 
-    ghost invariant = { λ arrivals. IsGroups arrivals.rows.items arrivals.nodes.items };
+    ghost invariant = { λ placed. IsGroups placed.rows.items placed.nodes.items };
 }
 
-impl Arrivals {
+impl NodesByPlace {
     /// The nodes that move and then the new ones, by their places; those of one place stay in their order. Costs time
     /// n log n in their number.
-    pub fn of(alloc: Global, moves: &[Move], new: &[NodeRow]) -> Mem<Arrivals>
-        ensures { IfOk result (λ arrivals. row.HasGroups arrivals (arriving moves.now new.now)) }
+    pub fn of(alloc: Global, moves: &[Move], new: &[NodeRow]) -> Mem<NodesByPlace>
+        ensures { IfOk result (λ incoming. row.HasGroups incoming (arriving moves.now new.now)) }
     {
         let mut rows = rows_of(alloc, moves, new)?;
         rows.sort_by_key(|row| rank(row.parent))?;
         let nodes = nodes_of(alloc, &rows)?;
-        Ok(Arrivals { rows, nodes })
+        Ok(NodesByPlace { rows, nodes })
     }
 
     /// The nodes that come to lie in the place, in their order. Takes no memory; logarithmic.

@@ -1,58 +1,60 @@
 //! The points that the links of a host are to have after a reaction.
-ghost use Rattle.std.specs.Prelude.{◌≡◌, ◌⊎◌, ◌++◌, ℕ, IfOk, OnOk, IsTrue, filter, map, not};
+ghost use Rattle.std.specs.Prelude.{◌≡◌, ◌⊎◌, ◌++◌, ℕ, List, IfOk, OnOk, IsTrue, filter, map, not};
 ghost use Rattle.std.specs.List.Sorted.{IsStrictlySortedBy, IsNonDecreasingBy};
 ghost use Rattle.std.specs.Ordering.{nat_cmp};
 ghost use Rattle.bg_lists.specs.Lists.{Mem as Member};
+ghost use Rattle.bg_base.specs.declared.big.NodeRow.{NodeRow as NodeRowValue};
 ghost use Rattle.bg_index.specs.declared.plans.Bundle.{Bundle as BundleValue};
 ghost use Rattle.bg_index.specs.declared.plans.LinkKey.{LinkKey as Key};
+ghost use Rattle.bg_index.specs.declared.reading.Reading.{Reading as ReadingValue};
 ghost use Rattle.bg_index.specs.Arrivals as defined;
+ghost use Rattle.bg_index.specs.Arrivals.{AreArrivals};
 ghost use Rattle.bg_index.specs.Plans.{IsRead, AreNewRows, AreBundles};
 ghost use Rattle.bg_index.specs.Readings.{boundary_of};
 ghost use Rattle.bg_place.specs.Places.{places_of, has_node};
 ghost use Rattle.bg_rewriting.specs.Keeping.{stays_at};
-ghost use Rattle.bg_rewriting.specs.Making.{AreDropped, AreIdle};
+ghost use Rattle.bg_rewriting.specs.Making.{AreDropped};
 ghost use Rattle.bg_rules.specs.Hosts.{IsHost};
 ghost use Rattle.bg_rules.specs.Instantiation.{is_among};
+ghost use Rattle.bg_rules.specs.Rules.{RuleParts};
 
 use crate::IndexedHost;
 use crate::idle::is_staying;
 use crate::keys::rank;
 use crate::making::point_copies;
-use crate::parts::is_left;
 use crate::plans::{Bundle, LinkKey};
-use crate::point_arrivals::{Arrival, arrivals_of, push_arriving};
-use crate::reading::Reading;
-use bg_base::{Link, NodeRow};
+use crate::point_arrivals::{Arrival, push_arriving};
+use crate::sets::is_none_of;
+use crate::tied_points::TiedPoints;
+use bg_base::Link;
 use bg_link::Point;
 use bg_lists::{Mem, OutOfMemory};
-use bg_rules::Rule;
 use std::alloc::Global;
 
 /// The links of the host that a node which is gone or a new one is tied to, without those that become idle, each with the
-/// points that stay and then those of the new rows. Costs time n log n in the number of ports of these nodes, and for
-/// each of the links its points.
+/// points that stay and then those of the new rows, which are the arrivals. Costs time n log n in the number of ports of these
+/// nodes, with a search of each among the nodes and links of the host, and time m log g, and memory m, in the number of the
+/// points of these links and of the nodes that are gone.
 pub fn bundles_of(
     alloc: Global,
     host: &IndexedHost,
-    rule: &Rule,
-    map: &[u32],
-    reading: &Reading,
     gone: &[u32],
     idle: &[u32],
-    new: &[NodeRow],
+    arrivals: &[Arrival],
 ) -> Mem<Vec<Bundle>>
-    requires read { IsRead host.now rule.now map.now reading.now }
+    requires host { IsHost host.now }
     requires gone_ascends { IsStrictlySortedBy nat_cmp gone.now }
-    requires gone_are { AreDropped host.now.big rule.now map.now gone.now }
+    requires gone_there { (node : ℕ) → Member node gone.now → IsTrue (has_node (places_of host.now.big) node) }
     requires idle_ascends { IsStrictlySortedBy nat_cmp idle.now }
-    requires idle_are { AreIdle host.now.big rule.now map.now (boundary_of reading.now) idle.now }
-    requires new_are { AreNewRows host.now rule.now map.now (boundary_of reading.now) new.now }
-    ensures { IfOk result (λ bundles. AreBundles host.now rule.now map.now gone.now idle.now new.now bundles.items) }
+    requires rise { IsNonDecreasingBy defined.arrival_rank arrivals.now }
+    ensures { IfOk result (λ bundles. (rule : RuleParts) (nodes : List ℕ) (reading : ReadingValue) (new : List NodeRowValue)
+        → IsRead host.now rule nodes reading → AreDropped host.now.big rule nodes gone.now
+        → AreArrivals host.now.big.outer new arrivals.now → AreNewRows host.now rule nodes (boundary_of reading) new
+        → AreBundles host.now rule nodes gone.now idle.now new bundles.items) }
 {
-    let arrivals = arrivals_of(alloc, host, new)?;
     let lost = lost_keys(alloc, host, gone, idle)?;
-    let keys = keys_of(lost, &arrivals, host.next_edge())?;
-    let bundles = bundles_at(alloc, host, gone, &arrivals, &keys)?;
+    let keys = keys_of(lost, arrivals, host.next_edge())?;
+    let bundles = bundles_at(alloc, host, gone, arrivals, &keys)?;
     Ok(bundles)
 }
 
@@ -95,7 +97,7 @@ fn is_kept(idle: &[u32], key: LinkKey) -> bool
     ensures { result ≡ defined.is_kept idle.now key }
 {
     match key {
-        LinkKey::Edge(edge) => is_left(idle, edge),
+        LinkKey::Edge(edge) => is_none_of(idle, edge),
         LinkKey::Name(_) => true,
     }
 }
@@ -136,7 +138,7 @@ fn is_old(next: u32, key: LinkKey) -> bool
     }
 }
 
-/// The keys in order, each once.
+/// The keys in order, each once. Takes no memory; costs time n log n.
 fn key_set(mut keys: Vec<LinkKey>) -> Vec<LinkKey>
     ensures into { (key : Key) → Member key keys.items → Member key result.items }
     ensures back { (key : Key) → Member key result.items → Member key keys.items }
@@ -186,7 +188,8 @@ fn bundle_at(
     if points.len() > u32::MAX as usize {
         return Err(OutOfMemory);
     }
-    Ok(Bundle { key, points })
+    let tied = TiedPoints::of(alloc, points)?;
+    Ok(Bundle { key, points: tied })
 }
 
 /// Copies of the points that are not on nodes that are gone.

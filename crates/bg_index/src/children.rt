@@ -7,14 +7,11 @@ ghost use Rattle.bg_base.specs.declared.names.Place.{Place as PlaceValue};
 ghost use Rattle.bg_base.specs.declared.names.Place.TheVariants.{Node};
 ghost use Rattle.bg_index.specs.declared.entries.NodeEntry.{NodeEntry as NodeEntryValue};
 ghost use Rattle.bg_index.specs.declared.plans.Nest.{Nest as NestValue};
-ghost use Rattle.bg_index.specs.Arriving.{AreNestedIn, places_in, rows_in};
-ghost use Rattle.bg_index.specs.Plans.{AreFilled, AreMoves, AreNests, AreNewRows, IsRead, rows_after};
-ghost use Rattle.bg_index.specs.Readings.{boundary_of};
+ghost use Rattle.bg_index.specs.Arriving.{AreNestedIn, arriving, places_in, rows_in};
 ghost use Rattle.bg_place.specs.Places.{numbers_in};
-ghost use Rattle.bg_rewriting.specs.Making.{AreDropped};
 
 use crate::IndexedHost;
-use crate::arrivals::Arrivals;
+use crate::arrivals::NodesByPlace;
 use crate::entries::NodeEntry;
 use crate::parts::without;
 use crate::plans::{Move, Nest};
@@ -22,69 +19,67 @@ use crate::reading::Reading;
 use crate::sets::{number_set, place_set};
 use bg_base::{NodeRow, Place};
 use bg_lists::{Mem, copies};
-use bg_rules::Rule;
 use std::alloc::Global;
 
-/// New nodes with what is to lie in them. Looks at the moves and the new rows alone. Costs time n log n in their number.
-pub fn entries_of(
+/// What is to lie in places: new nodes, each with what is to lie in it, and what is to lie in each place round the images.
+#[derive(Drop)]
+pub struct Filling {
+    pub entries: Vec<NodeEntry>,
+    pub nests: Vec<Nest>,
+}
+
+/// The rows, and each place in which an image lay, with what is to lie in them: what lies in such a place and is no image, and
+/// what moves there or is new there. Costs time n log n, and memory n, in the number of the moves and the new rows, of the
+/// regions of the redex, and of what lies in these places.
+pub fn filling_of(
     alloc: Global,
     host: &IndexedHost,
-    rule: &Rule,
-    map: &[u32],
     reading: &Reading,
-    gone: &[u32],
     moves: &[Move],
     new: Vec<NodeRow>,
-) -> Mem<Vec<NodeEntry>>
-    requires read { IsRead host.now rule.now map.now reading.now }
-    requires gone_ascends { IsStrictlySortedBy nat_cmp gone.now }
-    requires gone_are { AreDropped host.now.big rule.now map.now gone.now }
-    requires moves_are { AreMoves host.now rule.now map.now (boundary_of reading.now) moves.now }
-    requires rows_are { AreNewRows host.now rule.now map.now (boundary_of reading.now) new.items }
-    ensures rows { IfOk result (λ entries. rows_in entries.items ≡ new.items) }
-    ensures filled { IfOk result (λ entries. AreFilled (rows_after host.now.big.nodes gone.now moves.now new.items) entries.items) }
+) -> Mem<Filling>
+    requires images_ascend { IsStrictlySortedBy nat_cmp reading.now.images.items }
+    ensures rows { IfOk result (λ filling. rows_in filling.entries.items ≡ new.items) }
+    ensures filled { IfOk result (λ filling. (entry : NodeEntryValue) → Member entry filling.entries.items
+        → entry.children.items ≡ numbers_in (Node entry.row.id) (arriving moves.now new.items)) }
+    ensures places { IfOk result (λ filling. (place : PlaceValue) → (Member place (places_in filling.nests.items) ↔ Member place reading.now.places.items)) }
+    ensures nested { IfOk result (λ filling. (nest : NestValue) → Member nest filling.nests.items
+        → AreNestedIn host.now.big reading.now.images.items (arriving moves.now new.items) nest.place nest.children.items) }
 {
-    let arrivals = Arrivals::of(alloc, moves, &new)?;
-    let entries = filled(alloc, &arrivals, new)?;
-    Ok(entries)
+    let incoming = NodesByPlace::of(alloc, moves, &new)?;
+    let nests = nests_of(alloc, host, reading, &incoming)?;
+    let entries = filled(alloc, &incoming, new)?;
+    Ok(Filling { entries, nests })
 }
 
 /// The rows, each with what arrives in its node.
-fn filled(alloc: Global, arrivals: &Arrivals, new: Vec<NodeRow>) -> Mem<Vec<NodeEntry>>
+fn filled(alloc: Global, incoming: &NodesByPlace, new: Vec<NodeRow>) -> Mem<Vec<NodeEntry>>
     ensures rows { IfOk result (λ entries. rows_in entries.items ≡ new.items) }
     ensures children { IfOk result (λ entries. (entry : NodeEntryValue) → Member entry entries.items
-        → entry.children.items ≡ numbers_in (Node entry.row.id) arrivals.now) }
+        → entry.children.items ≡ numbers_in (Node entry.row.id) incoming.now) }
 {
     let mut entries = Vec::with_capacity(alloc, new.len())?;
     for row in new {
-        let children = copies(alloc, arrivals.in_place(Place::Node(row.id)))?;
+        let children = copies(alloc, incoming.in_place(Place::Node(row.id)))?;
         entries.push(NodeEntry { row, children })?;
     }
     Ok(entries)
 }
 
-/// Each place in which an image lay, with what is to lie in it. Costs time n log n in the number of the moves and the new
-/// nodes, of the regions of the redex, and of what lies in these places.
-pub fn nests_of(
+/// Each place in which an image lay, with its children that are no images and what arrives there.
+fn nests_of(
     alloc: Global,
     host: &IndexedHost,
-    rule: &Rule,
-    map: &[u32],
     reading: &Reading,
-    gone: &[u32],
-    moves: &[Move],
-    new: &[NodeRow],
+    incoming: &NodesByPlace,
 ) -> Mem<Vec<Nest>>
-    requires read { IsRead host.now rule.now map.now reading.now }
-    requires gone_ascends { IsStrictlySortedBy nat_cmp gone.now }
-    requires gone_are { AreDropped host.now.big rule.now map.now gone.now }
-    requires moves_are { AreMoves host.now rule.now map.now (boundary_of reading.now) moves.now }
-    requires rows_are { AreNewRows host.now rule.now map.now (boundary_of reading.now) new.now }
-    ensures { IfOk result (λ nests. AreNests (boundary_of reading.now) (rows_after host.now.big.nodes gone.now moves.now new.now) nests.items) }
+    requires images_ascend { IsStrictlySortedBy nat_cmp reading.now.images.items }
+    ensures places { IfOk result (λ nests. (place : PlaceValue) → (Member place (places_in nests.items) ↔ Member place reading.now.places.items)) }
+    ensures nested { IfOk result (λ nests. (nest : NestValue) → Member nest nests.items
+        → AreNestedIn host.now.big reading.now.images.items incoming.now nest.place nest.children.items) }
 {
-    let arrivals = Arrivals::of(alloc, moves, new)?;
     let places = places_once(alloc, &reading.places)?;
-    let nests = nests_at(alloc, host, &reading.images, &arrivals, &places)?;
+    let nests = nests_at(alloc, host, &reading.images, incoming, &places)?;
     Ok(nests)
 }
 
@@ -101,17 +96,17 @@ fn nests_at(
     alloc: Global,
     host: &IndexedHost,
     images: &[u32],
-    arrivals: &Arrivals,
+    incoming: &NodesByPlace,
     places: &[Place],
 ) -> Mem<Vec<Nest>>
     requires ascending { IsStrictlySortedBy nat_cmp images.now }
     ensures places { IfOk result (λ nests. places_in nests.items ≡ places.now) }
     ensures nested { IfOk result (λ nests. (nest : NestValue) → Member nest nests.items
-        → AreNestedIn host.now.big images.now arrivals.now nest.place nest.children.items) }
+        → AreNestedIn host.now.big images.now incoming.now nest.place nest.children.items) }
 {
     let mut nests = Vec::with_capacity(alloc, places.len())?;
     for place in places {
-        let children = nested(alloc, host, images, arrivals, *place)?;
+        let children = nested(alloc, host, images, incoming, *place)?;
         nests.push(Nest {
             place: *place,
             children,
@@ -125,13 +120,13 @@ fn nested(
     alloc: Global,
     host: &IndexedHost,
     images: &[u32],
-    arrivals: &Arrivals,
+    incoming: &NodesByPlace,
     place: Place,
 ) -> Mem<Vec<u32>>
     requires ascending { IsStrictlySortedBy nat_cmp images.now }
-    ensures { IfOk result (λ children. AreNestedIn host.now.big images.now arrivals.now place children.items) }
+    ensures { IfOk result (λ children. AreNestedIn host.now.big images.now incoming.now place children.items) }
 {
     let mut children = without(alloc, host.children(place), images)?;
-    children.extend_from_slice(arrivals.in_place(place))?;
+    children.extend_from_slice(incoming.in_place(place))?;
     Ok(number_set(children))
 }

@@ -9,8 +9,9 @@ use crate::commit_nodes::change_nodes;
 use crate::entries::Index;
 use crate::plans::Plan;
 
-/// Carries out the plan, for which there is room. Takes no memory. It costs a look-up for each node, place and link that the
-/// plan names; of a list of which few go what stands behind each is moved up, and one of which many go is passed over once.
+/// Carries out the plan, for which there is room. Takes no memory. Costs, for each node, place and link that the plan names, a
+/// search in each list in which it stands. Besides, of a list from which items go what stands behind each moves up, or the list
+/// is passed over once.
 pub fn carry_out(index: &mut Index, plan: Plan)
     requires index { IsIndex index.old }
     requires room { HasRoom index.old plan }

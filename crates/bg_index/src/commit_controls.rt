@@ -1,11 +1,11 @@
 //! The nodes of each control, as nodes are taken out and put behind. Takes no memory.
-ghost use Rattle.std.specs.Prelude.{◌≡◌, ◌+◌, ◌<◌, ◌++◌, ◌∷◌, [], true, ℕ, List, length, map, vec_len, vec_capacity};
+ghost use Rattle.std.specs.Prelude.{◌≡◌, ◌+◌, ◌<◌, ◌++◌, ◌∷◌, [], true, ℕ, List, vec_len, vec_capacity};
 ghost use Rattle.std.specs.List.Sorted.{IsStrictlySortedBy};
 ghost use Rattle.std.specs.Ordering.{nat_cmp};
 ghost use Rattle.bg_lists.specs.Lists.{Mem};
 ghost use Rattle.bg_index.specs.declared.entries.ControlEntry.{ControlEntry as ControlValue};
-ghost use Rattle.bg_index.specs.declared.entries.NodeEntry.{NodeEntry as NodeEntryValue};
-ghost use Rattle.bg_index.specs.Commits.{AreFrom, AreHeld, AreRoomy, HasMore, IsLessened, IsTakenOut, IsThinned, IsWithout, control_key};
+ghost use Rattle.bg_index.specs.Arriving.{rows_in};
+ghost use Rattle.bg_index.specs.Commits.{AreFrom, AreHeld, AreRoomy, HasMore, HasRoomy, IsLessened, IsTakenOut, IsThinned, IsWithout, control_key};
 ghost use Rattle.bg_index.specs.Indexed.{AreSorted, control_cmp, rows_of};
 ghost use Rattle.bg_rules.specs.Instantiation.{is_among};
 
@@ -85,8 +85,8 @@ fn leave_node(entry: &mut ControlEntry, node: u32, gone: &[u32])
 /// Puts the nodes of new entries behind the others of their controls, where there is room for them.
 pub fn put_in(controls: &mut Vec<ControlEntry>, entries: &[NodeEntry])
     requires ascending { IsStrictlySortedBy control_cmp controls.old.items }
-    requires room { AreRoomy (map (λ (entry : NodeEntryValue). entry.row) entries.now) (length entries.now) controls.old.items }
-    ensures { AreFrom control_key (HasMore (map (λ (entry : NodeEntryValue). entry.row) entries.now)) controls.old.items controls.new.items }
+    requires room { AreRoomy (rows_in entries.now) (rows_in entries.now) controls.old.items }
+    ensures { AreFrom control_key (HasMore (rows_in entries.now)) controls.old.items controls.new.items }
 {
     for entry in entries {
         put_node(controls, &entry.row);
@@ -96,7 +96,7 @@ pub fn put_in(controls: &mut Vec<ControlEntry>, entries: &[NodeEntry])
 /// Puts the node of a row behind the others of its control, where there is room for it.
 fn put_node(controls: &mut Vec<ControlEntry>, row: &NodeRow)
     requires ascending { IsStrictlySortedBy control_cmp controls.old.items }
-    requires room { AreRoomy (row.now ∷ []) 1 controls.old.items }
+    requires room { HasRoomy row.now.control 1 controls.old.items }
     ensures { AreFrom control_key (HasMore (row.now ∷ [])) controls.old.items controls.new.items }
 {
     match controls.binary_search_by_key(&row.control, |entry| entry.control) {

@@ -13,7 +13,7 @@ ghost use Rattle.bg_index.specs.Plans.{move_cmp};
 ghost use Rattle.bg_rules.specs.Instantiation.{is_among};
 
 use crate::entries::{NodeEntry, RegionEntry, Slot, find_slot};
-use crate::leaving::{FEW, stays};
+use crate::leaving::{is_cheaper_singly, stays};
 use crate::plans::{Move, Nest};
 use bg_base::Place;
 use slab::Slab;
@@ -45,7 +45,7 @@ pub fn change_nodes(
     push_entries(nodes, slots, entries);
 }
 
-/// Takes these nodes out. A pass over the slots where they are many.
+/// Takes these nodes out.
 fn drop_nodes(nodes: &mut Slab<NodeEntry>, slots: &mut Vec<Slot>, gone: &[u32])
     requires held { AreHeld nodes.old slots.old.items }
     requires ascending { IsStrictlySortedBy nat_cmp gone.now }
@@ -95,7 +95,8 @@ fn take_entry(nodes: &mut Slab<NodeEntry>, at: usize)
     let _taken = nodes.try_remove(at);
 }
 
-/// Keeps the slots of the nodes that are none of these.
+/// Keeps the slots of the nodes that are none of these: takes the others out one by one where that costs less, else passes over
+/// all.
 fn keep_slots(slots: &mut Vec<Slot>, gone: &[u32])
     requires slots_ascend { IsStrictlySortedBy slot_cmp slots.old.items }
     requires ascending { IsStrictlySortedBy nat_cmp gone.now }
@@ -103,10 +104,18 @@ fn keep_slots(slots: &mut Vec<Slot>, gone: &[u32])
     ensures count { vec_len slots.new ≤ vec_len slots.old }
     ensures capacity { vec_capacity slots.new ≡ vec_capacity slots.old }
 {
-    if gone.len() < FEW {
+    if is_cheaper_singly(gone.len(), behind_first(slots, gone), slots.len()) {
         take_slots(slots, gone);
     } else {
         slots.retain(|slot| stays(gone, slot.node));
+    }
+}
+
+/// How many slots stand behind that of the first of these nodes, or are that. Logarithmic.
+fn behind_first(slots: &[Slot], gone: &[u32]) -> usize {
+    match gone.first() {
+        Some(first) => slots.len() - slots.partition_point(|slot| slot.node < *first),
+        None => 0,
     }
 }
 
@@ -199,13 +208,13 @@ fn set_nest(nodes: &mut Slab<NodeEntry>, slots: &[Slot], regions: &mut Vec<Regio
     ensures capacity { nodes.new.capacity ≡ nodes.old.capacity }
 {
     match nest.place {
-        Place::Node(node) => set_node(nodes, slots, node, nest),
-        Place::Region(region) => set_region(regions, region, nest),
+        Place::Node(node) => fill_node(nodes, slots, node, nest),
+        Place::Region(region) => fill_region(regions, region, nest),
     }
 }
 
-/// Sets what lies in the node of the nest.
-fn set_node(nodes: &mut Slab<NodeEntry>, slots: &[Slot], node: u32, nest: Nest)
+/// Fills the node of the nest with what is to lie in it.
+fn fill_node(nodes: &mut Slab<NodeEntry>, slots: &[Slot], node: u32, nest: Nest)
     requires held { AreHeld nodes.old slots.now }
     requires place { nest.place ≡ Place.Node node }
     ensures nodes { LeadOn (IsFilled (nest ∷ [])) nodes.old nodes.new slots.now }
@@ -219,8 +228,8 @@ fn set_node(nodes: &mut Slab<NodeEntry>, slots: &[Slot], node: u32, nest: Nest)
     }
 }
 
-/// Sets what lies in the region of the nest.
-fn set_region(regions: &mut Vec<RegionEntry>, region: u32, nest: Nest)
+/// Fills the region of the nest with what is to lie in it.
+fn fill_region(regions: &mut Vec<RegionEntry>, region: u32, nest: Nest)
     requires place { nest.place ≡ Place.Region region }
     ensures { AreBeside (IsRegionFilled (nest ∷ [])) regions.old.items regions.new.items }
 {

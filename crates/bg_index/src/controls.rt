@@ -4,6 +4,7 @@ ghost use Rattle.std.specs.List.Sorted.{IsStrictlySortedBy};
 ghost use Rattle.bg_lists.specs.Lists.{At};
 ghost use Rattle.bg_base.specs.declared.big.NodeRow.{NodeRow as NodeRowValue};
 ghost use Rattle.bg_index.specs.declared.entries.ControlEntry.{ControlEntry as ControlValue};
+ghost use Rattle.bg_index.specs.Commits.{AreRoomier};
 ghost use Rattle.bg_index.specs.Indexed.{AreSorted, control_cmp};
 
 use crate::entries::ControlEntry;
@@ -34,12 +35,14 @@ fn add_node(alloc: Global, controls: &mut Vec<ControlEntry>, control: u32, node:
     Ok(())
 }
 
-/// The position of the control, which is put among the others where it is not there.
-fn control_at(alloc: Global, controls: &mut Vec<ControlEntry>, control: u32) -> Mem<usize>
+/// The position of the control, which is put among the others where it is not there. Costs a search, and moving the controls
+/// behind it.
+pub fn control_at(alloc: Global, controls: &mut Vec<ControlEntry>, control: u32) -> Mem<usize>
     requires ascending { IsStrictlySortedBy control_cmp controls.old.items }
     ensures there { IfOk result (λ at. (entry : ControlValue) × At entry at controls.new.items × (entry.control ≡ control)) }
-    ensures ascending { OnOk result (IsStrictlySortedBy control_cmp controls.new.items) }
-    ensures sorted { OnOk result ((rows : List NodeRowValue) → AreSorted rows controls.old.items → AreSorted rows controls.new.items) }
+    ensures ascending { IsStrictlySortedBy control_cmp controls.new.items }
+    ensures roomier { AreRoomier controls.old.items controls.new.items }
+    ensures sorted { (rows : List NodeRowValue) → AreSorted rows controls.old.items → AreSorted rows controls.new.items }
 {
     match controls.binary_search_by_key(&control, |entry| entry.control) {
         Ok(at) => Ok(at),

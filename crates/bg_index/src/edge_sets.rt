@@ -1,7 +1,5 @@
 //! The edges on ports of rows.
 ghost use Rattle.std.specs.Prelude.{◌≡◌, ◌++◌, OnOk};
-ghost use Rattle.std.specs.Ordering.{nat_cmp};
-ghost use Rattle.bg_lists.specs.Orders.{set_of};
 ghost use Rattle.bg_index.specs.Tied as tied;
 
 use bg_base::Link;
@@ -26,13 +24,4 @@ pub fn push_edge(link: &Link, edges: &mut Vec<u32>) -> Mem<()>
         Link::Outer(_) => {}
     }
     Ok(())
-}
-
-/// The edges in order, each once.
-pub fn edge_set(mut edges: Vec<u32>) -> Vec<u32>
-    ensures { result.items ≡ set_of nat_cmp edges.items }
-{
-    edges.sort_unstable();
-    edges.dedup();
-    edges
 }

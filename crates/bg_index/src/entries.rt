@@ -10,8 +10,8 @@ ghost use Rattle.bg_index.specs.declared.entries.EdgeEntry.{EdgeEntry as EdgeVal
 ghost use Rattle.bg_index.specs.declared.entries.ControlEntry.{ControlEntry as ControlValue};
 ghost use Rattle.bg_index.specs.Indexed.{slot_cmp, edge_cmp, control_cmp};
 
+use crate::tied_points::TiedPoints;
 use bg_base::{Name, NodeRow};
-use bg_link::Point;
 use bg_lists::Rows;
 use slab::Slab;
 
@@ -39,13 +39,13 @@ pub struct RegionEntry {
 #[derive(Drop)]
 pub struct EdgeEntry {
     pub edge: u32,
-    pub points: Vec<Point>,
+    pub points: TiedPoints,
 }
 
 /// An outer name, by its position: the points that are tied to it.
 #[derive(Drop)]
 pub struct NameEntry {
-    pub points: Vec<Point>,
+    pub points: TiedPoints,
 }
 
 /// A control and the nodes that have it.

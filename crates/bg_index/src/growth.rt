@@ -1,18 +1,16 @@
 //! Whether a host has room for what a reaction makes of it, counted before any of it is made.
-ghost use Rattle.std.specs.Prelude.{◌≡◌, ◌↔◌, ◌≤◌, ◌<◌, ◌+◌, ◌^◌, [], length, IfOk, IsTrue, MatchOption};
-ghost use Rattle.bg_base.specs.Limits.{most_host_nodes, most_host_edges, largest_counter};
+ghost use Rattle.std.specs.Prelude.{◌≡◌, ◌↔◌, ◌≤◌, ◌<◌, ◌+◌, ◌^◌, [], length, IsTrue, MatchOption};
+ghost use Rattle.bg_base.specs.Limits.{largest_counter};
 ghost use Rattle.bg_rewriting.specs.Rewriting.{late_count};
 ghost use Rattle.bg_rules.specs.Hosts.{IsHost};
 ghost use Rattle.bg_index.specs.Growth.{HasNumbers};
-ghost use Rattle.bg_index.specs.Readings.{boundary_of};
+ghost use Rattle.bg_index.specs.Readings.{AreLate, boundary_of};
 
 use crate::IndexedHost;
 use crate::late::count_late;
 use crate::reading::Reading;
-use bg_base::limits::{LARGEST_COUNTER, MOST_HOST_EDGES, MOST_HOST_NODES};
-use bg_lists::Mem;
+use bg_base::limits::{LARGEST_COUNTER, MOST_HOST_NODES};
 use bg_rules::Rule;
-use std::alloc::Global;
 
 /// The numbers that the next node and the next edge of a host will get, once a reaction took place.
 #[derive(Clone, Copy)]
@@ -21,26 +19,24 @@ pub struct Counters {
     pub next_edge: u32,
 }
 
-/// The counters; none where the nodes after the reaction or a counter pass their limit. Costs time n log n, and memory n,
-/// in the number of the rule's sites.
+/// The counters after the reaction by the rule; none where the nodes after it, or a counter, pass their limit. Costs time in
+/// proportion to the entries of the rule's map, and takes no memory.
 pub fn counters_after(
-    alloc: Global,
     host: &IndexedHost,
     rule: &Rule,
     reading: &Reading,
     gone: &[u32],
-) -> Mem<Option<Counters>>
+) -> Option<Counters>
     requires is_host { IsHost host.now }
-    ensures { IfOk result (λ found. MatchOption found
+    requires late { AreLate rule.now.map reading.now.late.items }
+    ensures { MatchOption result
         (HasNumbers host.now rule.now (late_count (boundary_of reading.now).parts [] rule.now.map) gone.now → ⊥)
         (λ counters. HasNumbers host.now rule.now (late_count (boundary_of reading.now).parts [] rule.now.map) gone.now
         × (counters.next_node ≡ host.now.next_node + length rule.now.reactum.nodes + late_count (boundary_of reading.now).parts [] rule.now.map)
-        × (counters.next_edge ≡ host.now.next_edge + length rule.now.reactum.edges))) }
+        × (counters.next_edge ≡ host.now.next_edge + length rule.now.reactum.edges)) }
 {
-    let Some(late) = count_late(alloc, reading, rule.map(), LARGEST_COUNTER)? else {
-        return Ok(None);
-    };
-    Ok(counters_with(host, rule, gone, late))
+    let late = count_late(reading, rule.map(), LARGEST_COUNTER)?;
+    counters_with(host, rule, gone, late)
 }
 
 /// The same, where the late copies have so many nodes.
@@ -53,7 +49,7 @@ fn counters_with(host: &IndexedHost, rule: &Rule, gone: &[u32], late: u32) -> Op
         × (counters.next_edge ≡ host.now.next_edge + length rule.now.reactum.edges)) }
 {
     let made = u64::from(rule.reactum().nodes.len()) + u64::from(late);
-    if !is_room(host.node_count(), made, gone.len()) {
+    if !is_room(MOST_HOST_NODES, host.node_count(), made, gone.len()) {
         return None;
     }
     let next_node = counter_after(host.next_node(), made)?;
@@ -64,14 +60,13 @@ fn counters_with(host: &IndexedHost, rule: &Rule, gone: &[u32], late: u32) -> Op
     })
 }
 
-/// Whether there is room for so many more nodes, or edges, beside those that are there, when so many are gone.
-pub fn is_room(there: u32, more: u64, gone: usize) -> bool
-    requires few_there { there ≤ most_host_nodes }
+/// Whether so many more have room beside those that are there, when so many of them are gone and `most` may be there.
+pub fn is_room(most: u32, there: u32, more: u64, gone: usize) -> bool
     requires few_more { more < 2 ^ 33 }
-    ensures { IsTrue result ↔ (there + more ≤ most_host_nodes + gone) }
+    ensures { IsTrue result ↔ (there + more ≤ most + gone) }
 {
     let all = u64::from(there) + more;
-    all <= u64::from(MOST_HOST_NODES) || all - u64::from(MOST_HOST_NODES) <= gone as u64
+    all <= u64::from(most) || all - u64::from(most) <= gone as u64
 }
 
 /// The counter after so many new numbers, none where it passes its limit.

@@ -1,11 +1,10 @@
 //! The edges of a host that a reaction leaves without points.
-ghost use Rattle.std.specs.Prelude.{◌≡◌, ◌++◌, ℕ, IfOk, OnOk, IsTrue, filter, length, not, option_copied, slice_get};
+ghost use Rattle.std.specs.Prelude.{◌≡◌, ◌++◌, ℕ, IfOk, OnOk, IsTrue, filter, length, not, option_copied};
 ghost use Rattle.std.specs.List.{list_any};
 ghost use Rattle.std.specs.List.Sorted.{IsStrictlySortedBy};
 ghost use Rattle.std.specs.Ordering.{nat_cmp};
 ghost use Rattle.bg_lists.specs.Lists.{Mem as Member};
 ghost use Rattle.bg_base.specs.Order.{name_cmp};
-ghost use Rattle.bg_base.specs.declared.names.Link.TheVariants.{Outer};
 ghost use Rattle.bg_index.specs.Plans.{IsRead};
 ghost use Rattle.bg_index.specs.Readings.{boundary_of};
 ghost use Rattle.bg_index.specs.Tied as tied;
@@ -15,9 +14,10 @@ ghost use Rattle.bg_rewriting.specs.Making.{AreDropped, AreIdle};
 ghost use Rattle.bg_rules.specs.Instantiation.{is_among};
 
 use crate::IndexedHost;
-use crate::edge_sets::{edge_set, push_edge, push_edges};
-use crate::parts::is_left;
+use crate::edge_sets::{push_edge, push_edges};
+use crate::link_names::link_beside;
 use crate::reading::Reading;
+use crate::sets::{is_none_of, number_set};
 use bg_base::{Link, Name, NodeRow};
 use bg_link::Point;
 use bg_lists::Mem;
@@ -42,7 +42,7 @@ pub fn idle_of(
 {
     let named = edges_named(alloc, rule, &reading.links)?;
     let edges = edges_on(alloc, host, gone)?;
-    let idle = left_idle(host, &edge_set(named), gone, edge_set(edges));
+    let idle = left_idle(host, &number_set(named), gone, number_set(edges));
     Ok(idle)
 }
 
@@ -63,7 +63,7 @@ fn is_left_idle(host: &IndexedHost, named: &[u32], gone: &[u32], edge: u32) -> b
     requires gone_ascends { IsStrictlySortedBy nat_cmp gone.now }
     ensures { result ≡ tied.is_left_idle host.now.big named.now gone.now edge }
 {
-    is_left(named, edge) && !some_stays(host.points(&Link::Edge(edge)), gone)
+    is_none_of(named, edge) && !some_stays(host.points(&Link::Edge(edge)), gone)
 }
 
 /// Whether one of the points is not on a node that is gone.
@@ -80,7 +80,7 @@ pub fn is_staying(point: &Point, gone: &[u32]) -> bool
     ensures { result ≡ stays_at (λ node. not (is_among node gone.now)) point.now }
 {
     match point {
-        Point::Port { node, .. } => is_left(gone, *node),
+        Point::Port { node, .. } => is_none_of(gone, *node),
         Point::Inner(_) => true,
     }
 }
@@ -148,25 +148,7 @@ fn link_named<'a>(outer: &[Name], links: &'a [Link], port: &Link) -> Option<&'a 
     ensures { option_copied result ≡ tied.link_named outer.now links.now port.now }
 {
     match port {
-        Link::Outer(name) => find_named(outer, links, name),
+        Link::Outer(name) => link_beside(outer, links, name),
         Link::Edge(_) => None,
     }
-}
-
-/// The link beside the outer name.
-fn find_named<'a>(outer: &[Name], links: &'a [Link], name: &Name) -> Option<&'a Link>
-    requires outer_ascends { IsStrictlySortedBy name_cmp outer.now }
-    requires beside { length links.now ≡ length outer.now }
-    ensures { option_copied result ≡ tied.link_named outer.now links.now (Outer name.now) }
-{
-    match outer.binary_search(name) {
-        Ok(at) => link_at(links, at),
-        Err(_) => None,
-    }
-}
-
-fn link_at(links: &[Link], at: usize) -> Option<&Link>
-    ensures { option_copied result ≡ slice_get links.now at }
-{
-    links.get(at)
 }

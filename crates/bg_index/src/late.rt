@@ -1,8 +1,7 @@
 //! Which entries of a map are late: an earlier entry asks for the same site.
 ghost use Rattle.std.specs.Prelude.{◌≡◌, ◌<◌, ◌≤◌, [], IfOk, MatchOption, slice_index_or};
 ghost use Rattle.bg_index.specs.Copying as copying;
-ghost use Rattle.bg_index.specs.Copying.{AreLate};
-ghost use Rattle.bg_index.specs.Readings.{boundary_of};
+ghost use Rattle.bg_index.specs.Readings.{AreLate, boundary_of};
 ghost use Rattle.bg_rewriting.specs.Rewriting.{late_count};
 
 use crate::reading::{Part, Reading};
@@ -40,21 +39,21 @@ fn part_at(parts: &[Part], site: u32) -> &[u32]
     }
 }
 
-/// How many nodes the late copies will have, None where that passes `most`. Costs time n log n and memory n in the
-/// number of entries.
-pub fn count_late(alloc: Global, reading: &Reading, entries: &[u32], most: u32) -> Mem<Option<u32>>
-    ensures { IfOk result (λ found. MatchOption found
+/// How many nodes the late copies will have, none where that passes `most`. Costs time in proportion to the entries, and
+/// takes no memory.
+pub fn count_late(reading: &Reading, entries: &[u32], most: u32) -> Option<u32>
+    requires late { AreLate entries.now reading.now.late.items }
+    ensures { MatchOption result
         (most < late_count (boundary_of reading.now).parts [] entries.now)
-        (λ count. (count ≡ late_count (boundary_of reading.now).parts [] entries.now) × (count ≤ most))) }
+        (λ count. (count ≡ late_count (boundary_of reading.now).parts [] entries.now) × (count ≤ most)) }
 {
-    let late = late_entries(alloc, entries)?;
     let mut count = 0;
     for (at, site) in entries.iter().enumerate() {
-        let nodes = late_part(&reading.parts, late[at], *site).len();
+        let nodes = late_part(&reading.parts, reading.late[at], *site).len();
         if nodes > (most - count) as usize {
-            return Ok(None);
+            return None;
         }
         count += nodes as u32;
     }
-    Ok(Some(count))
+    Some(count)
 }

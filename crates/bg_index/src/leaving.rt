@@ -6,27 +6,29 @@ ghost use Rattle.bg_lists.specs.Lists.{Mem};
 ghost use Rattle.bg_index.specs.Commits.{IsThinned};
 ghost use Rattle.bg_rules.specs.Instantiation.{is_among};
 
-/// Fewer than so many are taken out one by one, each by moving up what stands behind it; for more a list is passed over.
+use crate::sets::is_none_of;
+
+/// In the time in which one item is looked at, so many are moved up: fewer than so many are best taken out one by one, wherever
+/// they stand.
 pub const FEW: usize = 16;
 
-/// Whether the number is one of these, which ascend.
-fn is_gone(gone: &[u32], number: u32) -> bool
-    requires ascending { IsStrictlySortedBy nat_cmp gone.now }
-    ensures { result ≡ is_among number gone.now }
-{
-    gone.binary_search(&number).is_ok()
+/// Whether it costs less to take so many items out one by one, each by moving up what stands behind it, at most so many items,
+/// than to look at all items of the list once.
+pub fn is_cheaper_singly(gone: usize, behind: usize, all: usize) -> bool {
+    gone.saturating_mul(behind) < FEW.saturating_mul(all)
 }
 
-/// Whether the number is none of these, which ascend.
+/// Whether the number is none of those that are gone, which ascend. Logarithmic.
 pub fn stays(gone: &[u32], number: u32) -> bool
     requires ascending { IsStrictlySortedBy nat_cmp gone.now }
     ensures { result ≡ not (is_among number gone.now) }
 {
-    !is_gone(gone, number)
+    is_none_of(gone, number)
 }
 
-/// Leaves a number that is gone out of a list that ascends: it alone where few are gone, else all that are at once, so that
-/// a list is passed over once for many.
+/// Leaves a number that is gone out of a list that ascends: it alone where that costs less, else all that are at once. So for
+/// all numbers that are gone a list costs a search for each and moving up what stands behind it, and in all no more than looking
+/// at each of its items twice.
 pub fn leave_out(numbers: &mut Vec<u32>, number: u32, gone: &[u32])
     requires numbers_ascend { IsStrictlySortedBy nat_cmp numbers.old.items }
     requires gone_ascend { IsStrictlySortedBy nat_cmp gone.now }
@@ -37,7 +39,7 @@ pub fn leave_out(numbers: &mut Vec<u32>, number: u32, gone: &[u32])
 {
     match numbers.binary_search(&number) {
         Ok(at) => {
-            if gone.len() < FEW {
+            if is_cheaper_singly(gone.len(), numbers.len() - at, numbers.len()) {
                 take_at(numbers, at);
             } else {
                 keep(numbers, gone);

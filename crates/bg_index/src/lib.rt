@@ -6,6 +6,7 @@
 
 mod arrivals;
 mod bundles;
+mod causes;
 mod children;
 mod commit;
 mod commit_controls;
@@ -22,6 +23,7 @@ mod keys;
 mod late;
 mod laws;
 mod leaving;
+mod link_names;
 mod making;
 mod moves;
 mod new_rows;
@@ -32,9 +34,11 @@ mod point_arrivals;
 mod reading;
 mod room;
 mod sets;
+mod tied_points;
 mod touched;
 mod used;
 
+pub use causes::{Causes, Relinked};
 pub use indexed_host::IndexedHost;
 pub use laws::steps_leave_an_index;
 pub use touched::Touched;

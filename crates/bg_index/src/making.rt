@@ -16,6 +16,7 @@ ghost use Rattle.bg_place.specs.Places.{places_of, children_of};
 
 use crate::controls::controls_of;
 use crate::entries::{EdgeEntry, Index, NameEntry, NodeEntry, RegionEntry, Slot};
+use crate::tied_points::TiedPoints;
 use bg_base::{Big, Link, Name, NodeRow, Place};
 use bg_link::{Point, Wiring};
 use bg_lists::{Duplicate, Mem, OutOfMemory, copies};
@@ -183,7 +184,7 @@ fn names_of(alloc: Global, wiring: &Wiring, outer: &[Name]) -> Mem<Vec<NameEntry
 }
 
 /// Copies of the points of a link, where 32 bits can count them.
-fn points_on(alloc: Global, wiring: &Wiring, link: &Link) -> Mem<Vec<Point>>
+fn points_on(alloc: Global, wiring: &Wiring, link: &Link) -> Mem<TiedPoints>
     ensures points { IfOk result (λ made. made.items ≡ points_of wiring.now link.now) }
     ensures few { IfOk result (λ made. length made.items < 2 ^ 32) }
 {
@@ -191,7 +192,8 @@ fn points_on(alloc: Global, wiring: &Wiring, link: &Link) -> Mem<Vec<Point>>
     if points.len() > u32::MAX as usize {
         return Err(OutOfMemory);
     }
-    let made = point_copies(alloc, points)?;
+    let copies = point_copies(alloc, points)?;
+    let made = TiedPoints::of(alloc, copies)?;
     Ok(made)
 }
 

@@ -11,12 +11,11 @@ ghost use Rattle.bg_rules.specs.LocalConditions as local;
 ghost use Rattle.bg_index.specs.Copying as copying;
 ghost use Rattle.bg_index.specs.Copying.{AreMoved};
 ghost use Rattle.bg_index.specs.Plans.{AreMoves, IsRead};
-ghost use Rattle.bg_index.specs.Readings.{boundary_of};
+ghost use Rattle.bg_index.specs.Readings.{AreLate, boundary_of};
 
 use crate::IndexedHost;
-use crate::late::late_entries;
 use crate::new_rows::top_made;
-use crate::parts::without;
+use crate::parts::tops_of;
 use crate::plans::Move;
 use crate::reading::Reading;
 use bg_base::{Big, Place};
@@ -44,7 +43,7 @@ pub fn moves_of(
     Ok(moves)
 }
 
-/// The same in the order of the entries.
+/// The same in the order of the entries. Costs what `tops_of` costs for each entry that is not late.
 fn collected(
     alloc: Global,
     host: &IndexedHost,
@@ -55,10 +54,10 @@ fn collected(
 ) -> Mem<Vec<Move>>
     requires read { IsRead host.now rule.now map.now reading.now }
     requires entries { entries.now ≡ rule.now.map }
+    requires late { AreLate entries.now reading.now.late.items }
     requires nodes_room { host.now.next_node + length rule.now.reactum.nodes + late_count (boundary_of reading.now).parts [] rule.now.map ≤ largest_counter }
     ensures { IfOk result (λ moves. AreMoved host.now rule.now map.now (boundary_of reading.now) (length entries.now) moves.items) }
 {
-    let late = late_entries(alloc, entries)?;
     let mut moves = Vec::new(alloc);
     for (at, site) in entries.iter().enumerate() {
         let place = top_made(host, rule, reading, at);
@@ -68,7 +67,7 @@ fn collected(
             rule.redex().big(),
             map,
             &reading.images,
-            late[at],
+            reading.late[at],
             *site,
         )?;
         push_moves(&nodes, place, &mut moves)?;
@@ -98,20 +97,11 @@ fn tops_at(
     }
     match redex.sites[site as usize] {
         Place::Node(node) => {
-            let tops = tops_in(alloc, host, images, image_of(redex, map, node))?;
+            let tops = tops_of(alloc, host, images, image_of(redex, map, node))?;
             Ok(tops)
         }
         Place::Region(_) => Ok(Vec::new(alloc)),
     }
-}
-
-/// What lies in the image and is no image.
-fn tops_in(alloc: Global, host: &IndexedHost, images: &[u32], image: u32) -> Mem<Vec<u32>>
-    requires images { IsStrictlySortedBy nat_cmp images.now }
-    ensures { IfOk result (λ tops. tops.items ≡ copying.tops_at host.now.big images.now false image) }
-{
-    let tops = without(alloc, host.children(Place::Node(image)), images)?;
-    Ok(tops)
 }
 
 /// Puts moves of these nodes to the place behind the others.

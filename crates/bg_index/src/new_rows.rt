@@ -1,8 +1,7 @@
 //! The rows that a reaction makes: those of the reactum, and those of the late copies behind them.
-ghost use Rattle.std.specs.Prelude.{◌≡◌, ◌+◌, ◌-◌, ◌<◌, ◌≤◌, ◌^◌, ◌++◌, ℕ, IfOk, OnOk, IsTrue, [], length, map as mapped, option_copied, slice_get};
-ghost use Rattle.std.specs.List.{position_or_len};
+ghost use Rattle.std.specs.Prelude.{◌≡◌, ◌+◌, ◌-◌, ◌<◌, ◌≤◌, ◌^◌, ◌++◌, ℕ, IfOk, OnOk, IsTrue, [], length, map as mapped};
 ghost use Rattle.std.specs.List.Sorted.{IsStrictlySortedBy};
-ghost use Rattle.std.specs.Ordering.{nat_cmp, is_eq};
+ghost use Rattle.std.specs.Ordering.{nat_cmp};
 ghost use Rattle.bg_lists.specs.Lists.{Mem as Member};
 ghost use Rattle.bg_base.specs.declared.big.NodeRow.{NodeRow as NodeRowValue};
 ghost use Rattle.bg_base.specs.declared.names.Place.TheVariants.{Node, Region};
@@ -15,12 +14,13 @@ ghost use Rattle.bg_rewriting.specs.Rewriting.{late_count};
 ghost use Rattle.bg_index.specs.Copying as copying;
 ghost use Rattle.bg_index.specs.Copying.{AreCopied, IsRoomFor};
 ghost use Rattle.bg_index.specs.Plans.{AreNewRows, IsRead};
-ghost use Rattle.bg_index.specs.Readings.{boundary_of};
+ghost use Rattle.bg_index.specs.Readings.{AreLate, boundary_of};
 
 use crate::IndexedHost;
-use crate::late::{late_entries, late_part};
-use crate::parts::is_one_of;
+use crate::late::late_part;
+use crate::link_names::link_beside;
 use crate::reading::Reading;
+use crate::sets::is_one_of;
 use bg_base::{Link, Name, NodeRow, Place, PortLinks};
 use bg_lists::{Duplicate, Mem};
 use bg_rules::Rule;
@@ -154,28 +154,10 @@ fn link_named(alloc: Global, names: &[Name], found: &[Link], name: &Name) -> Mem
     requires beside { length found.now ≡ length names.now }
     ensures { IfOk result (λ made. made ≡ defined.link_made 0 names.now found.now (Outer name.now)) }
 {
-    match find_link(names, found, name) {
+    match link_beside(names, found, name) {
         Some(link) => link.copy(alloc),
         None => Ok(Link::Outer(name.copy(alloc)?)),
     }
-}
-
-/// The link beside the name, in links beside names that ascend.
-fn find_link<'a>(names: &[Name], found: &'a [Link], name: &Name) -> Option<&'a Link>
-    requires names { IsStrictlySortedBy name_cmp names.now }
-    requires beside { length found.now ≡ length names.now }
-    ensures { option_copied result ≡ slice_get found.now (position_or_len (λ other. is_eq (name_cmp other name.now)) names.now) }
-{
-    match names.binary_search(name) {
-        Ok(at) => link_at(found, at),
-        Err(_) => None,
-    }
-}
-
-fn link_at(links: &[Link], at: usize) -> Option<&Link>
-    ensures { option_copied result ≡ slice_get links.now at }
-{
-    links.get(at)
 }
 
 /// Puts the rows of the late copies that these entries ask for behind those of the reactum.
@@ -190,14 +172,14 @@ fn push_copies(
 ) -> Mem<()>
     requires read { IsRead host.now rule.now map.now reading.now }
     requires entries { entries.now ≡ rule.now.map }
+    requires late { AreLate entries.now reading.now.late.items }
     requires nodes_room { host.now.next_node + length rule.now.reactum.nodes + late_count (boundary_of reading.now).parts [] rule.now.map ≤ largest_counter }
     requires made { rows.old.items ≡ mapped (defined.row_made host.now rule.now (boundary_of reading.now)) rule.now.reactum.nodes }
     ensures { OnOk result (AreNewRows host.now rule.now map.now (boundary_of reading.now) rows.new.items) }
 {
-    let late = late_entries(alloc, entries)?;
     let mut free = host.next_node() + rule.reactum().nodes.len();
     for (at, site) in entries.iter().enumerate() {
-        let part = late_part(&reading.parts, late[at], *site);
+        let part = late_part(&reading.parts, reading.late[at], *site);
         let top = top_made(host, rule, reading, at);
         push_copy(alloc, host, &reading.images, part, free, top, rows)?;
         free += part.len() as u32;

@@ -1,7 +1,7 @@
 //! What a reaction is to leave, made before anything is changed.
 use crate::entries::{EdgeEntry, NodeEntry};
+use crate::tied_points::TiedPoints;
 use bg_base::{NodeRow, Place};
-use bg_link::Point;
 
 /// A node that is to have another parent, and that parent.
 #[derive(Clone, Copy)]
@@ -17,8 +17,9 @@ pub struct Nest {
     pub children: Vec<u32>,
 }
 
-/// A link of the host before: an edge by its number, an outer name by its position.
-#[derive(Clone, Copy, PartialEq, Eq, PartialOrd, Ord)]
+/// A link of the host, before a reaction or after it: an edge by its number, an outer name by its position among the outer
+/// names, which stay. A name that is none of them has the position behind all of them.
+#[derive(Clone, Copy, PartialEq, Eq)]
 pub enum LinkKey {
     Edge(u32),
     Name(u32),
@@ -28,7 +29,7 @@ pub enum LinkKey {
 #[derive(Drop)]
 pub struct Bundle {
     pub key: LinkKey,
-    pub points: Vec<Point>,
+    pub points: TiedPoints,
 }
 
 /// What goes, moves and comes of the nodes.
@@ -37,6 +38,13 @@ pub struct NodeChanges {
     pub gone: Vec<u32>,
     pub moves: Vec<Move>,
     pub new: Vec<NodeRow>,
+}
+
+/// The edges that go, and those that come.
+#[derive(Drop)]
+pub struct EdgeChanges {
+    pub idle: Vec<u32>,
+    pub used: Vec<EdgeEntry>,
 }
 
 /// What goes, comes and changes of the links.

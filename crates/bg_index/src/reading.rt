@@ -27,6 +27,7 @@ ghost use Rattle.bg_rules.specs.Rules.{RuleParts, IsRule};
 ghost use Rattle.bg_rules.specs.Solid.{IsPattern};
 
 use crate::IndexedHost;
+use crate::late::late_entries;
 use crate::parts::part_of;
 use crate::sets::number_set;
 use bg_base::{Big, Link, Name, Place};
@@ -43,13 +44,15 @@ pub struct Part {
 
 /// What a rule finds round its images: for each region of the redex the place in which it stands, for each outer name the
 /// link that it stands for, for each site how many entries of the map ask for it and the nodes there. Where exactly one
-/// entry asks for a site its nodes are left out, since they keep their numbers. The images ascend.
+/// entry asks for a site its nodes are left out, since they keep their numbers. The images ascend. Beside these, for each
+/// entry of the map whether an earlier one asks for the same site.
 #[derive(Drop)]
 pub struct Reading {
     pub images: Vec<u32>,
     pub places: Vec<Place>,
     pub links: Vec<Link>,
     pub asked: Vec<u32>,
+    pub late: Vec<bool>,
     pub parts: Vec<Part>,
 }
 
@@ -86,17 +89,19 @@ fn read_at(
     let links = links_of(alloc, host, redex, map)?;
     let images = images_of(alloc, map)?;
     let asked = asked_of(alloc, redex.sites.len(), entries)?;
+    let late = late_entries(alloc, entries)?;
     let parts = parts_of(alloc, host, redex, map, &images, &asked)?;
     Ok(Reading {
         images,
         places,
         links,
         asked,
+        late,
         parts,
     })
 }
 
-/// The nodes of the map in order.
+/// The nodes of the map in order. Costs time n log n, and memory n.
 fn images_of(alloc: Global, map: &[u32]) -> Mem<Vec<u32>>
     ensures ascending { IfOk result (λ images. IsStrictlySortedBy nat_cmp images.items) }
     ensures same { IfOk result (λ images. (node : ℕ) → (Member node images.items ↔ Member node map.now)) }
@@ -119,7 +124,7 @@ fn asked_of(alloc: Global, sites: u32, entries: &[u32]) -> Mem<Vec<u32>>
     Ok(asked)
 }
 
-/// For each site of the redex the nodes at it, where not exactly one entry asks for it.
+/// For each site of the redex the nodes at it, where not exactly one entry asks for it. Costs what `part_of` costs for each.
 fn parts_of(
     alloc: Global,
     host: &IndexedHost,

@@ -1,37 +1,39 @@
 //! Room for what a plan puts behind, taken before anything is changed.
-ghost use Rattle.std.specs.Prelude.{◌≡◌, ◌≤◌, ◌+◌, ◌^◌, ◌∷◌, [], ℕ, List, OnOk, IfOk, length, map, vec_len, vec_capacity};
-ghost use Rattle.std.specs.List.Sorted.{IsStrictlySortedBy};
+ghost use Rattle.std.specs.Prelude.{◌≡◌, ◌≤◌, ◌+◌, ◌^◌, ◌==◌, ℕ, List, OnOk, IfOk, filter, length, map, vec_len, vec_capacity};
+ghost use Rattle.std.specs.List.Sorted.{IsNonDecreasingBy, IsStrictlySortedBy};
 ghost use Rattle.slab.specs.Slab.{get, HasRoomFor};
-ghost use Rattle.bg_lists.specs.Lists.{At};
 ghost use Rattle.bg_base.specs.declared.big.NodeRow.{NodeRow as NodeRowValue};
-ghost use Rattle.bg_index.specs.declared.entries.ControlEntry.{ControlEntry as ControlValue};
 ghost use Rattle.bg_index.specs.declared.entries.NodeEntry.{NodeEntry as NodeEntryValue};
-ghost use Rattle.bg_index.specs.Commits.{AreRoomy, AreRoomier};
+ghost use Rattle.bg_index.specs.Commits.{AreRoomy, AreRoomier, HasRoomy};
+ghost use Rattle.bg_index.specs.Arriving.{rows_in};
 ghost use Rattle.bg_index.specs.Indexed.{AreSorted, IsIndex, control_cmp, host_of};
 ghost use Rattle.bg_index.specs.Plans.{HasRoom};
+ghost use Rattle.bg_rules.specs.Lookups.{nodes_with};
 
+use crate::controls::control_at;
 use crate::entries::{ControlEntry, EdgeEntry, Index, NodeEntry, Slot};
 use crate::plans::Plan;
 use bg_lists::{Mem, OutOfMemory};
 use slab::Slab;
 use std::alloc::Global;
 
-/// Room for all that the plan puts behind. What is seen does not change, also where there is no memory. It costs a look-up for
-/// each new node, and moving what has to lie elsewhere.
+/// Room for all that the plan puts behind. What is seen does not change, also where there is no memory. Costs time n log n
+/// in the number of new nodes, with a search of the control of each among those of the host, and moving what has to lie
+/// elsewhere; memory in proportion to the new nodes and edges.
 pub fn make_room(alloc: Global, index: &mut Index, plan: &Plan) -> Mem<()>
     requires index { IsIndex index.old }
     ensures index { IsIndex index.new }
     ensures same { host_of index.new ≡ host_of index.old }
     ensures room { OnOk result (HasRoom index.new plan.now) }
 {
-    let many = plan.entries.len();
-    let used = plan.used.len();
+    let more_nodes = plan.entries.len();
+    let more_edges = plan.used.len();
     make_lists(
         &mut index.nodes,
         &mut index.slots,
         &mut index.edges,
-        many,
-        used,
+        more_nodes,
+        more_edges,
     )?;
     make_controls(alloc, &mut index.controls, &plan.entries)?;
     Ok(())
@@ -42,36 +44,87 @@ fn make_lists(
     nodes: &mut Slab<NodeEntry>,
     slots: &mut Vec<Slot>,
     edges: &mut Vec<EdgeEntry>,
-    many: usize,
-    used: usize,
+    more_nodes: usize,
+    more_edges: usize,
 ) -> Mem<()>
     ensures nodes { (key : ℕ) → get nodes.new key ≡ get nodes.old key }
     ensures slots { slots.new.items ≡ slots.old.items }
     ensures edges { edges.new.items ≡ edges.old.items }
-    ensures room { OnOk result (HasRoomFor nodes.new many) }
+    ensures room { OnOk result (HasRoomFor nodes.new more_nodes) }
     ensures few { OnOk result (nodes.new.capacity ≤ 2 ^ 32) }
-    ensures slot_room { OnOk result (vec_len slots.new + many ≤ vec_capacity slots.new) }
-    ensures edge_room { OnOk result (vec_len edges.new + used ≤ vec_capacity edges.new) }
+    ensures slot_room { OnOk result (vec_len slots.new + more_nodes ≤ vec_capacity slots.new) }
+    ensures edge_room { OnOk result (vec_len edges.new + more_edges ≤ vec_capacity edges.new) }
 {
-    nodes.reserve(many)?;
+    nodes.reserve(more_nodes)?;
     if nodes.capacity() > u32::MAX as usize {
         return Err(OutOfMemory);
     }
-    slots.reserve(many)?;
-    edges.reserve(used)?;
+    slots.reserve(more_nodes)?;
+    edges.reserve(more_edges)?;
     Ok(())
 }
 
-/// Room in the list of each control of a new entry for as many nodes as there are new entries.
+/// Room in the list of each control for the new entries that have it.
 fn make_controls(alloc: Global, controls: &mut Vec<ControlEntry>, entries: &[NodeEntry]) -> Mem<()>
     requires ascending { IsStrictlySortedBy control_cmp controls.old.items }
     ensures sorted { (rows : List NodeRowValue) → AreSorted rows controls.old.items → AreSorted rows controls.new.items }
-    ensures room { OnOk result (AreRoomy (map (λ (entry : NodeEntryValue). entry.row) entries.now) (length entries.now) controls.new.items) }
+    ensures room { OnOk result (AreRoomy (rows_in entries.now) (rows_in entries.now) controls.new.items) }
+{
+    let wanted = controls_wanted(alloc, entries)?;
+    make_each(alloc, controls, entries, &wanted)
+}
+
+/// Room in the list of each control of the entries for as many nodes as want it.
+fn make_each(
+    alloc: Global,
+    controls: &mut Vec<ControlEntry>,
+    entries: &[NodeEntry],
+    wanted: &[u32],
+) -> Mem<()>
+    requires ascending { IsStrictlySortedBy control_cmp controls.old.items }
+    requires rise { IsNonDecreasingBy (λ (control : ℕ). control) wanted.now }
+    requires counts { (control : ℕ) → length (filter (λ other. other == control) wanted.now) ≡ length (nodes_with control (rows_in entries.now)) }
+    ensures sorted { (rows : List NodeRowValue) → AreSorted rows controls.old.items → AreSorted rows controls.new.items }
+    ensures room { OnOk result (AreRoomy (rows_in entries.now) (rows_in entries.now) controls.new.items) }
 {
     for entry in entries {
-        make_control(alloc, controls, entry.row.control, entries.len())?;
+        let control = entry.row.control;
+        make_control(alloc, controls, control, equal_to(wanted, control).len())?;
     }
     Ok(())
+}
+
+/// The controls of the entries, in order, each as often as an entry has it.
+fn controls_wanted(alloc: Global, entries: &[NodeEntry]) -> Mem<Vec<u32>>
+    ensures rise { IfOk result (λ wanted. IsNonDecreasingBy (λ (control : ℕ). control) wanted.items) }
+    ensures counts { IfOk result (λ wanted. (control : ℕ) → length (filter (λ other. other == control) wanted.items)
+        ≡ length (nodes_with control (rows_in entries.now))) }
+{
+    let mut wanted = controls_in(alloc, entries)?;
+    wanted.sort_by_key(|control| *control)?;
+    Ok(wanted)
+}
+
+/// The controls of the entries.
+fn controls_in(alloc: Global, entries: &[NodeEntry]) -> Mem<Vec<u32>>
+    ensures { IfOk result (λ made. made.items ≡ map (λ (entry : NodeEntryValue). entry.row.control) entries.now) }
+{
+    let mut made = Vec::with_capacity(alloc, entries.len())?;
+    for entry in entries {
+        made.push(entry.row.control)?;
+    }
+    Ok(made)
+}
+
+/// Those of the numbers, which rise, that are this one. By two binary searches.
+fn equal_to(numbers: &[u32], number: u32) -> &[u32]
+    requires rise { IsNonDecreasingBy (λ (n : ℕ). n) numbers.now }
+    ensures { result.now ≡ filter (λ other. other == number) numbers.now }
+{
+    let start = numbers.partition_point(|other| *other < number);
+    let rest = &numbers[start..];
+    let count = rest.partition_point(|other| *other <= number);
+    &numbers[start..start + count]
 }
 
 /// Room for so many more nodes in the list of the control.
@@ -85,29 +138,11 @@ fn make_control(
     ensures ascending { IsStrictlySortedBy control_cmp controls.new.items }
     ensures roomier { AreRoomier controls.old.items controls.new.items }
     ensures sorted { (rows : List NodeRowValue) → AreSorted rows controls.old.items → AreSorted rows controls.new.items }
-    ensures room { OnOk result ((row : NodeRowValue) → row.control ≡ control → AreRoomy (row ∷ []) more controls.new.items) }
+    ensures room { OnOk result (HasRoomy control more controls.new.items) }
 {
     let at = control_at(alloc, controls, control)?;
     reserve_nodes(&mut controls[at], more)?;
     Ok(())
-}
-
-/// The position of the control, which is put among the others where it is not there.
-fn control_at(alloc: Global, controls: &mut Vec<ControlEntry>, control: u32) -> Mem<usize>
-    requires ascending { IsStrictlySortedBy control_cmp controls.old.items }
-    ensures there { IfOk result (λ at. (entry : ControlValue) × At entry at controls.new.items × (entry.control ≡ control)) }
-    ensures ascending { IsStrictlySortedBy control_cmp controls.new.items }
-    ensures roomier { AreRoomier controls.old.items controls.new.items }
-    ensures sorted { (rows : List NodeRowValue) → AreSorted rows controls.old.items → AreSorted rows controls.new.items }
-{
-    match controls.binary_search_by_key(&control, |entry| entry.control) {
-        Ok(at) => Ok(at),
-        Err(at) => {
-            let nodes = Vec::new(alloc);
-            controls.insert(at, ControlEntry { control, nodes })?;
-            Ok(at)
-        }
-    }
 }
 
 /// Room for so many more nodes.

@@ -6,6 +6,7 @@ ghost use Rattle.bg_lists.specs.Lists.{Mem as Member};
 ghost use Rattle.bg_index.specs.declared.entries.NodeEntry.{NodeEntry as NodeEntryValue};
 ghost use Rattle.bg_index.specs.declared.plans.Move.{Move as MoveValue};
 ghost use Rattle.bg_index.specs.Noting as noting;
+ghost use Rattle.bg_index.specs.PortNodes as defined;
 ghost use Rattle.bg_index.specs.Noting.{noted};
 
 use crate::entries::NodeEntry;
@@ -69,7 +70,7 @@ fn note_entries(entries: &[NodeEntry], nodes: &mut Vec<u32>) -> Mem<()>
 }
 
 /// Puts the nodes that move behind the others.
-fn note_moves(moves: &[Move], nodes: &mut Vec<u32>) -> Mem<()>
+pub fn note_moves(moves: &[Move], nodes: &mut Vec<u32>) -> Mem<()>
     ensures { OnOk result (nodes.new.items ≡ nodes.old.items ++ map (λ (move : MoveValue). move.node) moves.now) }
 {
     for moved in moves {
@@ -79,7 +80,7 @@ fn note_moves(moves: &[Move], nodes: &mut Vec<u32>) -> Mem<()>
 }
 
 /// Puts the nodes that get other children behind the others.
-fn note_nests(nests: &[Nest], nodes: &mut Vec<u32>) -> Mem<()>
+pub fn note_nests(nests: &[Nest], nodes: &mut Vec<u32>) -> Mem<()>
     ensures { OnOk result (nodes.new.items ≡ nodes.old.items ++ noting.nests_noted nests.now) }
 {
     for nest in nests {
@@ -103,14 +104,14 @@ fn note_bundles(bundles: &[Bundle], nodes: &mut Vec<u32>) -> Mem<()>
     ensures { OnOk result (nodes.new.items ≡ nodes.old.items ++ noting.bundles_noted bundles.now) }
 {
     for bundle in bundles {
-        note_points(&bundle.points, nodes)?;
+        note_points(bundle.points.as_slice(), nodes)?;
     }
     Ok(())
 }
 
 /// Puts the nodes of the ports behind the others.
-fn note_points(points: &[Point], nodes: &mut Vec<u32>) -> Mem<()>
-    ensures { OnOk result (nodes.new.items ≡ nodes.old.items ++ noting.points_noted points.now) }
+pub fn note_points(points: &[Point], nodes: &mut Vec<u32>) -> Mem<()>
+    ensures { OnOk result (nodes.new.items ≡ nodes.old.items ++ defined.port_nodes points.now) }
 {
     for point in points {
         note_point(point, nodes)?;
@@ -120,7 +121,7 @@ fn note_points(points: &[Point], nodes: &mut Vec<u32>) -> Mem<()>
 
 /// Puts the node of the point behind the others, where it is a port.
 fn note_point(point: &Point, nodes: &mut Vec<u32>) -> Mem<()>
-    ensures { OnOk result (nodes.new.items ≡ nodes.old.items ++ noting.point_noted point.now) }
+    ensures { OnOk result (nodes.new.items ≡ nodes.old.items ++ defined.port_node point.now) }
 {
     if let Point::Port { node, .. } = point {
         nodes.push(*node)?;

@@ -1,5 +1,5 @@
 //! Links of an indexed host by their keys.
-ghost use Rattle.std.specs.Prelude.{◌≡◌};
+ghost use Rattle.std.specs.Prelude.{◌≡◌, ◌<◌, Some, length, slice_get};
 ghost use Rattle.bg_base.specs.declared.names.Link.{Link as LinkValue};
 ghost use Rattle.bg_index.specs.declared.plans.LinkKey.TheVariants.{Name as NameKey};
 ghost use Rattle.bg_index.specs.Arrivals.{key_of};
@@ -9,7 +9,7 @@ ghost use Rattle.bg_link.specs.Links.{links_of, points_of};
 use crate::IndexedHost;
 use crate::keys::name_key;
 use crate::plans::LinkKey;
-use bg_base::Link;
+use bg_base::{Link, Name};
 use bg_link::Point;
 
 impl IndexedHost {
@@ -22,6 +22,14 @@ impl IndexedHost {
             Link::Edge(edge) => LinkKey::Edge(*edge),
             Link::Outer(name) => name_key(self.index.outer.as_slice(), name),
         }
+    }
+
+    /// The outer name at that position, which is there.
+    pub(crate) fn name(&self, at: u32) -> &Name
+        requires there { at < length self.now.big.outer }
+        ensures { slice_get self.now.big.outer at ≡ Some result.now }
+    {
+        &self.index.outer.as_slice()[at as usize]
     }
 
     /// The points of the link with the key, ascending. Takes no memory; logarithmic in the number of edges.

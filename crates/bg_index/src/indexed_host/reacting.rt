@@ -4,12 +4,18 @@ ghost use Rattle.bg_rewriting.specs.Touching.{IsTouched};
 ghost use Rattle.bg_rules.specs.Decomposition.{Occurs};
 ghost use Rattle.bg_rules.specs.Limits.{IsWithinLimits, PassesALimit};
 ghost use Rattle.bg_rules.specs.Reaction.{Reacts};
+ghost use Rattle.bg_index.specs.Causes.{AreCauses};
+ghost use Rattle.bg_index.specs.Plans.{host_planned};
+ghost use Rattle.bg_index.specs.Telling.{IsPlanned};
 
 use crate::IndexedHost;
+use crate::causes::{Causes, causes_of};
 use crate::commit::carry_out;
 use crate::planning::plan_of;
+use crate::plans::Plan;
 use crate::room::make_room;
 use crate::touched::{Touched, touched_by};
+use bg_lists::Mem;
 use bg_rules::{ReactFault, Rule};
 use std::alloc::Global;
 
@@ -35,11 +41,47 @@ impl IndexedHost {
         ensures full { IsErrOf result ReactFault.Full → PassesALimit self.old rule.now map.now }
         ensures kept { OnErr result (self.new ≡ self.old) }
     {
+        let _ = &self.index;
         let _pattern = rule.redex();
         let plan = plan_of(alloc, self, rule, map)?;
         let touched = touched_by(alloc, &plan)?;
+        self.follow(alloc, plan)?;
+        Ok(touched)
+    }
+
+    /// The same reaction, with the same refusals, that tells why nodes are touched in place of which. The nodes that have a
+    /// port on a link whose points are others are not listed, so that a link of many points costs no more than its own list;
+    /// for the rest it costs as `react_in_place`.
+    pub fn react_telling_causes(
+        &mut self,
+        alloc: Global,
+        rule: &Rule,
+        map: &[u32],
+    ) -> Result<Causes, ReactFault>
+        requires occurs { Occurs self.old.big rule.now.redex map.now }
+        ensures reacts { OnOk result (Reacts self.old rule.now map.now self.new) }
+        ensures within { OnOk result (IsWithinLimits self.new) }
+        ensures causes { IfOk result (AreCauses self.old.big self.new.big) }
+        ensures full { IsErrOf result ReactFault.Full → PassesALimit self.old rule.now map.now }
+        ensures kept { OnErr result (self.new ≡ self.old) }
+    {
+        let _ = &self.index;
+        let _pattern = rule.redex();
+        let plan = plan_of(alloc, self, rule, map)?;
+        let causes = causes_of(alloc, self, &plan)?;
+        self.follow(alloc, plan)?;
+        Ok(causes)
+    }
+
+    /// Leaves the host that is planned; where there is no room for it, the host as it was. Costs as `make_room` and
+    /// `carry_out`.
+    fn follow(&mut self, alloc: Global, plan: Plan) -> Mem<()>
+        requires planned { IsPlanned self.old plan }
+        ensures done { OnOk result (self.new ≡ host_planned self.old plan) }
+        ensures kept { OnErr result (self.new ≡ self.old) }
+    {
         make_room(alloc, &mut self.index, &plan)?;
         carry_out(&mut self.index, plan);
-        Ok(touched)
+        Ok(())
     }
 }

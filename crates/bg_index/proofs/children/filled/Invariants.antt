@@ -8,4 +8,4 @@ use Rattle.bg_index.proofs.children.filled.Given as goal
 abbrev pub invariant-loop-row : goal.invariant-loop-row
 invariant-loop-row l =
     (map (λ (entry : NodeEntry). entry.row) l.entries.items ≡ l.yielded)
-    × ((entry : NodeEntry) → Mem entry l.entries.items → entry.children.items ≡ numbers_in (Node entry.row.id) l.arrivals)
+    × ((entry : NodeEntry) → Mem entry l.entries.items → entry.children.items ≡ numbers_in (Node entry.row.id) l.incoming)

@@ -1,4 +1,4 @@
-use Rattle.std.proofs.Common.{List, length, map, refl, sym, subst}
+use Rattle.std.proofs.Common.{List, map, refl, sym, subst}
 use Rattle.bg_index.specs.declared.entries.Index.{Index}
 use Rattle.bg_index.specs.declared.entries.NodeEntry.{NodeEntry}
 use Rattle.bg_index.specs.Commits.{AreEdgesAfter, AreFrom, AreHeld, AreNodesAfter, AreRoomy, HasMore, IsTakenOut, control_key}
@@ -21,8 +21,8 @@ put_in-requires-clause-ascending c =
 
 pub put_in-requires-clause-room : goal.put_in-requires-clause-room
 put_in-requires-clause-room c =
-    subst (λ (es : List NodeEntry). AreRoomy (map (λ (entry : NodeEntry). entry.row) es) (length es) c.take_out.new.controls.items) (sym c.deref-3.ensures.value)
-    (roomy_out (new_rows c.args.plan) (length c.args.plan.entries.items) c.deref-2.result.now c.args.index.now.controls.items c.take_out.new.controls.items
+    subst (λ (es : List NodeEntry). AreRoomy (map (λ (entry : NodeEntry). entry.row) es) (map (λ (entry : NodeEntry). entry.row) es) c.take_out.new.controls.items) (sym c.deref-3.ensures.value)
+    (roomy_out (new_rows c.args.plan) (new_rows c.args.plan) c.deref-2.result.now c.args.index.now.controls.items c.take_out.new.controls.items
     c.requires.index.sorted.controls_ascend (index_roomy c.args.index.now c.args.plan c.requires.room) c.take_out.ensures)
 
 pub change_nodes-requires-clause-held : goal.change_nodes-requires-clause-held

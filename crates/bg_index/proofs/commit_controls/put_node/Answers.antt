@@ -1,8 +1,8 @@
-use Rattle.std.proofs.Common.{◌<◌, ◌≤◌, ◌∷◌, [], List, length, rules, Err, refl, sym, ap, subst, ◌∙◌, arith}
+use Rattle.std.proofs.Common.{◌<◌, ◌≤◌, ◌∷◌, [], List, length, rules, Err, sym, ap, subst, ◌∙◌, arith}
 use Rattle.std.specs.List.Sorted.{IsBinarySearchResult}
 use Rattle.std.specs.Ordering.{nat_cmp}
 use Rattle.std.proofs.lemmas.List.Sorted.{answers_always}
-use Rattle.bg_lists.specs.Lists.{At, here}
+use Rattle.bg_lists.specs.Lists.{At}
 use Rattle.bg_lists.proofs.Places.{At-get_or, At-one, At-same, Mem-from_At}
 use Rattle.bg_index.specs.declared.entries.ControlEntry.{ControlEntry}
 use Rattle.bg_index.specs.Commits.{HasMore, IsRoomy, control_key}
@@ -18,7 +18,7 @@ push_node-requires c =
     let below = subst (λ (xs : List ControlEntry). c.in-Ok.at < length xs) c.deref.ensures.value c.in-Ok.ensures.bound in
     let stood = At-same (sym c.index_mut.ensures.value) (At-get_or c.args.controls.now.items c.in-Ok.at was below) in
     let same = At-one (subst (λ (xs : List ControlEntry). At w.0 c.in-Ok.at xs) c.deref.ensures.value w.1) stood in
-    let r = c.requires.room c.args.row.now (here refl) in
+    let r = c.requires.room in
     let one = one_key c.args.controls.now.items c.requires.ascending r.0 was r.1 (Mem-from_At stood)
     (r.2.named ∙ sym w.2 ∙ ap (λ (x : ControlEntry). x.control) same) in
     let roomy = subst (λ (x : ControlEntry). IsRoomy c.args.row.now.control 1 x) one r.2 in
@@ -44,5 +44,5 @@ returns-in-Err c =
     let inside = subst (λ (xs : List ControlEntry). c.in-Err.field-0 ≤ length xs) c.deref.ensures.value c.in-Err.ensures.bound in
     let nowhere = subst (λ (xs : List ControlEntry). IsBinarySearchResult (λ (entry : ControlEntry). nat_cmp entry.control c.args.row.now.control) xs (Err c.in-Err.field-0)) c.deref.ensures.value
     (c.in-Err.ensures.position (λ (entry : ControlEntry). entry.control) (answers_always _ _ _ (λ f a r g called. search rules))) in
-    let r = c.requires.room c.args.row.now (here refl) in
+    let r = c.requires.room in
     absurd (key_nowhere control_key c.args.controls.now.items c.args.row.now.control c.in-Err.field-0 c.requires.ascending inside nowhere r.0 r.1 r.2.named)

@@ -4,5 +4,5 @@ use Rattle.bg_rules.specs.Instantiation.{is_among}
 use Rattle.bg_index.specs.declared.entries.Slot.{Slot}
 use Rattle.bg_index.proofs.commit_nodes.keep_slots.Goals as goal
 
-pub returns-else-gone-lt-FEW-clause-kept : goal.returns-else-gone-lt-FEW-clause-kept
-returns-else-gone-lt-FEW-clause-kept c = filter_same _ (λ (slot : Slot). not (is_among slot.node c.args.gone.now)) _ (λ x b f called. search rules) _ _ c.retain.ensures.filtered
+pub returns-else-is_cheaper_singly-clause-kept : goal.returns-else-is_cheaper_singly-clause-kept
+returns-else-is_cheaper_singly-clause-kept c = filter_same _ (λ (slot : Slot). not (is_among slot.node c.args.gone.now)) _ (λ x b f called. search rules) _ _ c.retain.ensures.filtered

@@ -14,15 +14,15 @@ edges_on-requires c =
 
 pub left_idle-idle-requires-clause-named_ascends : goal.left_idle-idle-requires-clause-named_ascends
 left_idle-idle-requires-clause-named_ascends c =
-    subst (IsStrictlySortedBy nat_cmp) (sym (c.deref-2.ensures.value ∙ c.edge_set.ensures)) (set_sorted c.in_ok-named.named.items)
+    subst (IsStrictlySortedBy nat_cmp) (sym (c.deref-2.ensures.value ∙ c.number_set.ensures.set)) (set_sorted c.in_ok-named.named.items)
 
 pub returns-clause-ascending : goal.returns-clause-ascending
 returns-clause-ascending c =
     let rule = c.args.rule.now in
     let host = c.args.host.now.big in
-    let named = c.deref-2.ensures.value ∙ c.edge_set.ensures
+    let named = c.deref-2.ensures.value ∙ c.number_set.ensures.set
     ∙ ap (set_of nat_cmp) (c.in_ok-named.ensures ∙ ap (λ (ls : List Link). edges_named_by rule.reactum.outer ls rule.reactum.nodes) c.deref.ensures.value) in
-    let edges = c.edge_set-2.ensures ∙ ap (set_of nat_cmp) c.in_ok-edges.ensures in
+    let edges = c.number_set-2.ensures.set ∙ ap (set_of nat_cmp) c.in_ok-edges.ensures in
     let whole = c.left_idle-idle.ensures
     ∙ (λ t. filter (is_left_idle host (named t) c.args.gone.now) (edges t)) in
     subst (IsStrictlySortedBy nat_cmp) (sym whole)
@@ -32,9 +32,9 @@ pub returns-clause-idle : goal.returns-clause-idle
 returns-clause-idle c =
     let rule = c.args.rule.now in
     let host = c.args.host.now.big in
-    let named = c.deref-2.ensures.value ∙ c.edge_set.ensures
+    let named = c.deref-2.ensures.value ∙ c.number_set.ensures.set
     ∙ ap (set_of nat_cmp) (c.in_ok-named.ensures ∙ ap (λ (ls : List Link). edges_named_by rule.reactum.outer ls rule.reactum.nodes) c.deref.ensures.value) in
-    let edges = c.edge_set-2.ensures ∙ ap (set_of nat_cmp) c.in_ok-edges.ensures in
+    let edges = c.number_set-2.ensures.set ∙ ap (set_of nat_cmp) c.in_ok-edges.ensures in
     let whole = c.left_idle-idle.ensures
     ∙ (λ t. filter (is_left_idle host (named t) c.args.gone.now) (edges t)) in
     subst (AreIdle host rule c.args.map.now (boundary_of c.args.reading.now)) (sym whole)

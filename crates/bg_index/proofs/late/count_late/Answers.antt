@@ -10,7 +10,7 @@ loop-at-init c = (sym (none_late (parts_of c.args.reading.now.parts.items) c.arg
 pub returns-then-nodes-most : goal.returns-then-nodes-most
 returns-then-nodes-most c =
     let given = c.late_part-nodes.ensures ∙ ap (λ (parts : List Part). late_part (parts_of parts) c.index.result.now (get_or c.args.entries.now c.loop-at.at 0)) c.deref.ensures.value in
-    let step = count_step (parts_of c.args.reading.now.parts.items) c.args.entries.now c.in_ok-late.late.items c.in_ok-late.ensures c.loop-at.at (get_or c.args.entries.now c.loop-at.at 0) 0 c.loop-at.count c.index.result.now
+    let step = count_step (parts_of c.args.reading.now.parts.items) c.args.entries.now c.args.reading.now.late.items c.requires.late c.loop-at.at (get_or c.args.entries.now c.loop-at.at 0) 0 c.loop-at.count c.index.result.now
     c.index.result.now c.late_part-nodes.result.now c.loop-at-test.true refl c.index.ensures given c.loop-at.invariant.0 in
     let passes = c.if-nodes-most.true in
     let most = step.1 in
@@ -20,7 +20,7 @@ returns-then-nodes-most c =
 pub loop-at-preserved : goal.loop-at-preserved
 loop-at-preserved c =
     let given = c.late_part-nodes.ensures ∙ ap (λ (parts : List Part). late_part (parts_of parts) c.index.result.now (get_or c.args.entries.now c.loop-at.at 0)) c.deref.ensures.value in
-    let step = count_step (parts_of c.args.reading.now.parts.items) c.args.entries.now c.in_ok-late.late.items c.in_ok-late.ensures c.loop-at.at (get_or c.args.entries.now c.loop-at.at 0) 0 c.loop-at.count c.index.result.now
+    let step = count_step (parts_of c.args.reading.now.parts.items) c.args.entries.now c.args.reading.now.late.items c.requires.late c.loop-at.at (get_or c.args.entries.now c.loop-at.at 0) 0 c.loop-at.count c.index.result.now
     c.index.result.now c.late_part-nodes.result.now c.loop-at-test.true refl c.index.ensures given c.loop-at.invariant.0 in
     let passes = c.if-nodes-most.false in
     let few = c.loop-at.invariant.1 in
@@ -28,7 +28,7 @@ loop-at-preserved c =
 
 pub returns : goal.returns
 returns c = (
-  count_all (parts_of c.args.reading.now.parts.items) c.args.entries.now c.in_ok-late.late.items c.in_ok-late.ensures c.loop-at.at c.loop-at.count
+  count_all (parts_of c.args.reading.now.parts.items) c.args.entries.now c.args.reading.now.late.items c.requires.late c.loop-at.at c.loop-at.count
       c.loop-at-test.false c.loop-at.invariant.0,
   c.loop-at.invariant.1,
 )

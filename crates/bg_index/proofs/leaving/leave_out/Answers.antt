@@ -8,23 +8,23 @@ use Rattle.bg_index.proofs.leaving.leave_out.Goals as goal
 pub take_at-requires : goal.take_at-requires
 take_at-requires c = record { inside = subst (λ (xs : List ℕ). c.in-Ok.at < length xs) c.deref.ensures.value c.in-Ok.ensures.bound }
 
-pub returns-then-gone-lt-FEW-clause-thinned : goal.returns-then-gone-lt-FEW-clause-thinned
-returns-then-gone-lt-FEW-clause-thinned c =
+pub returns-then-is_cheaper_singly-clause-thinned : goal.returns-then-is_cheaper_singly-clause-thinned
+returns-then-is_cheaper_singly-clause-thinned c =
     let w = key_found (λ (n : ℕ). n) c.deref.result.now c.args.number c.in-Ok.at c.in-Ok.ensures.bound c.in-Ok.ensures.position in
     one_thinned c.args.gone.now c.args.numbers.now.items c.take_at.new.numbers.items c.requires.numbers_ascend c.args.number c.in-Ok.at
     (subst (λ (xs : List ℕ). At c.args.number c.in-Ok.at xs) c.deref.ensures.value (At-same w.2 w.1)) c.take_at.ensures.taken c.requires.among
 
-pub returns-then-gone-lt-FEW-clause-out : goal.returns-then-gone-lt-FEW-clause-out
-returns-then-gone-lt-FEW-clause-out c =
+pub returns-then-is_cheaper_singly-clause-out : goal.returns-then-is_cheaper_singly-clause-out
+returns-then-is_cheaper_singly-clause-out c =
     let w = key_found (λ (n : ℕ). n) c.deref.result.now c.args.number c.in-Ok.at c.in-Ok.ensures.bound c.in-Ok.ensures.position in
     one_out c.args.gone.now c.args.numbers.now.items c.take_at.new.numbers.items c.requires.numbers_ascend c.args.number c.in-Ok.at
     (subst (λ (xs : List ℕ). At c.args.number c.in-Ok.at xs) c.deref.ensures.value (At-same w.2 w.1)) c.take_at.ensures.taken
 
-pub returns-else-gone-lt-FEW-clause-thinned : goal.returns-else-gone-lt-FEW-clause-thinned
-returns-else-gone-lt-FEW-clause-thinned c = all_thinned c.args.gone.now c.args.numbers.now.items c.keep.new.numbers.items c.keep.ensures.kept
+pub returns-else-is_cheaper_singly-clause-thinned : goal.returns-else-is_cheaper_singly-clause-thinned
+returns-else-is_cheaper_singly-clause-thinned c = all_thinned c.args.gone.now c.args.numbers.now.items c.keep.new.numbers.items c.keep.ensures.kept
 
-pub returns-else-gone-lt-FEW-clause-out : goal.returns-else-gone-lt-FEW-clause-out
-returns-else-gone-lt-FEW-clause-out c =
+pub returns-else-is_cheaper_singly-clause-out : goal.returns-else-is_cheaper_singly-clause-out
+returns-else-is_cheaper_singly-clause-out c =
     all_out c.args.gone.now c.args.numbers.now.items c.keep.new.numbers.items c.keep.ensures.kept c.args.number c.requires.among
 
 pub returns-in-Err-clause-thinned : goal.returns-in-Err-clause-thinned

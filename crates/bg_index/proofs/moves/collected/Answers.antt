@@ -24,7 +24,7 @@ loop-at-preserved c =
     ∙ ap (λ (images : List ℕ). tops_at c.args.host.now.big images flag (image_of c.big.result.now c.args.map.now node)) c.deref.ensures.value
     ∙ ap (λ (big : Big). tops_at c.args.host.now.big c.args.reading.now.images.items flag (image_of big c.args.map.now node)) redex in
     move_step c.args.host.now c.args.rule.now c.args.map.now c.args.reading.now c.requires.read c.args.entries.now c.requires.entries
-    c.in_ok-late.late.items c.in_ok-late.ensures c.loop-at.at site 0 flag flag c.loop-at-test.true refl c.index.ensures c.in_ok-nodes.nodes.items given
+    c.args.reading.now.late.items c.requires.late c.loop-at.at site 0 flag flag c.loop-at-test.true refl c.index.ensures c.in_ok-nodes.nodes.items given
     c.top_made-place.result c.top_made-place.ensures c.loop-at.moves.items c.push_moves.new.moves.items
     (c.in_ok-push_moves.ensures ∙ ap (λ (nodes : List ℕ). c.loop-at.moves.items ++ moves_to c.top_made-place.result nodes) c.deref-in-loop-at.ensures.value)
     c.loop-at.invariant

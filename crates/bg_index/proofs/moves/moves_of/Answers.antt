@@ -1,10 +1,14 @@
-use Rattle.std.proofs.Common.{length, rules, ap, subst, ◌∙◌}
+use Rattle.std.proofs.Common.{ℕ, List, length, rules, sym, ap, subst, ◌∙◌}
 use Rattle.std.proofs.lemmas.List.Sorted.{answers_always}
 use Rattle.bg_index.specs.declared.plans.Move.{Move}
 use Rattle.bg_index.specs.Copying.{AreMoved}
-use Rattle.bg_index.specs.Readings.{boundary_of}
+use Rattle.bg_index.specs.Readings.{AreLate, boundary_of}
 use Rattle.bg_index.proofs.MoveLaws.{moves_are}
 use Rattle.bg_index.proofs.moves.moves_of.Goals as goal
+
+pub collected-requires-clause-late : goal.collected-requires-clause-late
+collected-requires-clause-late c =
+    subst (λ (entries : List ℕ). AreLate entries c.args.reading.now.late.items) (sym (c.deref.ensures ∙ c.map.ensures.same)) c.requires.read.reads.late_are
 
 pub returns : goal.returns
 returns c =

@@ -1,8 +1,12 @@
 use Rattle.std.proofs.Common.{◌+◌, ◌++◌, sym, ap, subst, ◌∙◌, arith}
 use Rattle.bg_lists.proofs.Places.{At-same, At-get_or}
 use Rattle.bg_index.specs.Walks.{IsWalked}
-use Rattle.bg_index.proofs.WalkLaws.{walk_step, walk_few}
+use Rattle.bg_index.proofs.WalkLaws.{walk_begins, walk_step, walk_few}
 use Rattle.bg_index.proofs.parts.walked.Goals as goal
+
+pub loop-at-init : goal.loop-at-init
+loop-at-init c =
+    walk_begins c.args.host.now c.args.images.now c.args.image c.requires.host c.requires.walkable c.in_ok-numbers.numbers.items c.in_ok-numbers.ensures
 
 pub loop-at-smaller : goal.loop-at-smaller
 loop-at-smaller c =

@@ -65,11 +65,11 @@ returns-clause-sorted c = λ rows sorted.
     room_sorted c.control_at.new.controls.items c.in_ok-at.at was c.reserve_nodes.new.entry c.in_ok-at.ensures.ascending stood e.control is rows (c.in_ok-at.ensures.sorted rows sorted)
 
 pub returns-clause-room : goal.returns-clause-room
-returns-clause-room c = λ row its.
+returns-clause-room c =
     let w = c.in_ok-at.ensures.there in
     let was = c.index_mut.result.now in
     let stood = At-same (sym c.index_mut.ensures.value) (At-get_or c.control_at.new.controls.items c.in_ok-at.at was (At-below w.1)) in
     let e = c.in_ok-reserve_nodes.ensures in
     let is : IsRoomier was c.reserve_nodes.new.entry = record { nodes = e.nodes; count = e.count; capacity = e.capacity } in
     room_there c.control_at.new.controls.items c.in_ok-at.at was c.reserve_nodes.new.entry c.in_ok-at.ensures.ascending stood e.control is c.args.control c.args.more
-    (ap (λ (x : ControlEntry). x.control) (At-one stood w.1) ∙ w.2) e.room row its
+    (ap (λ (x : ControlEntry). x.control) (At-one stood w.1) ∙ w.2) e.room

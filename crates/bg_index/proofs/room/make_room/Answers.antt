@@ -24,9 +24,9 @@ returns-clause-index c =
 pub returns-clause-room : goal.returns-clause-room
 returns-clause-room c =
     let e = c.in_ok-make_lists.ensures in
-    let many : c.len-many.result ≡ length c.args.plan.now.entries.items = c.len-many.ensures ∙ c.args.plan.now.entries.ok.0 in
-    let used : c.len-used.result ≡ length c.args.plan.now.used.items = c.len-used.ensures ∙ c.args.plan.now.used.ok.0 in
-    let roomy = subst (λ (es : List NodeEntry). AreRoomy (map (λ (entry : NodeEntry). entry.row) es) (length es) c.make_controls.new.controls.items)
+    let many : c.len-more_nodes.result ≡ length c.args.plan.now.entries.items = c.len-more_nodes.ensures ∙ c.args.plan.now.entries.ok.0 in
+    let used : c.len-more_edges.result ≡ length c.args.plan.now.used.items = c.len-more_edges.ensures ∙ c.args.plan.now.used.ok.0 in
+    let roomy = subst (λ (es : List NodeEntry). AreRoomy (map (λ (entry : NodeEntry). entry.row) es) (map (λ (entry : NodeEntry). entry.row) es) c.make_controls.new.controls.items)
     c.deref.ensures.value c.in_ok-make_controls.ensures.room in
     record {
       nodes = subst (λ n. HasRoomFor c.make_lists.new.nodes n) many e.room;
