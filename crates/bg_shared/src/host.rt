@@ -86,8 +86,7 @@ impl<N: HostName> SharedHost<N> {
     /// Commits a step that was found at a version which the pass has seen: `Again` where more entries are there; else
     /// `Spent` where there are as many as there may be; else `Full` where its result passes a limit; else `Done`, and the
     /// step is the last entry. In all four cases the pass has then seen the whole history. It refuses for want of memory
-    /// alone: then history, host and pass are as they were. It waits for the lock; a copy of the host and a reaction
-    /// are made under it.
+    /// alone: then history, host and pass are as they were. It waits for the lock; the reaction takes place under it.
     pub fn commit<R: Wait>(
         &self,
         rt: &R,
@@ -130,6 +129,7 @@ impl<N: HostName> SharedHost<N> {
             of: _,
         } = core.into_inner();
         end_all(&table, &mut turn, passes);
+        let host = host.to_host(*journal.allocator())?;
         Ok(Closed {
             system,
             host,

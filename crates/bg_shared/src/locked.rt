@@ -7,9 +7,10 @@ ghost use Rattle.bg_seats.specs.Histories.{Grows};
 ghost use Rattle.bg_shared.specs.Shared.{IsHistory, StaysUnlessDone};
 
 use bg_base::{Entry, Step};
-use bg_cond::{Commit, Found, HostName, View, take_step};
+use bg_cond::{Commit, Found, HostName, View};
+use bg_index::{IndexedHost, Touched};
 use bg_lists::{Duplicate, Mem, OutOfMemory};
-use bg_rules::{Host, ReactFault, System};
+use bg_rules::{ReactFault, System};
 use bg_seats::{HistoryTable, Pass, Turn, worker};
 use std::alloc::Global;
 use std::marker::{Model, PhantomData};
@@ -19,7 +20,7 @@ use std::marker::{Model, PhantomData};
 #[derive(Drop)]
 pub struct Core<N: HostName> {
     pub(crate) turn: Turn,
-    pub(crate) host: Host,
+    pub(crate) host: IndexedHost,
     pub(crate) journal: Vec<Entry>,
     pub(crate) limit: u32,
     pub(crate) of: PhantomData<N>,
@@ -47,14 +48,14 @@ impl<N: HostName> Core<N> {
         ensures history { IsHistory N.system N.limit N.passes self.old.journal }
         ensures no_memory { OnErr result (pass.new ≡ pass.old) }
     {
-        let host = self.host.copy(alloc)?;
+        let host = self.host.to_host(alloc)?;
         let version = table.see(pass, &mut self.turn);
         Ok(View { version, host })
     }
 
     /// Commits a step that was found at a version which the pass has seen. The pass has then seen the whole journal; journal
-    /// and host stay, unless the step is done. It refuses for want of memory alone: all of it is taken before the first change, so that then journal, host and pass
-    /// are as they were. Costs a copy of the host and a reaction, where it comes to that.
+    /// and host stay, unless the step is done. It refuses for want of memory alone: all of it is taken before the first
+    /// change, so that then journal, host and pass are as they were. Costs a reaction in place, where it comes to that.
     pub fn commit(
         &mut self,
         alloc: Global,
@@ -84,35 +85,38 @@ impl<N: HostName> Core<N> {
             table.see(pass, &mut self.turn);
             return Ok(Commit::Spent { limit: self.limit });
         }
-        let next = match host_after(alloc, &self.host, system, &found.step) {
-            Ok(next) => next,
+        let entry = entry_by(alloc, worker(pass), &found.step)?;
+        let noted = entry.copy(alloc)?;
+        self.journal.reserve(1)?;
+        match step_in_place(alloc, &mut self.host, system, &found.step) {
+            Ok(_touched) => {
+                self.journal.push_reserved(noted);
+                let version = table.append(pass, &mut self.turn, &entry);
+                Ok(Commit::Done { version })
+            }
             Err(ReactFault::Full) => {
                 table.see(pass, &mut self.turn);
-                return Ok(Commit::Full);
+                Ok(Commit::Full)
             }
-            Err(ReactFault::OutOfMemory) => return Err(OutOfMemory),
-        };
-        let entry = entry_by(alloc, worker(pass), &found.step)?;
-        self.journal.push(entry.copy(alloc)?)?;
-        let version = table.append(pass, &mut self.turn, &entry);
-        self.host = next;
-        Ok(Commit::Done { version })
+            Err(ReactFault::OutOfMemory) => Err(OutOfMemory),
+        }
     }
 }
 
-/// The host after a legal step.
-fn host_after(alloc: Global, host: &Host, system: &System, step: &Step) -> Result<Host, ReactFault>
-    requires { IsLegal host.now system.now.rules step.now }
-    ensures leads { IfOk result (λ next. LeadsTo host.now system.now.rules step.now next) }
-    ensures full { IsErrOf result ReactFault.Full → IsTooLarge host.now system.now.rules step.now }
+/// Takes a legal step in place.
+fn step_in_place(
+    alloc: Global,
+    host: &mut IndexedHost,
+    system: &System,
+    step: &Step,
+) -> Result<Touched, ReactFault>
+    requires { IsLegal host.old system.now.rules step.now }
+    ensures leads { OnOk result (LeadsTo host.old system.now.rules step.now host.new) }
+    ensures full { IsErrOf result ReactFault.Full → IsTooLarge host.old system.now.rules step.now }
+    ensures kept { OnErr result (host.new ≡ host.old) }
 {
-    let Ok(mut next) = host.copy(alloc) else {
-        return Err(ReactFault::OutOfMemory);
-    };
-    match take_step(alloc, &mut next, system, step) {
-        Ok(()) => Ok(next),
-        Err(fault) => Err(fault),
-    }
+    let rule = &system.rules()[step.rule as usize];
+    host.react_in_place(alloc, rule, step.map.as_slice())
 }
 
 /// The step as an entry of the worker.

@@ -3,8 +3,9 @@ ghost use Rattle.std.specs.Prelude.{◌≡◌, ◌≤◌, IfOk};
 ghost use Rattle.bg_base.specs.Limits.{most_steps};
 
 use bg_base::Entry;
-use bg_lists::{Duplicate, Mem};
-use bg_rules::{Host, System};
+use bg_index::IndexedHost;
+use bg_lists::Mem;
+use bg_rules::System;
 use bg_seats::{HistoryTable, Pass, Turn};
 use std::alloc::Global;
 use std::marker::Model;
@@ -18,7 +19,7 @@ pub struct HostParts {
     pub(crate) members: Vec<Pass>,
     pub(crate) turn: Turn,
     pub(crate) system: System,
-    pub(crate) host: Host,
+    pub(crate) host: IndexedHost,
     pub(crate) journal: Vec<Entry>,
     pub(crate) limit: u32,
     pub(crate) passes: u32,
@@ -36,7 +37,7 @@ impl Model for HostParts {
 
 impl HostParts {
     /// The parts of a host of that system, with 1 to 64 passes, on which at most `limit` entries, and at most 100,000, may
-    /// be. It refuses for want of memory alone; what is made of the parts takes none. Costs a copy of the system's host.
+    /// be. It refuses for want of memory alone; what is made of the parts takes none. The system's host is indexed for it.
     pub fn new(alloc: Global, system: System, limit: u32, passes: u32) -> Mem<HostParts>
         requires passes { (1 ≤ passes) × (passes ≤ 64) }
         requires limit { limit ≤ most_steps }
@@ -44,7 +45,7 @@ impl HostParts {
         ensures limit { IfOk result (λ parts. parts.limit ≡ limit) }
         ensures passes { IfOk result (λ parts. parts.passes ≡ passes) }
     {
-        let host = system.init().copy(alloc)?;
+        let host = IndexedHost::of(alloc, system.init())?;
         let (table, members, turn) = HistoryTable::new(alloc, passes)?;
         Ok(HostParts {
             table,

@@ -1,4 +1,4 @@
-use Rattle.std.proofs.Common.{◌≡◌, ◌≤◌, ◌<◌, ℕ, vec_len}
+use Rattle.std.proofs.Common.{◌≡◌, vec_len}
 use Rattle.bg_shared.specs.Shared.{OfTable, BeginsWithEach}
 use Rattle.bg_shared.proofs.host.end_all.Given as goal
 
