@@ -10,6 +10,11 @@ pairs N      N pairs of nodes, each with a closed link of its own: the redex is 
 triples N    N triples of nodes, each with two closed links of its own: the redex is such a triple
 deep K       2^K nodes in one another, and two beside: a redex of two regions
 missing K    2^K nodes beside one another, and 4,096 rules whose redex occurs nowhere
+units K      2^K units of 29 nodes, each with links of its own, all on one link of 2^K racks; six redexes: two regions
+             tied by a name alone, closed links of three and of four points, five nodes in one another, two equal nodes
+             and a third on one link in three regions, three regions with a closed link and two shared names
+more N       N + 1 equal nodes side by side sought beside N
+hub K        2^K nodes `A` and one `B` on one link: the redex is a pair of them
 """
 import sys
 
@@ -110,6 +115,54 @@ end
 '''
 
 
+def units(power):
+    return f'''ctrl Room = 0;
+ctrl Agent = 1;
+ctrl Rack = 1;
+ctrl Desk = 0;
+ctrl Shelf = 0;
+ctrl Box = 0;
+ctrl Tray = 0;
+atomic ctrl Card = 0;
+atomic ctrl Key = 1;
+atomic ctrl Lamp = 1;
+atomic ctrl Cable = 1;
+atomic ctrl Plug = 1;
+atomic ctrl Computer = 1;
+atomic ctrl User = 1;
+atomic ctrl Pin = 2;
+atomic ctrl Socket = 3;
+big desk = Desk.Shelf.Box.Tray.Card;
+big wired = /c (Cable{{c}} | Cable{{c}} | Rack{{y}}.Cable{{c}});
+big plugged = /d (Plug{{d}} | Plug{{d}} | Plug{{d}} | Plug{{d}});
+big lit = /k (Room.(Agent{{k}}.Key{{k}} | desk | wired | plugged) | Lamp{{k}});
+big used = /m (Room.Computer{{m}} | Room.Computer{{m}} | User{{m}});
+big joined = /e /a /b (Room.Pin{{e,a}} | Pin{{e,b}} | Socket{{e,a,b}});
+big unit = lit | used | joined;
+{doubled('unit', '|', power)}react light = Agent{{k}}.(Key{{k}} | id) || Lamp{{k}} --> Agent{{k}}.(Key{{k}} | id) || Lamp{{k}};
+react wire = /c (Cable{{c}} | Cable{{c}} | Rack{{y}}.Cable{{c}}) --> Rack{{y}}.1;
+react plug = Room.(/d (Plug{{d}} | Plug{{d}} | Plug{{d}} | Plug{{d}}) | id) --> Room.id;
+react deal = Desk.Shelf.Box.Tray.Card --> Desk.1;
+react use = Computer{{m}} || Computer{{m}} || User{{m}} --> Computer{{m}} || Computer{{m}} || User{{m}};
+react join = /e (Pin{{e,a}} || Pin{{e,b}} || Socket{{e,a,b}}) --> /e (Pin{{e,a}} || Pin{{e,b}} || Socket{{e,a,b}});
+''' + block(f'p{power}', '{light}, {wire}, {plug}, {deal}, {use}, {join}')
+
+
+def more(size):
+    return f'''atomic ctrl A = 0;
+big s = {times(size, 'A')};
+react r = {times(size + 1, 'A')} --> 1;
+''' + block('s', '{r}')
+
+
+def hub(power):
+    return f'''atomic ctrl A = 1;
+atomic ctrl B = 1;
+{doubled('A{x}', '|', power)}big s = p{power} | B{{x}};
+react r = A{{x}} | B{{x}} --> A{{x}};
+''' + block('s', '{r}')
+
+
 KINDS = {
     'trial': (trial, 300),
     'rooms': (rooms, 2000),
@@ -119,6 +172,9 @@ KINDS = {
     'triples': (triples, 300),
     'deep': (deep, 15),
     'missing': (missing, 16),
+    'units': (units, 11),
+    'more': (more, 12),
+    'hub': (hub, 15),
 }
 
 
