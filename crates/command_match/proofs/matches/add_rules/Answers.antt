@@ -1,5 +1,8 @@
-use Rattle.std.proofs.Common.{arith, ap, ◌∙◌}
+use Rattle.std.proofs.Common.{arith, All, length, ap, subst, ◌∙◌}
+use Rattle.std.proofs.lemmas.List.{take_all}
+use Rattle.bg_rules.specs.Occurrences.{AreAtMost}
 use Rattle.bg_rules.specs.Reaction.{HostState}
+use Rattle.bg_rules.specs.Rules.{RuleParts}
 use Rattle.command_match.proofs.Rules.{AreOf, none_yet, next_rule, first_excess}
 use Rattle.command_match.proofs.matches.add_rules.Goals as goal
 
@@ -25,3 +28,10 @@ loop-number-preserved c =
     } in
     next_rule c.args.system.now c.args.explain c.args.most c.loop-number.number c.rule-item.result c.args.text.now.items _ _
     of_it c.loop-number-test.true c.rule-item.is c.loop-number.invariant c.in_ok-add_rule.ensures.text c.in_ok-add_rule.ensures.few
+
+pub returns-clause-few : goal.returns-clause-few
+returns-clause-few c =
+    let over = c.loop-number-test.false in
+    let many = ap length c.rules-rule-items.ensures.same in
+    let whole = take_all c.loop-number.number c.args.system.now.rules (omega (arith, over, many)) in
+    subst (All (λ (rule : RuleParts). AreAtMost c.args.most c.args.system.now.init.big rule.redex)) whole c.loop-number.invariant.1
