@@ -1,5 +1,5 @@
 -- What workers see of a host that they share, and what becomes of the steps that they find.
-use Rattle.std.specs.Prelude.{◌≡◌, ℕ, ◌+◌, ◌<◌, ◌≤◌, List, [], ◌∷◌, ◌++◌, length, take}
+use Rattle.std.specs.Prelude.{◌≡◌, ℕ, ◌+◌, ◌<◌, ◌≤◌, List, [], ◌∷◌, ◌++◌, length, take, drop}
 use Rattle.bg_base.specs.declared.history.Entry.{Entry}
 use Rattle.bg_cond.specs.Drawn.{entry_of}
 use Rattle.bg_cond.specs.Steps.{IsLegal, LeadsTo, IsTooLarge, IsRun}
@@ -15,6 +15,13 @@ use Rattle.bg_seats.specs.Histories.{Grows}
 pub record Shows (system : SystemParts) (limit : ℕ) (seen : List Entry) (view : View) : Type 0 where
   pub version : view.version ≡ length seen
   pub run : IsRun system.rules system.init seen view.host
+  pub within : length seen ≤ limit
+
+-- the entries are those behind the first so many of all that were seen, which are a run of at most so many entries
+pub record IsNews (system : SystemParts) (limit from : ℕ) (seen entries : List Entry) : Type 0 where
+  pub rest : entries ≡ drop from seen
+  pub host : HostState
+  pub run : IsRun system.rules system.init seen host
   pub within : length seen ≤ limit
 
 -- the step was found at a version that was seen, and is legal there

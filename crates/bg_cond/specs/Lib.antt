@@ -8,3 +8,4 @@ pub mod Verdicts
 pub mod Picks
 pub mod Drawn
 pub mod Boards
+pub mod Followers

@@ -1,11 +1,12 @@
 //! Hosts that workers share.
-ghost use Rattle.std.specs.Prelude.{◌≡◌, ℕ, List, IfOk, OnErr};
-ghost use Rattle.bg_base.specs.declared.history.Entry.{Entry};
-ghost use Rattle.bg_cond.specs.Boards.{Shows, IsFound, IsCommitted};
+ghost use Rattle.std.specs.Prelude.{◌≡◌, ◌≤◌, ℕ, List, length, IfOk, OnErr};
+ghost use Rattle.bg_base.specs.declared.history.Entry.{Entry as EntryValue};
+ghost use Rattle.bg_cond.specs.Boards.{Shows, IsNews, IsFound, IsCommitted};
 ghost use Rattle.bg_rules.specs.Systems.{SystemParts};
 ghost use Rattle.bg_seats.specs.Histories.{Grows};
 
 use crate::commits::{Commit, Found, View};
+use bg_base::Entry;
 use bg_lists::Mem;
 use std::alloc::Global;
 use std::marker::Brand;
@@ -27,7 +28,7 @@ pub trait Board {
     ghost is_of: { Self → Self.Pass → Type 0 };
 
     // the entries that the pass has seen
-    ghost seen: { Self.Pass → List Entry };
+    ghost seen: { Self.Pass → List EntryValue };
 
     // the number of its worker
     ghost worker: { Self.Pass → ℕ };
@@ -40,6 +41,23 @@ pub trait Board {
         ensures worker { worker pass.new ≡ worker pass.old }
         ensures grows { Grows (worker pass.old) (seen pass.old) (seen pass.new) }
         ensures shows { IfOk result (λ view. Shows (system self.now) (limit self.now) (seen pass.new) view) }
+        ensures no_memory { OnErr result (pass.new ≡ pass.old) };
+
+    /// The entries from number `from` on, of which the pass has seen those before. The pass has then seen all entries; none
+    /// behind those that it had seen is its worker's own. It refuses for want of memory alone, and the pass is then as it was.
+    fn news<R: Wait>(
+        &self,
+        rt: &R,
+        alloc: Global,
+        pass: &mut Self::Pass,
+        from: u32,
+    ) -> Mem<Vec<Entry>>
+        requires of { is_of self.now pass.old }
+        requires seen { from ≤ length (seen pass.old) }
+        ensures of { is_of self.now pass.new }
+        ensures worker { worker pass.new ≡ worker pass.old }
+        ensures grows { Grows (worker pass.old) (seen pass.old) (seen pass.new) }
+        ensures news { IfOk result (λ entries. IsNews (system self.now) (limit self.now) from (seen pass.new) entries.items) }
         ensures no_memory { OnErr result (pass.new ≡ pass.old) };
 
     /// Commits a step that was found at a version which the pass has seen; what became of it. The pass has then seen all

@@ -7,7 +7,8 @@
 //! - [`take_step`]: what a legal step makes of the host. [`End`]: how a run ends.
 //! - [`Board`]: a host that workers share, under a [`HostName`]; what they see of it, a [`View`], what they find, a
 //!   [`Found`], what becomes of that, a [`Commit`], and what is left, a [`Closed`].
-//! - [`Finder`], [`Gate`]: how workers find legal steps, and who is told of their moments.
+//! - [`Finder`], [`Gate`]: how workers find legal steps, and who is told of their moments. [`Follower`]: who finds them at a
+//!   host of its own.
 #![tactic(auto)]
 
 mod asking;
@@ -16,6 +17,7 @@ mod commits;
 mod enabling;
 mod ending;
 mod finder;
+mod follower;
 mod gate;
 mod holding;
 mod judging;
@@ -34,6 +36,7 @@ pub use board::{Board, HostName};
 pub use commits::{Closed, Commit, Found, View};
 pub use ending::End;
 pub use finder::{Finder, MOST_CANDIDATES, PlainFinder};
+pub use follower::Follower;
 pub use gate::{Gate, Moment, OpenGate};
 pub use judging::judge;
 pub use legal::{first_class, steps};
