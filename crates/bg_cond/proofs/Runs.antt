@@ -56,3 +56,9 @@ run_append (stepped legal leads run) rest = stepped legal leads (run_append run 
 pub run_snoc : {rules : List RuleParts} {host between after : HostState} {entries : List Entry} (entry : Entry) → IsRun rules host entries between
     → IsLegal between rules (step_of entry) → LeadsTo between rules (step_of entry) after → IsRun rules host (entries ++ entry ∷ []) after
 run_snoc entry run legal leads = run_append run (stepped {entry = entry} legal leads (ended refl))
+
+-- a run of some entries and others behind them is a run of the first, and from its end one of the others
+pub run_split : {rules : List RuleParts} {host after : HostState} (front : List Entry) {rest : List Entry} → IsRun rules host (front ++ rest) after
+    → (between : HostState) × IsRun rules host front between × IsRun rules between rest after
+run_split {host = host} [] run = (host, ended refl, run)
+run_split (entry ∷ front) (stepped legal leads run) = let parts = run_split front run in (parts.0, stepped legal leads parts.1, parts.2)

@@ -1,12 +1,13 @@
 //! A host that workers share.
-ghost use Rattle.std.specs.Prelude.{◌≡◌, length, IfOk, OnOk, OnErr};
-ghost use Rattle.bg_cond.specs.Boards.{Shows, IsFound, IsCommitted};
+ghost use Rattle.std.specs.Prelude.{◌≡◌, ◌≤◌, length, IfOk, OnOk, OnErr};
+ghost use Rattle.bg_cond.specs.Boards.{Shows, IsNews, IsFound, IsCommitted};
 ghost use Rattle.bg_cond.specs.Steps.{IsRun};
 ghost use Rattle.bg_seats.specs.Histories.{Grows, new_passes};
 ghost use Rattle.bg_shared.specs.Shared.{IsHistory, OfTable, BeginsWithEach};
 
 use crate::locked::Core;
 use crate::parts::HostParts;
+use bg_base::Entry;
 use bg_cond::{Board, Closed, Commit, Found, HostName, View};
 use bg_lists::{Mem, Rows};
 use bg_rules::System;
@@ -81,6 +82,28 @@ impl<N: HostName> SharedHost<N> {
     {
         let mut core = self.core.lock(rt);
         core.look(alloc, &self.table, pass)
+    }
+
+    /// The entries from number `from` on, of which the pass has seen those before. The pass has then seen all entries, the
+    /// whole history at that moment; none behind those that it had seen is its worker's own. It refuses for want of memory
+    /// alone, and the pass is then as it was. It waits for the lock, and copies these entries under it.
+    pub fn news<R: Wait>(
+        &self,
+        rt: &R,
+        alloc: Global,
+        pass: &mut Pass,
+        from: u32,
+    ) -> Mem<Vec<Entry>>
+        requires table { pass.old.table ≡ N.table }
+        requires seen { from ≤ length pass.old.seen }
+        ensures pass { pass.new ≡ record pass.old { seen = pass.new.seen } }
+        ensures grows { Grows pass.old.worker pass.old.seen pass.new.seen }
+        ensures news { IfOk result (λ entries. IsNews N.system N.limit from pass.new.seen entries.items) }
+        ensures history { OnOk result (IsHistory N.system N.limit N.passes pass.new.seen) }
+        ensures no_memory { OnErr result (pass.new ≡ pass.old) }
+    {
+        let mut core = self.core.lock(rt);
+        core.news(alloc, &self.table, pass, from)
     }
 
     /// Commits a step that was found at a version which the pass has seen: `Again` where more entries are there; else
@@ -167,6 +190,10 @@ impl<N: HostName> Board for SharedHost<N> {
 
     fn look<R: Wait>(&self, rt: &R, alloc: Global, pass: &mut Pass) -> Mem<View> {
         self.look(rt, alloc, pass)
+    }
+
+    fn news<R: Wait>(&self, rt: &R, alloc: Global, pass: &mut Pass, from: u32) -> Mem<Vec<Entry>> {
+        self.news(rt, alloc, pass, from)
     }
 
     fn commit<R: Wait>(

@@ -1,6 +1,6 @@
 //! What the lock of a shared host keeps.
-ghost use Rattle.std.specs.Prelude.{◌≡◌, ◌≤◌, ◌<◌, length, IfOk, IsErrOf, OnOk, OnErr};
-ghost use Rattle.bg_cond.specs.Boards.{Shows, IsFound, IsCommitted};
+ghost use Rattle.std.specs.Prelude.{◌≡◌, ◌≤◌, ◌<◌, length, drop, IfOk, IsErrOf, OnOk, OnErr};
+ghost use Rattle.bg_cond.specs.Boards.{Shows, IsNews, IsFound, IsCommitted};
 ghost use Rattle.bg_cond.specs.Drawn.{entry_of};
 ghost use Rattle.bg_cond.specs.Steps.{IsLegal, LeadsTo, IsTooLarge, IsRun};
 ghost use Rattle.bg_seats.specs.Histories.{Grows};
@@ -9,7 +9,7 @@ ghost use Rattle.bg_shared.specs.Shared.{IsHistory, StaysUnlessDone};
 use bg_base::{Entry, Step};
 use bg_cond::{Commit, Found, HostName, View};
 use bg_index::{IndexedHost, Touched};
-use bg_lists::{Duplicate, Mem, OutOfMemory};
+use bg_lists::{Duplicate, Mem, OutOfMemory, copies};
 use bg_rules::{ReactFault, System};
 use bg_seats::{HistoryTable, Pass, Turn, worker};
 use std::alloc::Global;
@@ -51,6 +51,29 @@ impl<N: HostName> Core<N> {
         let host = self.host.to_host(alloc)?;
         let version = table.see(pass, &mut self.turn);
         Ok(View { version, host })
+    }
+
+    /// The entries from number `from` on, of which the pass has seen those before. The pass has then seen the whole journal.
+    /// It refuses for want of memory alone, and the pass is then as it was. Costs a copy of these entries.
+    pub fn news(
+        &mut self,
+        alloc: Global,
+        table: &HistoryTable,
+        pass: &mut Pass,
+        from: u32,
+    ) -> Mem<Vec<Entry>>
+        requires tables { (table.now ≡ N.table) × (pass.old.table ≡ N.table) }
+        requires seen { from ≤ length pass.old.seen }
+        ensures same { self.new ≡ self.old }
+        ensures pass { OnOk result (pass.new ≡ record pass.old { seen = self.old.journal }) }
+        ensures grows { OnOk result (Grows pass.old.worker pass.old.seen self.old.journal) }
+        ensures news { IfOk result (λ entries. IsNews N.system N.limit from self.old.journal entries.items) }
+        ensures history { IsHistory N.system N.limit N.passes self.old.journal }
+        ensures no_memory { OnErr result (pass.new ≡ pass.old) }
+    {
+        let entries = copies(alloc, behind(&self.journal, from))?;
+        table.see(pass, &mut self.turn);
+        Ok(entries)
     }
 
     /// Commits a step that was found at a version which the pass has seen. The pass has then seen the whole journal; journal
@@ -128,4 +151,12 @@ fn entry_by(alloc: Global, worker: u32, step: &Step) -> Mem<Entry>
         rule: step.rule,
         map: step.map.copy(alloc)?,
     })
+}
+
+/// The entries from that number on; none where there are fewer.
+fn behind(entries: &[Entry], from: u32) -> &[Entry]
+    ensures { result.now ≡ drop from entries.now }
+{
+    let start = entries.len().min(from as usize);
+    &entries[start..]
 }

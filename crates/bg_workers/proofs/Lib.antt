@@ -2,3 +2,4 @@ mod Picking
 mod Reference
 mod Turning
 pub mod TurnLaws
+mod FollowLaws

@@ -1,3 +1,4 @@
 pub mod Turns
 pub mod Working
 pub mod Members
+pub mod Following

@@ -25,3 +25,16 @@ pub struct Member<P, F> {
     /// How it ended; none where it has not run.
     pub ended: Option<Mem<Ended>>,
 }
+
+/// A worker that is to run, or has run, at a host of its own: its pass, by whom it follows and finds steps, by what it picks
+/// them, and its number.
+#[derive(Drop)]
+pub struct FollowMember<P, F> {
+    pub pass: P,
+    pub follower: F,
+    pub picker: Picker,
+    /// Counted from 0.
+    pub worker: u32,
+    /// How it ended; none where it has not run.
+    pub ended: Option<Mem<Ended>>,
+}

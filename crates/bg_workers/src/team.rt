@@ -1,10 +1,12 @@
 //! Workers that run at once.
-ghost use Rattle.std.specs.Prelude.{◌≡◌, All};
+ghost use Rattle.std.specs.Prelude.{◌≡◌, All, map};
+ghost use Rattle.bg_workers.specs.Following.{IsStanding, as_member};
 ghost use Rattle.bg_workers.specs.Members.{IsReady, HasRun, AllRun};
 
-use crate::ends::Member;
+use crate::ends::{FollowMember, Member};
+use crate::following::work_following;
 use crate::working::work;
-use bg_cond::{Board, Finder, Gate};
+use bg_cond::{Board, Finder, Follower, Gate};
 use bg_rules::System;
 use std::alloc::Global;
 use std::sync::Wait;
@@ -67,4 +69,64 @@ fn run_member<B: Board, F: Finder, G: Gate, R: Wait>(
         gate,
     );
     member.ended = Some(ended);
+}
+
+/// Runs all members at once, as [`run_workers`] does, each at the host of its follower: as [`work_following`] says of it.
+pub fn run_following<B: Board + Sync, F: Follower + Send, G: Gate + Sync, R: Threads + Wait + Sync>(
+    rt: &R,
+    alloc: Global,
+    board: &B,
+    members: &mut [FollowMember<B::Pass, F>],
+    system: &System,
+    limit: u32,
+    gate: &G,
+)
+where
+    B::Pass: Send,
+    requires board { (system.now ≡ B.system board.now) × (limit ≡ B.limit board.now) }
+    requires members { All (λ member. IsReady (B.is_of board.now) B.worker (as_member member)) members.old }
+    requires followers { All (IsStanding F.stands F.version F.host B.seen system.now) members.old }
+    ensures { AllRun (B.is_of board.now) B.worker B.seen system.now limit (map as_member members.old) (map as_member members.new) }
+{
+    let threads = members.len().max(1);
+    thread::for_each_mut(
+        rt,
+        members,
+        threads,
+        &|_, member: &mut FollowMember<B::Pass, F>|
+            requires { (system.now ≡ B.system board.now) × (limit ≡ B.limit board.now) × IsReady (B.is_of board.now) B.worker (as_member member.old)
+                × IsStanding F.stands F.version F.host B.seen system.now member.old }
+            ensures { HasRun (B.is_of board.entry.now) B.worker B.seen system.entry.now limit (as_member member.old) (as_member member.new) }
+        { run_follower(rt, alloc, board, member, system, limit, gate) },
+    );
+}
+
+/// Runs the member to its end.
+fn run_follower<B: Board, F: Follower, G: Gate, R: Wait>(
+    rt: &R,
+    alloc: Global,
+    board: &B,
+    member: &mut FollowMember<B::Pass, F>,
+    system: &System,
+    limit: u32,
+    gate: &G,
+)
+    requires board { (system.now ≡ B.system board.now) × (limit ≡ B.limit board.now) }
+    requires member { IsReady (B.is_of board.now) B.worker (as_member member.old) }
+    requires follower { IsStanding F.stands F.version F.host B.seen system.now member.old }
+    ensures { HasRun (B.is_of board.now) B.worker B.seen system.now limit (as_member member.old) (as_member member.new) }
+{
+    let answer = work_following(
+        rt,
+        alloc,
+        board,
+        &mut member.pass,
+        system,
+        limit,
+        &mut member.follower,
+        &mut member.picker,
+        member.worker,
+        gate,
+    );
+    member.ended = Some(answer);
 }

@@ -5,6 +5,7 @@ ghost use Rattle.bg_cond.specs.Drawn.{IsPick};
 ghost use Rattle.bg_cond.specs.Picks.{next_state};
 ghost use Rattle.bg_cond.specs.Steps.{HasNoStep};
 ghost use Rattle.bg_rules.specs.Systems.{IsSystem};
+ghost use Rattle.bg_workers.specs.Following.{IsLonger};
 ghost use Rattle.bg_workers.specs.Turns.{IsLater};
 ghost use Rattle.bg_workers.specs.Working.{IsEnded, IsOwn, IsDrawn, HasTurned};
 
@@ -144,7 +145,7 @@ fn find<F: Finder>(
 }
 
 /// What becomes of the step; the gate is told before and after.
-fn commit_found<B: Board, G: Gate, R: Wait>(
+pub(crate) fn commit_found<B: Board, G: Gate, R: Wait>(
     rt: &R,
     alloc: Global,
     board: &B,
@@ -157,6 +158,7 @@ fn commit_found<B: Board, G: Gate, R: Wait>(
     requires found { IsFound (B.system board.now) (B.seen pass.old) found.now }
     ensures of { B.is_of board.now pass.new × (B.worker pass.new ≡ B.worker pass.old) }
     ensures committed { IfOk result (λ answer. IsCommitted (B.system board.now) (B.limit board.now) (B.worker pass.old) (B.seen pass.old) (B.seen pass.new) found.now answer) }
+    ensures longer { IsLonger (B.seen pass.old) (B.seen pass.new) }
     ensures no_memory { OnErr result (pass.new ≡ pass.old) }
 {
     gate.pass(worker, Moment::Found);

@@ -1,0 +1,29 @@
+use Rattle.std.proofs.Common.{◌≡◌, ◌∙◌, sym, subst, refl, List, []}
+use Rattle.bg_base.specs.declared.history.Entry.{Entry}
+use Rattle.bg_workers.proofs.TurnLaws.{so_far_start, so_far_more, drawn_whole}
+use Rattle.bg_workers.proofs.Turning.{later_still}
+use Rattle.bg_workers.proofs.following.follow_on.Goals as goal
+
+pub loop-ended-init : goal.loop-ended-init
+loop-ended-init g c =
+    (c.requires.of, refl, λ none own. so_far_start c.args.system.now c.requires.system c.args.limit c.args.worker c.args.picker.now (g.B.Board.seen c.args.pass.now) none, (0, refl), c.requires.stands, c.requires.behind)
+
+pub loop-ended-preserved : goal.loop-ended-preserved
+loop-ended-preserved g c =
+    let goes = rw c.in_default.is at c.in_ok-ended.ensures.turned in
+    let invariant = c.loop-ended.invariant in
+    let of = c.follow_turn.ensures.of in (
+      of.0,
+      of.1 ∙ invariant.1,
+      λ none own. so_far_more c.args.system.now c.requires.system c.args.limit c.args.worker c.args.picker.now (g.B.Board.seen c.loop-ended.pass) c.loop-ended.picker
+          (g.B.Board.seen c.follow_turn.new.pass) (invariant.2 none) c.follow_turn.new.picker goes own,
+      later_still invariant.3 c.follow_turn.ensures.later,
+      c.follow_turn.ensures.stands,
+      c.follow_turn.ensures.behind,
+    )
+
+pub returns-in_err-ended-clause-later : goal.returns-in_err-ended-clause-later
+returns-in_err-ended-clause-later g c = let invariant = c.loop-ended.invariant in later_still invariant.3 c.follow_turn.ensures.later
+
+pub returns-in-Some-clause-later : goal.returns-in-Some-clause-later
+returns-in-Some-clause-later g c = let invariant = c.loop-ended.invariant in later_still invariant.3 c.follow_turn.ensures.later
