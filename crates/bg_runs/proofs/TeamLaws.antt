@@ -11,9 +11,11 @@ use Rattle.bg_runs.specs.Teams.{pass_of, IsMember, IsTeam, HasEnd, HaveEnds, Has
 use Rattle.bg_seats.specs.Histories.{PassView, Grows, new_pass, new_passes}
 use Rattle.bg_shared.proofs.Committing.{all_snoc, all_last}
 use Rattle.bg_shared.specs.Shared.{OfTable, BeginsWith, BeginsWithEach}
+use Rattle.bg_workers.specs.Following.{as_member}
 use Rattle.bg_workers.specs.Members.{HasRun}
 use Rattle.bg_workers.specs.Working.{IsEnded, IsOwn, IsDrawn}
 use Rattle.bg_workers.specs.declared.ends.Ended.{Ended}
+use Rattle.bg_workers.specs.declared.ends.FollowMember.{FollowMember}
 use Rattle.bg_workers.specs.declared.ends.Member.{Member}
 use Rattle.rand_pcg.specs.Lcg.{Lcg}
 
@@ -42,22 +44,22 @@ first_of [] x rest some e f = absurd (omega (arith, some))
 first_of (y ∷ ys) x rest some e f = ap₂ (λ a b. a ∷ b) (sym e) (sym f)
 
 module _ {F : Type 0} where
-  pub team_snoc : (seed : ℕ) (passes : List PassView) (members : List (Member PassView F)) (pass : PassView) (member : Member PassView F)
+  pub team_snoc : (seed : ℕ) (passes : List PassView) (members : List (FollowMember PassView F)) (pass : PassView) (member : FollowMember PassView F)
       → IsTeam seed passes members → IsMember seed pass member → IsTeam seed (passes ++ pass ∷ []) (members ++ member ∷ [])
   team_snoc seed [] [] pass member team is = (is, tt)
   team_snoc seed [] (m ∷ members) pass member team is = absurd team
   team_snoc seed (p ∷ passes) [] pass member team is = absurd team
   team_snoc seed (p ∷ passes) (m ∷ members) pass member team is = (team.0, team_snoc seed passes members pass member team.1 is)
 
-  pub team_length : (seed : ℕ) (passes : List PassView) (members : List (Member PassView F)) → IsTeam seed passes members → length members ≡ length passes
+  pub team_length : (seed : ℕ) (passes : List PassView) (members : List (FollowMember PassView F)) → IsTeam seed passes members → length members ≡ length passes
   team_length seed [] [] team = refl
   team_length seed [] (m ∷ members) team = absurd team
   team_length seed (p ∷ passes) [] team = absurd team
   team_length seed (p ∷ passes) (m ∷ members) team = ap suc (team_length seed passes members team.1)
 
   -- each member may run
-  pub team_ready : (seed : ℕ) (table : TableId) (passes : List PassView) (members : List (Member PassView F)) → IsTeam seed passes members → OfTable table passes
-      → (place : ℕ) (d : Member PassView F) → place < length members
+  pub team_ready : (seed : ℕ) (table : TableId) (passes : List PassView) (members : List (FollowMember PassView F)) → IsTeam seed passes members → OfTable table passes
+      → (place : ℕ) (d : FollowMember PassView F) → place < length members
       → ((get_or members place d).pass.table ≡ table) × ((get_or members place d).worker ≡ (get_or members place d).pass.worker)
   team_ready seed table passes [] team all place d less = absurd (omega (arith, less))
   team_ready seed table [] (m ∷ members) team all place d less = absurd team
@@ -68,11 +70,11 @@ module _ {F : Type 0} where
       team_ready seed table passes members team.1 all.1 place d (omega (arith, less))
 
   module _ (table : TableId) (system : SystemParts) (limit seed : ℕ) where
-    abbrev Ran : Member PassView F → Member PassView F → Type 0
+    abbrev Ran : FollowMember PassView F → FollowMember PassView F → Type 0
     Ran before after =
-        HasRun (λ (pass : PassView). pass.table ≡ table) (λ (pass : PassView). pass.worker) (λ (pass : PassView). pass.seen) system limit before after
+        HasRun (λ (pass : PassView). pass.table ≡ table) (λ (pass : PassView). pass.worker) (λ (pass : PassView). pass.seen) system limit (as_member before) (as_member after)
 
-    one_ended : (pass : PassView) (before after : Member PassView F) → IsMember seed pass before → Ran before after → HasEnded table system limit seed pass after
+    one_ended : (pass : PassView) (before after : FollowMember PassView F) → IsMember seed pass before → Ran before after → HasEnded table system limit seed pass after
     one_ended pass before after is ran =
         let worker : before.worker ≡ pass.worker = is.1 in
         let state : before.picker ≡ seeded seed pass.worker = is.2 in record {
@@ -87,8 +89,9 @@ module _ {F : Type 0} where
               (ran.drawn (ap (λ (p : PassView). p.seen) is.0 ∙ none) (subst (λ (w : ℕ). IsOwn w after.pass.seen) (sym worker) own)));
         }
 
-    pub all_ended : (passes : List PassView) (before after : List (Member PassView F)) → IsTeam seed passes before → length after ≡ length before
-        → ((place : ℕ) (one other : Member PassView F) → slice_get before place ≡ Some one → slice_get after place ≡ Some other → Ran one other)
+    pub all_ended : (passes : List PassView) (before after : List (FollowMember PassView F)) → IsTeam seed passes before → length (map as_member after) ≡ length (map as_member before)
+        → ((place : ℕ) (one other : Member PassView F) → slice_get (map as_member before) place ≡ Some one → slice_get (map as_member after) place ≡ Some other
+        → HasRun (λ (pass : PassView). pass.table ≡ table) (λ (pass : PassView). pass.worker) (λ (pass : PassView). pass.seen) system limit one other)
         → HaveEnded table system limit seed passes after
     all_ended [] [] [] team count each = tt
     all_ended [] [] (a ∷ after) team count each = absurd (omega (arith, count))
@@ -96,9 +99,9 @@ module _ {F : Type 0} where
     all_ended (p ∷ passes) [] after team count each = absurd team
     all_ended (p ∷ passes) (b ∷ before) [] team count each = absurd (omega (arith, count))
     all_ended (p ∷ passes) (b ∷ before) (a ∷ after) team count each =
-        (one_ended p b a team.0 (each 0 b a refl refl), all_ended passes before after team.1 (omega (arith, count)) (λ place one other e f. each (suc place) one other e f))
+        (one_ended p b a team.0 (each 0 (as_member b) (as_member a) refl refl), all_ended passes before after team.1 (omega (arith, count)) (λ place one other e f. each (suc place) one other e f))
 
-    ended_of_table : (passes : List PassView) (members : List (Member PassView F)) → HaveEnded table system limit seed passes members
+    ended_of_table : (passes : List PassView) (members : List (FollowMember PassView F)) → HaveEnded table system limit seed passes members
         → OfTable table (map pass_of members)
     ended_of_table passes [] all = tt
     ended_of_table [] (m ∷ members) all = absurd all
@@ -113,7 +116,7 @@ written_whole count new tail e = take_at new tail count (sym e)
 some_ok : {T E : Type 0} (answer : Result T E) (x : T) → ◌≡◌ {A = Option (Result T E)} (Some answer) (Some (Ok x)) → answer ≡ Ok x
 some_ok answer x e = cc
 
-came_from : {F : Type 0} (table : TableId) (system : SystemParts) (limit seed : ℕ) (journal : List Entry) (member : Member PassView F) (ended : Ended)
+came_from : {F : Type 0} (table : TableId) (system : SystemParts) (limit seed : ℕ) (journal : List Entry) (member : FollowMember PassView F) (ended : Ended)
     → HasEnded table system limit seed (new_pass table 0) member → member.ended ≡ Some (Ok ended) → Grows member.pass.worker member.pass.seen journal
     → CameFrom system limit seed journal ended
 came_from table system limit seed journal member ended has is grows =
@@ -131,11 +134,11 @@ last_begins journal passes pass all = all_last (BeginsWith journal) passes pass 
 -- ---- what is left of a team
 
 module _ {F : Type 0} (table : TableId) (system : SystemParts) (limit seed number : ℕ) (some : 1 ≤ number) (begun : List PassView) (new : begun ≡ new_passes table number)
-    (members : List (Member PassView F)) (all : HaveEnded table system limit seed begun members) (passes : List PassView) (ended : Ended) (parted : IsParted members passes ended) where
+    (members : List (FollowMember PassView F)) (all : HaveEnded table system limit seed begun members) (passes : List PassView) (ended : Ended) (parted : IsParted members passes ended) where
   have_ended : (first : (rest : List PassView) × (new_passes table number ≡ new_pass table 0 ∷ rest))
       → HasEnded table system limit seed (new_pass table 0) parted.first × HaveEnded table system limit seed first.0 parted.others
   have_ended first =
-      subst (λ (ms : List (Member PassView F)). HaveEnded table system limit seed (new_pass table 0 ∷ first.0) ms) parted.members_are
+      subst (λ (ms : List (FollowMember PassView F)). HaveEnded table system limit seed (new_pass table 0 ∷ first.0) ms) parted.members_are
       (subst (λ (ps : List PassView). HaveEnded table system limit seed ps members) (new ∙ first.1) all)
 
   -- the passes are of the table
@@ -156,7 +159,7 @@ module _ {F : Type 0} (table : TableId) (system : SystemParts) (limit seed numbe
       came_from table system limit seed journal parted.first ended parts.0 parted.ended_is (last_begins journal (map pass_of parted.others) parted.first.pass each)
 
 -- members of which the first one was taken out
-pub parted_members : {F : Type 0} (before rest : List (Member PassView F)) (first : Member PassView F) (others passes : List PassView) (ended : Ended)
+pub parted_members : {F : Type 0} (before rest : List (FollowMember PassView F)) (first : FollowMember PassView F) (others passes : List PassView) (ended : Ended)
     → 0 < length before → first ≡ get_or before 0 first → rest ≡ drop 1 before → first.ended ≡ Some (Ok ended) → others ≡ map pass_of rest
     → passes ≡ others ++ first.pass ∷ [] → HaveEnds rest → IsParted before passes ended
 parted_members before rest first others passes ended some value items is of pushed all = record {
@@ -169,7 +172,7 @@ parted_members before rest first others passes ended some value items is of push
 }
 
 -- there is a member that has run
-pub some_ended : {F : Type 0} (table : TableId) (system : SystemParts) (limit seed number : ℕ) (begun : List PassView) (members : List (Member PassView F))
+pub some_ended : {F : Type 0} (table : TableId) (system : SystemParts) (limit seed number : ℕ) (begun : List PassView) (members : List (FollowMember PassView F))
     → 1 ≤ number → begun ≡ new_passes table number → HaveEnded {F = F} table system limit seed begun members → 0 < length members
 some_ended {F} table system limit seed number begun [] some new all =
     let first = some_first table number some in

@@ -1,38 +1,63 @@
 //! Teams of workers, one for each pass of a shared host.
 ghost use Rattle.std.specs.Prelude.{◌≡◌, ◌<◌, All, length, map, Some, Ok, IfOk, OnOk};
-ghost use Rattle.bg_runs.specs.Teams.{HasEnd, HaveEnds, HaveEnded, IsParted, IsTeam, pass_of};
+ghost use Rattle.bg_runs.specs.Teams.{HasEnd, HaveEnds, HaveEnded, IsMember, IsParted, IsTeam, pass_of};
 ghost use Rattle.bg_seats.specs.Histories.{PassView};
 ghost use Rattle.bg_shared.specs.Shared.{OfTable};
+ghost use Rattle.bg_workers.specs.Following.{IsStanding, as_member};
 ghost use Rattle.bg_workers.specs.Members.{IsReady, AllRun};
 
-use bg_cond::{Gate, HostName, PlainFinder};
-use bg_lists::{Mem, OutOfMemory};
+use bg_cond::{Follower, Gate, HostName, View};
+use bg_incr::KeptFinder;
+use bg_lists::{Duplicate, Mem, OutOfMemory};
+use bg_rules::System;
 use bg_seats::{Pass, worker};
 use bg_shared::SharedHost;
-use bg_workers::{Ended, Member, Picker, run_workers};
+use bg_workers::{Ended, FollowMember, Picker, run_following};
 use std::alloc::Global;
 use std::sync::Wait;
 use std::thread::Threads;
 
 /// A worker of a team.
-pub(crate) type Worker = Member<Pass, PlainFinder>;
+pub(crate) type Worker = FollowMember<Pass, KeptFinder>;
 
-/// A worker for each pass; the generator of each is made by the seed and its number.
-fn team_of(alloc: Global, passes: Vec<Pass>, seed: u64) -> Mem<Vec<Worker>>
-    ensures { IfOk result (λ members. IsTeam seed passes.items members.items) }
+/// A worker for each pass, which stands at the system's first host; the generator of each is made by the seed and its number.
+fn team_of(alloc: Global, passes: Vec<Pass>, seed: u64, system: &System) -> Mem<Vec<Worker>>
+    ensures team { IfOk result (λ members. IsTeam seed passes.items members.items) }
+    ensures standing { IfOk result (λ members. All (IsStanding ⟦<KeptFinder as Follower>⟧.stands ⟦<KeptFinder as Follower>⟧.version ⟦<KeptFinder as Follower>⟧.host (λ (pass : PassView). pass.seen) system.now) members.items) }
 {
+    let view = first_view(alloc, system)?;
     let mut members = Vec::new(alloc);
     for pass in passes {
-        let number = worker(&pass);
-        members.push(Member {
-            pass,
-            finder: PlainFinder,
-            picker: Picker::new(seed, number),
-            worker: number,
-            ended: None,
-        })?;
+        members.push(member_of(alloc, pass, seed, system, &view)?)?;
     }
     Ok(members)
+}
+
+/// The system's first host, before any entry.
+fn first_view(alloc: Global, system: &System) -> Mem<View>
+    ensures version { IfOk result (λ view. view.version ≡ 0) }
+    ensures host { IfOk result (λ view. view.host ≡ system.now.init) }
+{
+    let host = system.init().copy(alloc)?;
+    Ok(View { version: 0, host })
+}
+
+/// The worker with that pass, which stands at the view.
+fn member_of(alloc: Global, pass: Pass, seed: u64, system: &System, view: &View) -> Mem<Worker>
+    requires version { view.now.version ≡ 0 }
+    requires host { view.now.host ≡ system.now.init }
+    ensures member { IfOk result (λ member. IsMember seed pass member) }
+    ensures standing { IfOk result (λ member. IsStanding ⟦<KeptFinder as Follower>⟧.stands ⟦<KeptFinder as Follower>⟧.version ⟦<KeptFinder as Follower>⟧.host (λ (pass : PassView). pass.seen) system.now member) }
+{
+    let number = worker(&pass);
+    let follower = KeptFinder::start(alloc, view, system)?;
+    Ok(FollowMember {
+        pass,
+        follower,
+        picker: Picker::new(seed, number),
+        worker: number,
+        ended: None,
+    })
 }
 
 /// A team with these passes, after all its members have run.
@@ -49,7 +74,7 @@ pub(crate) fn run_team<N: HostName + Send + Sync, G: Gate + Sync, R: Threads + W
     requires passes { OfTable N.table passes.items }
     ensures { IfOk result (λ members. HaveEnded N.table N.system limit seed passes.items members.items) }
 {
-    let members = team_of(alloc, passes, seed)?;
+    let members = team_of(alloc, passes, seed, host.system())?;
     let members = run_members(rt, alloc, host, members, limit, gate);
     Ok(members)
 }
@@ -64,10 +89,11 @@ fn run_members<N: HostName + Send + Sync, G: Gate + Sync, R: Threads + Wait + Sy
     gate: &G,
 ) -> Vec<Worker>
     requires limit { limit ≡ N.limit }
-    requires members { All (IsReady (λ (pass : PassView). pass.table ≡ N.table) (λ (pass : PassView). pass.worker)) members.items }
-    ensures { AllRun (λ (pass : PassView). pass.table ≡ N.table) (λ (pass : PassView). pass.worker) (λ (pass : PassView). pass.seen) N.system limit members.items result.items }
+    requires members { All (λ member. IsReady (λ (pass : PassView). pass.table ≡ N.table) (λ (pass : PassView). pass.worker) (as_member member)) members.items }
+    requires standing { All (IsStanding ⟦<KeptFinder as Follower>⟧.stands ⟦<KeptFinder as Follower>⟧.version ⟦<KeptFinder as Follower>⟧.host (λ (pass : PassView). pass.seen) N.system) members.items }
+    ensures { AllRun (λ (pass : PassView). pass.table ≡ N.table) (λ (pass : PassView). pass.worker) (λ (pass : PassView). pass.seen) N.system limit (map as_member members.items) (map as_member result.items) }
 {
-    run_workers(
+    run_following(
         rt,
         alloc,
         host,
@@ -87,7 +113,7 @@ pub(crate) fn parted(alloc: Global, mut members: Vec<Worker>) -> Mem<(Vec<Pass>,
 {
     let Member {
         pass,
-        finder: _,
+        follower: _,
         picker,
         worker: _,
         ended,
@@ -117,7 +143,7 @@ fn pass_of_ended(member: Worker) -> Mem<Pass>
 {
     let Member {
         pass,
-        finder: _,
+        follower: _,
         picker: _,
         worker: _,
         ended,

@@ -1,5 +1,5 @@
 //! A board in memory for one worker, which counts the looks.
-ghost use Rattle.std.specs.Prelude.{◌≡◌, ◌≤◌, [], length, IfOk};
+ghost use Rattle.std.specs.Prelude.{◌≡◌, ◌≤◌, [], length, drop, IfOk};
 ghost use Rattle.bg_base.specs.Limits.{most_steps};
 ghost use Rattle.bg_cond.specs.Steps.{IsRun};
 
@@ -56,6 +56,17 @@ impl Board for Alone {
         })
     }
 
+    fn news<R: Wait>(
+        &self,
+        _rt: &R,
+        alloc: Global,
+        pass: &mut AlonePass,
+        from: u32,
+    ) -> Mem<Vec<Entry>> {
+        self.looks.fetch_add(1, Ordering::SeqCst);
+        copies(alloc, behind(pass.journal.as_slice(), from))
+    }
+
     fn commit<R: Wait>(
         &self,
         _rt: &R,
@@ -87,6 +98,14 @@ impl Board for Alone {
         pass.host = next;
         Ok(Commit::Done { version: count + 1 })
     }
+}
+
+/// The entries from that number on; none where there are fewer.
+fn behind(entries: &[Entry], from: u32) -> &[Entry]
+    ensures { result.now ≡ drop from entries.now }
+{
+    let start = entries.len().min(from as usize);
+    &entries[start..]
 }
 
 /// A pass that has seen nothing.
