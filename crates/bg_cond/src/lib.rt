@@ -4,7 +4,7 @@
 //! - [`enabled`]: whether the conditions of a rule hold at an occurrence of its redex.
 //! - [`first_class`], [`steps`]: the first class with a rule that is enabled, and the steps of its rules.
 //! - [`judge`]: whether a step is legal, or why not.
-//! - [`take_step`]: what a legal step makes of the host. [`End`]: how a run ends.
+//! - [`take_step`], [`take_step_in_place`]: what a legal step makes of the host. [`End`]: how a run ends.
 //! - [`Board`]: a host that workers share, under a [`HostName`]; what they see of it, a [`View`], what they find, a
 //!   [`Found`], what becomes of that, a [`Commit`], and what is left, a [`Closed`].
 //! - [`Finder`], [`Gate`]: how workers find legal steps, and who is told of their moments. [`Follower`]: who finds them at a
@@ -42,5 +42,5 @@ pub use judging::judge;
 pub use legal::{first_class, steps};
 pub use listed::occurs_somewhere;
 pub use pieces::{context_piece, param_piece};
-pub use stepping::take_step;
+pub use stepping::{take_step, take_step_in_place};
 pub use verdict::Verdict;

@@ -1,14 +1,14 @@
 //! What the lock of a shared host keeps.
-ghost use Rattle.std.specs.Prelude.{◌≡◌, ◌≤◌, ◌<◌, length, drop, IfOk, IsErrOf, OnOk, OnErr};
+ghost use Rattle.std.specs.Prelude.{◌≡◌, ◌≤◌, length, drop, IfOk, OnOk, OnErr};
 ghost use Rattle.bg_cond.specs.Boards.{Shows, IsNews, IsFound, IsCommitted};
 ghost use Rattle.bg_cond.specs.Drawn.{entry_of};
-ghost use Rattle.bg_cond.specs.Steps.{IsLegal, LeadsTo, IsTooLarge, IsRun};
+ghost use Rattle.bg_cond.specs.Steps.{IsRun};
 ghost use Rattle.bg_seats.specs.Histories.{Grows};
 ghost use Rattle.bg_shared.specs.Shared.{IsHistory, StaysUnlessDone};
 
 use bg_base::{Entry, Step};
-use bg_cond::{Commit, Found, HostName, View};
-use bg_index::{IndexedHost, Touched};
+use bg_cond::{Commit, Found, HostName, View, take_step_in_place};
+use bg_index::IndexedHost;
 use bg_lists::{Duplicate, Mem, OutOfMemory, copies};
 use bg_rules::{ReactFault, System};
 use bg_seats::{HistoryTable, Pass, Turn, worker};
@@ -111,8 +111,8 @@ impl<N: HostName> Core<N> {
         let entry = entry_by(alloc, worker(pass), &found.step)?;
         let noted = entry.copy(alloc)?;
         self.journal.reserve(1)?;
-        match step_in_place(alloc, &mut self.host, system, &found.step) {
-            Ok(_touched) => {
+        match take_step_in_place(alloc, &mut self.host, system, &found.step) {
+            Ok(_causes) => {
                 self.journal.push_reserved(noted);
                 let version = table.append(pass, &mut self.turn, &entry);
                 Ok(Commit::Done { version })
@@ -124,22 +124,6 @@ impl<N: HostName> Core<N> {
             Err(ReactFault::OutOfMemory) => Err(OutOfMemory),
         }
     }
-}
-
-/// Takes a legal step in place.
-fn step_in_place(
-    alloc: Global,
-    host: &mut IndexedHost,
-    system: &System,
-    step: &Step,
-) -> Result<Touched, ReactFault>
-    requires { IsLegal host.old system.now.rules step.now }
-    ensures leads { OnOk result (LeadsTo host.old system.now.rules step.now host.new) }
-    ensures full { IsErrOf result ReactFault.Full → IsTooLarge host.old system.now.rules step.now }
-    ensures kept { OnErr result (host.new ≡ host.old) }
-{
-    let rule = &system.rules()[step.rule as usize];
-    host.react_in_place(alloc, rule, step.map.as_slice())
 }
 
 /// The step as an entry of the worker.

@@ -9,7 +9,8 @@ ghost use Rattle.bg_workers.specs.Turns.{Turns, after_words, behind_end};
 use crate::choosing::pick_step;
 use crate::picker::Picker;
 use bg_base::{Entry, Journal, Step};
-use bg_cond::{End, MOST_CANDIDATES, steps, take_step};
+use bg_cond::{End, MOST_CANDIDATES, steps_in, take_step_in_place};
+use bg_index::IndexedHost;
 use bg_lists::{Mem, OutOfMemory, Rows};
 use bg_rules::{Host, ReactFault, System};
 use std::alloc::Global;
@@ -27,11 +28,12 @@ pub struct DrawnRun {
 /// The run that the generator draws from the host on, of at most so many entries, all of worker 0: at each host the first
 /// 4,096 legal steps are the candidates, and the next word of the generator, modulo their number, is the place of the one
 /// that is taken. The generator is then a word further for each entry, and one more where the picked step passes a limit.
-/// Each turn costs what [`steps`] and [`take_step`] cost.
+/// The host is indexed once, and taken from the index at the end; each turn costs what [`steps_in`] and
+/// [`take_step_in_place`] cost.
 pub fn draw(
     alloc: Global,
     system: &System,
-    mut host: Host,
+    host: Host,
     most: u32,
     picker: &mut Picker,
 ) -> Mem<DrawnRun>
@@ -39,29 +41,39 @@ pub fn draw(
     ensures drawn { IfOk result (λ run. Draws system.now.rules 0 most host picker.old run.journal run.end run.host) }
     ensures words { IfOk result (λ run. picker.new ≡ behind_end run.end (after_words (length run.journal) picker.old)) }
 {
+    let mut indexed = IndexedHost::of(alloc, &host)?;
+    drop(host);
+    let (entries, end) = draw_in(alloc, system, &mut indexed, most, picker)?;
+    let last = indexed.to_host(alloc)?;
+    Ok(DrawnRun {
+        journal: Rows::from_vec(entries),
+        end,
+        host: last,
+    })
+}
+
+/// The entries that are drawn, and why no more are; the host becomes that after all of them.
+fn draw_in(
+    alloc: Global,
+    system: &System,
+    host: &mut IndexedHost,
+    most: u32,
+    picker: &mut Picker,
+) -> Mem<(Vec<Entry>, End)>
+    requires { most ≤ most_steps }
+    ensures drawn { IfOk result (λ drawn. Draws system.now.rules 0 most host.old picker.old drawn.0.items drawn.1 host.new) }
+    ensures words { IfOk result (λ drawn. picker.new ≡ behind_end drawn.1 (after_words (length drawn.0.items) picker.old)) }
+    ensures few { IfOk result (λ drawn. length drawn.0.items ≤ most_steps) }
+{
     let mut entries = Vec::new(alloc);
     let mut room = most;
     while room > 0 {
-        if let Some(end) = draw_one(alloc, system, 0, &mut host, picker, &mut entries)? {
-            return Ok(ended(entries, end, host));
+        if let Some(end) = draw_one(alloc, system, 0, host, picker, &mut entries)? {
+            return Ok((entries, end));
         }
         room -= 1;
     }
-    Ok(ended(entries, End::Limit, host))
-}
-
-/// The run with these entries.
-fn ended(entries: Vec<Entry>, end: End, host: Host) -> DrawnRun
-    requires { length entries.items ≤ most_steps }
-    ensures journal { result.journal ≡ entries.items }
-    ensures end { result.end ≡ end }
-    ensures host { result.host ≡ host }
-{
-    DrawnRun {
-        journal: Rows::from_vec(entries),
-        end,
-        host,
-    }
+    Ok((entries, End::Limit))
 }
 
 /// Draws one step more and takes it; or tells why none is taken.
@@ -69,7 +81,7 @@ fn draw_one(
     alloc: Global,
     system: &System,
     worker: u32,
-    host: &mut Host,
+    host: &mut IndexedHost,
     picker: &mut Picker,
     entries: &mut Vec<Entry>,
 ) -> Mem<Option<End>>
@@ -78,8 +90,8 @@ fn draw_one(
     let Some(step) = choose(alloc, host, system, picker)? else {
         return Ok(Some(End::Quiet));
     };
-    match take_step(alloc, host, system, &step) {
-        Ok(()) => {
+    match take_step_in_place(alloc, host, system, &step) {
+        Ok(_causes) => {
             push_entry(entries, worker, step)?;
             Ok(None)
         }
@@ -98,11 +110,16 @@ fn push_entry(entries: &mut Vec<Entry>, worker: u32, step: Step) -> Mem<()>
 }
 
 /// The step that the generator picks of the first legal ones, none where no step is legal.
-fn choose(alloc: Global, host: &Host, system: &System, picker: &mut Picker) -> Mem<Option<Step>>
+fn choose(
+    alloc: Global,
+    host: &IndexedHost,
+    system: &System,
+    picker: &mut Picker,
+) -> Mem<Option<Step>>
     ensures { IfOk result (λ chosen. MatchOption chosen (HasNoStep host.now system.now.rules × (picker.new ≡ picker.old))
         (λ step. IsPick host.now system.now.rules picker.old step × (picker.new ≡ next_state picker.old))) }
 {
-    let candidates = steps(alloc, host, system, MOST_CANDIDATES)?;
+    let candidates = steps_in(alloc, host, system, MOST_CANDIDATES)?;
     let chosen = pick_step(candidates, picker);
     Ok(chosen)
 }

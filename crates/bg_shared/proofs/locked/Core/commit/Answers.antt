@@ -7,8 +7,8 @@ use Rattle.bg_shared.specs.Shared.{CoreView, IsLocked}
 use Rattle.bg_shared.proofs.Committing.{legal_now, seen_all, newest, full_locked, grown_locked}
 use Rattle.bg_shared.proofs.locked.Core.commit.Goals as goal
 
-pub step_in_place-requires : goal.step_in_place-requires
-step_in_place-requires g c = rw c.requires.system (legal_now c.self.invariant c.compare.ensures.grows c.requires.found (omega arith))
+pub take_step_in_place-requires : goal.take_step_in_place-requires
+take_step_in_place-requires g c = rw c.requires.system (legal_now c.self.invariant c.compare.ensures.grows c.requires.found (omega arith))
 
 pub returns-in-Err-Full-clause-committed : goal.returns-in-Err-Full-clause-committed
 returns-in-Err-Full-clause-committed g c =
@@ -46,7 +46,7 @@ invariant_of-self-in-Ok g c =
     let within = kept.within in
     let room : length journal < g.N.HostName.limit = grind arith in
     let leads = rw c.requires.system at c.in-Ok.ensures.leads in
-    subst (λ (xs : List Entry). IsLocked g.N.HostName.table g.N.HostName.system g.N.HostName.limit g.N.HostName.passes c.append-version.new.turn c.step_in_place.new.host xs c.self.inside.limit)
+    subst (λ (xs : List Entry). IsLocked g.N.HostName.table g.N.HostName.system g.N.HostName.limit g.N.HostName.passes c.append-version.new.turn c.take_step_in_place.new.host xs c.self.inside.limit)
     (sym appended) (grown_locked kept c.worker.result legal leads after room below)
 
 pub returns-in-Ok-clause-run : goal.returns-in-Ok-clause-run
@@ -55,4 +55,4 @@ returns-in-Ok-clause-run g c = let kept = invariant_of-self-in-Ok g c in kept.ru
 pub returns-in-Ok-clause-history : goal.returns-in-Ok-clause-history
 returns-in-Ok-clause-history g c =
     let kept = invariant_of-self-in-Ok g c in
-    record { host = c.step_in_place.new.host; run = kept.run; within = kept.within; below = kept.below }
+    record { host = c.take_step_in_place.new.host; run = kept.run; within = kept.within; below = kept.below }

@@ -1,6 +1,6 @@
 use Rattle.std.proofs.Common.{◌≡◌, length}
 use Rattle.bg_workers.specs.Turns.{Continues, after_words}
-use Rattle.bg_workers.proofs.drawing.draw.Given as goal
+use Rattle.bg_workers.proofs.drawing.draw_in.Given as goal
 
 -- what is drawn from here on, behind the entries so far, is drawn from the beginning; a word was taken for each of these
 abbrev pub invariant-loop-room : goal.invariant-loop-room
