@@ -42,11 +42,10 @@ module _ (side : Side) (host : Big) (images : List ℕ) (pattern : Big) where
   left_none walk e are o =
       let m : Mem o.nodes [] = subst (λ maps. Mem o.nodes maps) e (are.left o.nodes o.occurs o.lies) in elim m [ ]
 
--- the test was made of an equal host and an equal map
-pub lies_same : (side : Side) (tested host : Big) (images made map : List ℕ) (answer : Bool) → tested ≡ host → made ≡ map
-    → answer ≡ list_all (lies_on side tested images) made → list_all (lies_on side host images) map ≡ answer
-lies_same side tested host images made map answer e f is =
-    sym (is ∙ (λ t. list_all (lies_on side (e t) images) (f t)))
+-- the test was made of an equal map
+pub lies_same : (side : Side) (host : Big) (images made map : List ℕ) (answer : Bool) → made ≡ map
+    → answer ≡ list_all (lies_on side host images) made → list_all (lies_on side host images) map ≡ answer
+lies_same side host images made map answer f is = sym (is ∙ (λ t. list_all (lies_on side host images) (f t)))
 
 -- ---- an occurrence of the redex at which the rule is enabled
 

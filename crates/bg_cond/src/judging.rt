@@ -11,9 +11,10 @@ ghost use Rattle.bg_cond.specs.Verdicts.{IsJudged};
 use crate::Verdict;
 use crate::holding::first_unmet;
 use crate::legal::{first_class_among, steps_of_class};
+use crate::plain_host::PlainHost;
 use bg_base::Step;
 use bg_lists::Mem;
-use bg_match::{HostIndex, embeds};
+use bg_match::{NumberedHost, embeds};
 use bg_rules::{Host, Rule, System};
 use std::alloc::Global;
 
@@ -28,20 +29,12 @@ pub fn judge(alloc: Global, host: &Host, system: &System, step: &Step) -> Mem<Ve
     if step.rule as usize >= rules.len() {
         return Ok(Verdict::NoRule);
     }
-    let indexed = HostIndex::of(alloc, host.big())?;
-    let verdict = judge_rule(alloc, &indexed, host, rules, step)?;
+    let verdict = judge_rule(alloc, host, rules, step)?;
     Ok(verdict)
 }
 
 /// The verdict where the rule is there.
-fn judge_rule<'a>(
-    alloc: Global,
-    indexed: &HostIndex<'a>,
-    host: &Host,
-    rules: &'a [Rule],
-    step: &Step,
-) -> Mem<Verdict>
-    requires indexed { indexed.now ≡ host.now.big }
+fn judge_rule(alloc: Global, host: &Host, rules: &[Rule], step: &Step) -> Mem<Verdict>
     requires looks { All LooksForNodes rules.now }
     requires few { length rules.now < 2 ^ 32 }
     requires there { step.now.rule < length rules.now }
@@ -50,56 +43,53 @@ fn judge_rule<'a>(
     let rule = &rules[step.rule as usize];
     let occurs = embeds(host.big(), rule.redex(), step.map.as_slice());
     if occurs {
-        let verdict = judge_conditions(alloc, indexed, host, rules, rule, step)?;
+        let plain = PlainHost::of(alloc, host)?;
+        let verdict = judge_conditions(alloc, &plain, rules, rule, step)?;
         return Ok(verdict);
     }
     Ok(Verdict::NotEmbedding)
 }
 
 /// The verdict where the redex occurs.
-fn judge_conditions<'a>(
+fn judge_conditions<H: NumberedHost>(
     alloc: Global,
-    indexed: &HostIndex<'a>,
-    host: &Host,
-    rules: &'a [Rule],
-    rule: &'a Rule,
+    host: &H,
+    rules: &[Rule],
+    rule: &Rule,
     step: &Step,
 ) -> Mem<Verdict>
-    requires indexed { indexed.now ≡ host.now.big }
     requires looks { All LooksForNodes rules.now }
     requires few { length rules.now < 2 ^ 32 }
     requires there { At rule.now step.now.rule rules.now }
-    requires occurs { Occurs host.now.big rule.now.redex step.now.map }
-    ensures { IfOk result (λ verdict. IsJudged host.now rules.now step.now verdict) }
+    requires occurs { Occurs (H.state host.now).big rule.now.redex step.now.map }
+    ensures { IfOk result (λ verdict. IsJudged (H.state host.now) rules.now step.now verdict) }
 {
-    let _big = host.big();
+    host.keeps();
     let conditions = rule.conditions();
-    match first_unmet(alloc, indexed, step.map.as_slice(), conditions)? {
+    match first_unmet(alloc, host, step.map.as_slice(), conditions)? {
         Some(number) => Ok(Verdict::ConditionFails { number }),
-        None => judge_class(alloc, indexed, host, rules, rule.class(), step),
+        None => judge_class(alloc, host, rules, rule.class(), step),
     }
 }
 
 /// The verdict where the step is enabled.
-fn judge_class<'a>(
+fn judge_class<H: NumberedHost>(
     alloc: Global,
-    indexed: &HostIndex<'a>,
-    host: &Host,
-    rules: &'a [Rule],
+    host: &H,
+    rules: &[Rule],
     class: u32,
     step: &Step,
 ) -> Mem<Verdict>
-    requires indexed { indexed.now ≡ host.now.big }
     requires looks { All LooksForNodes rules.now }
     requires few { length rules.now < 2 ^ 32 }
-    requires enabled { IsEnabledStep host.now rules.now class step.now }
-    ensures { IfOk result (λ verdict. IsJudged host.now rules.now step.now verdict) }
+    requires enabled { IsEnabledStep (H.state host.now) rules.now class step.now }
+    ensures { IfOk result (λ verdict. IsJudged (H.state host.now) rules.now step.now verdict) }
 {
-    let Some(first) = first_class_among(alloc, indexed, host, rules)? else {
+    let Some(first) = first_class_among(alloc, host, rules)? else {
         return Ok(Verdict::Legal);
     };
     if first < class {
-        let steps = steps_of_class(alloc, indexed, host, rules, first, 1)?;
+        let steps = steps_of_class(alloc, host, rules, first, 1)?;
         let verdict = verdict_of(steps);
         return Ok(verdict);
     }

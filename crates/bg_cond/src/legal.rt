@@ -1,16 +1,19 @@
 //! The first class with a rule that is enabled, and the steps of its rules.
 ghost use Rattle.std.specs.Prelude.{◌≡◌, ◌<◌, ◌+◌, ◌^◌, ◌++◌, ◌∷◌, [], true, length, IfOk, OnOk, MatchOption};
 ghost use Rattle.std.specs.List.{All};
+ghost use Rattle.bg_lists.specs.Lists.{At};
 ghost use Rattle.bg_cond.specs.Found as found;
 ghost use Rattle.bg_cond.specs.Found.{IsHigherOf, IsEnabledBelow};
+ghost use Rattle.bg_cond.specs.Lists.{AreListsOf};
 ghost use Rattle.bg_cond.specs.Sides.{LooksForNodes};
 ghost use Rattle.bg_cond.specs.Steps.{IsFirstClass, IsQuiet, AreFirst, AreFirstLegal};
 
 use crate::enabling::{is_enabled_at, is_enabled_somewhere};
-use crate::listed::lists_for;
+use crate::listed::{Listed, lists_for};
+use crate::plain_host::PlainHost;
 use bg_base::{Map, Step};
 use bg_lists::Mem;
-use bg_match::HostIndex;
+use bg_match::{NumberedHost, Walk};
 use bg_rules::{Host, Rule, System};
 use std::alloc::Global;
 
@@ -23,8 +26,8 @@ pub fn first_class(alloc: Global, host: &Host, system: &System) -> Mem<Option<u3
     ensures { IfOk result (λ class. MatchOption class (IsQuiet host.now system.now.rules) (λ number. IsFirstClass host.now system.now.rules number)) }
 {
     let _controls = system.signature().len();
-    let indexed = HostIndex::of(alloc, host.big())?;
-    let class = first_class_among(alloc, &indexed, host, system.rules())?;
+    let plain = PlainHost::of(alloc, host)?;
+    let class = first_class_among(alloc, &plain, system.rules())?;
     Ok(class)
 }
 
@@ -33,45 +36,54 @@ pub fn first_class(alloc: Global, host: &Host, system: &System) -> Mem<Option<u3
 pub fn steps(alloc: Global, host: &Host, system: &System, most: u32) -> Mem<Vec<Step>>
     ensures { IfOk result (λ steps. AreFirstLegal most host.now system.now.rules steps.items) }
 {
+    let plain = PlainHost::of(alloc, host)?;
+    let steps = steps_in(alloc, &plain, system, most)?;
+    Ok(steps)
+}
+
+/// The same of any host that answers a search, which is not indexed anew: costs what [`steps`] costs but for the index.
+pub fn steps_in<H: NumberedHost>(
+    alloc: Global,
+    host: &H,
+    system: &System,
+    most: u32,
+) -> Mem<Vec<Step>>
+    ensures { IfOk result (λ steps. AreFirstLegal most (H.state host.now) system.now.rules steps.items) }
+{
     let _controls = system.signature().len();
-    let indexed = HostIndex::of(alloc, host.big())?;
-    let steps = first_legal(alloc, &indexed, host, system.rules(), most)?;
+    let steps = first_legal(alloc, host, system.rules(), most)?;
     Ok(steps)
 }
 
 /// The first class among these rules.
-pub(crate) fn first_class_among<'a>(
+pub(crate) fn first_class_among<H: NumberedHost>(
     alloc: Global,
-    indexed: &HostIndex<'a>,
-    host: &Host,
-    rules: &'a [Rule],
+    host: &H,
+    rules: &[Rule],
 ) -> Mem<Option<u32>>
-    requires indexed { indexed.now ≡ host.now.big }
     requires looks { All LooksForNodes rules.now }
-    ensures { IfOk result (λ class. MatchOption class (IsQuiet host.now rules.now) (λ number. IsFirstClass host.now rules.now number)) }
+    ensures { IfOk result (λ class. MatchOption class (IsQuiet (H.state host.now) rules.now) (λ number. IsFirstClass (H.state host.now) rules.now number)) }
 {
     let mut first = None;
     for rule in rules {
-        first = higher_of(alloc, indexed, host, rule, first)?;
+        first = higher_of(alloc, host, rule, first)?;
     }
     Ok(first)
 }
 
 /// The class of the rule, where it comes before the first so far and the rule is enabled somewhere; else the first so
 /// far.
-fn higher_of<'a>(
+fn higher_of<H: NumberedHost>(
     alloc: Global,
-    indexed: &HostIndex<'a>,
-    host: &Host,
-    rule: &'a Rule,
+    host: &H,
+    rule: &Rule,
     first: Option<u32>,
 ) -> Mem<Option<u32>>
-    requires indexed { indexed.now ≡ host.now.big }
     requires looks { LooksForNodes rule.now }
-    ensures { IfOk result (λ new. IsHigherOf host.now rule.now first new) }
+    ensures { IfOk result (λ new. IsHigherOf (H.state host.now) rule.now first new) }
 {
     if is_higher(rule.class(), first) {
-        let new = raised(alloc, indexed, host, rule, first)?;
+        let new = raised(alloc, host, rule, first)?;
         return Ok(new);
     }
     Ok(first)
@@ -88,93 +100,107 @@ fn is_higher(class: u32, first: Option<u32>) -> bool
 }
 
 /// The class of the rule, where that is enabled somewhere; else the first so far.
-fn raised<'a>(
+fn raised<H: NumberedHost>(
     alloc: Global,
-    indexed: &HostIndex<'a>,
-    host: &Host,
-    rule: &'a Rule,
+    host: &H,
+    rule: &Rule,
     first: Option<u32>,
 ) -> Mem<Option<u32>>
-    requires indexed { indexed.now ≡ host.now.big }
     requires looks { LooksForNodes rule.now }
     requires higher { found.is_higher rule.now.class first ≡ true }
-    ensures { IfOk result (λ new. IsHigherOf host.now rule.now first new) }
+    ensures { IfOk result (λ new. IsHigherOf (H.state host.now) rule.now first new) }
 {
-    if is_enabled_somewhere(alloc, indexed, host, rule)? {
+    if is_enabled_somewhere(alloc, host, rule)? {
         return Ok(Some(rule.class()));
     }
     Ok(first)
 }
 
 /// The first legal steps.
-fn first_legal<'a>(
+fn first_legal<H: NumberedHost>(
     alloc: Global,
-    indexed: &HostIndex<'a>,
-    host: &Host,
-    rules: &'a [Rule],
+    host: &H,
+    rules: &[Rule],
     most: u32,
 ) -> Mem<Vec<Step>>
-    requires indexed { indexed.now ≡ host.now.big }
     requires looks { All LooksForNodes rules.now }
     requires few { length rules.now < 2 ^ 32 }
-    ensures { IfOk result (λ steps. AreFirstLegal most host.now rules.now steps.items) }
+    ensures { IfOk result (λ steps. AreFirstLegal most (H.state host.now) rules.now steps.items) }
 {
-    match first_class_among(alloc, indexed, host, rules)? {
+    match first_class_among(alloc, host, rules)? {
         None => Ok(Vec::new(alloc)),
-        Some(class) => steps_of_class(alloc, indexed, host, rules, class, most),
+        Some(class) => steps_of_class(alloc, host, rules, class, most),
     }
 }
 
 /// The first steps of the first class.
-pub(crate) fn steps_of_class<'a>(
+pub(crate) fn steps_of_class<H: NumberedHost>(
     alloc: Global,
-    indexed: &HostIndex<'a>,
-    host: &Host,
-    rules: &'a [Rule],
+    host: &H,
+    rules: &[Rule],
     class: u32,
     most: u32,
 ) -> Mem<Vec<Step>>
-    requires indexed { indexed.now ≡ host.now.big }
     requires looks { All LooksForNodes rules.now }
     requires few { length rules.now < 2 ^ 32 }
-    requires first { IsFirstClass host.now rules.now class }
-    ensures { IfOk result (λ steps. AreFirstLegal most host.now rules.now steps.items) }
+    requires first { IsFirstClass (H.state host.now) rules.now class }
+    ensures { IfOk result (λ steps. AreFirstLegal most (H.state host.now) rules.now steps.items) }
 {
     let mut steps = Vec::new(alloc);
     for number in 0..rules.len() as u32 {
-        push_steps(alloc, indexed, host, rules, class, number, most, &mut steps)?;
+        push_steps(alloc, host, rules, class, number, most, &mut steps)?;
     }
     Ok(steps)
 }
 
 /// Appends the steps of the rule, where it is of the class, up to as many as are asked for.
-fn push_steps<'a>(
+fn push_steps<H: NumberedHost>(
     alloc: Global,
-    indexed: &HostIndex<'a>,
-    host: &Host,
-    rules: &'a [Rule],
+    host: &H,
+    rules: &[Rule],
     class: u32,
     number: u32,
     most: u32,
     steps: &mut Vec<Step>,
 ) -> Mem<()>
-    requires indexed { indexed.now ≡ host.now.big }
     requires looks { All LooksForNodes rules.now }
     requires there { number < length rules.now }
-    requires before { AreFirst most (IsEnabledBelow host.now rules.now class number) steps.old.items }
-    ensures { OnOk result (AreFirst most (IsEnabledBelow host.now rules.now class (number + 1)) steps.new.items) }
+    requires before { AreFirst most (IsEnabledBelow (H.state host.now) rules.now class number) steps.old.items }
+    ensures { OnOk result (AreFirst most (IsEnabledBelow (H.state host.now) rules.now class (number + 1)) steps.new.items) }
 {
     let rule = &rules[number as usize];
     if rule.class() != class {
         return Ok(());
     }
-    let lists = lists_for(alloc, indexed, rule)?;
-    let mut walk = indexed.embeddings(alloc, rule.redex())?;
+    let lists = lists_for(alloc, host, rule)?;
+    push_steps_of(alloc, host, rules, rule, lists.as_slice(), number, most, steps)?;
+    Ok(())
+}
+
+/// Appends the steps of the rule, where the lists are those of its conditions, up to as many as are asked for.
+fn push_steps_of<H: NumberedHost>(
+    alloc: Global,
+    host: &H,
+    _rules: &[Rule],
+    rule: &Rule,
+    lists: &[Option<Listed>],
+    number: u32,
+    most: u32,
+    steps: &mut Vec<Step>,
+) -> Mem<()>
+    requires looks { LooksForNodes rule.now }
+    requires there { At rule.now number _rules.now }
+    requires lists { AreListsOf (H.big host.now) rule.now.conditions lists.now }
+    requires before { AreFirst most (IsEnabledBelow (H.state host.now) _rules.now rule.now.class number) steps.old.items }
+    ensures { OnOk result (AreFirst most (IsEnabledBelow (H.state host.now) _rules.now rule.now.class (number + 1)) steps.new.items) }
+{
+    host.keeps();
+    let mut walk = Walk::new(alloc, host, rule.redex())?;
     while steps.len() < most as usize {
         let Some(map) = walk.next()? else {
             return Ok(());
         };
-        if is_enabled_at(alloc, indexed, host, rule, lists.as_slice(), map.as_slice())? {
+        if is_enabled_at(alloc, host, rule, lists, map.as_slice())? {
             push_step(steps, number, map)?;
         }
     }

@@ -4,17 +4,18 @@ ghost use Rattle.std.specs.List.{All};
 ghost use Rattle.bg_base.specs.Bigraph.{IsValid};
 ghost use Rattle.bg_cond.specs.Lists.{is_noted, AreUpward, IsNotedUp, IsNotedFor, AreNotedFor};
 
-use bg_base::{Big, Map, Place, find_node};
+use bg_base::{Map, Place};
 use bg_lists::Mem;
+use bg_match::HostLookup;
 use std::alloc::Global;
 use std::collections::BTreeMap;
 
 /// At each node in which the first node of one of the maps lies, the number of one such map. No node is gone past twice;
 /// takes memory for as many notes.
-pub(crate) fn notes_for(alloc: Global, host: &Big, maps: &[Map]) -> Mem<BTreeMap<u32, u32>>
-    requires valid { IsValid host.now }
+pub(crate) fn notes_for<H: HostLookup>(alloc: Global, host: &H, maps: &[Map]) -> Mem<BTreeMap<u32, u32>>
+    requires valid { IsValid (H.big host.now) }
     requires few { length maps.now < 2 ^ 32 }
-    ensures { IfOk result (λ notes. AreNotedFor host.now maps.now notes) }
+    ensures { IfOk result (λ notes. AreNotedFor (H.big host.now) maps.now notes) }
 {
     let mut notes = BTreeMap::new(alloc);
     for (number, map) in maps.iter().enumerate() {
@@ -24,15 +25,15 @@ pub(crate) fn notes_for(alloc: Global, host: &Big, maps: &[Map]) -> Mem<BTreeMap
 }
 
 /// Notes the number of the map at each node in which its first node lies, up to one at which something is noted.
-fn note_map(host: &Big, map: &[u32], number: u32, notes: &mut BTreeMap<u32, u32>) -> Mem<()>
-    requires valid { IsValid host.now }
-    requires upward { AreUpward host.now notes.old }
-    ensures { OnOk result (IsNotedFor host.now notes.old notes.new map.now) }
+fn note_map<H: HostLookup>(host: &H, map: &[u32], number: u32, notes: &mut BTreeMap<u32, u32>) -> Mem<()>
+    requires valid { IsValid (H.big host.now) }
+    requires upward { AreUpward (H.big host.now) notes.old }
+    ensures { OnOk result (IsNotedFor (H.big host.now) notes.old notes.new map.now) }
 {
     let Some(first) = map.first() else {
         return Ok(());
     };
-    let Some(row) = find_node(&host.nodes, *first) else {
+    let Some(row) = host.row(*first) else {
         return Ok(());
     };
     note_up(host, row.parent, number, notes)?;
@@ -40,10 +41,10 @@ fn note_map(host: &Big, map: &[u32], number: u32, notes: &mut BTreeMap<u32, u32>
 }
 
 /// Notes the number at the place and above it, up to a node at which something is noted.
-fn note_up(host: &Big, start: Place, number: u32, notes: &mut BTreeMap<u32, u32>) -> Mem<()>
-    requires valid { IsValid host.now }
-    requires upward { AreUpward host.now notes.old }
-    ensures { OnOk result (IsNotedUp host.now notes.old notes.new start) }
+fn note_up<H: HostLookup>(host: &H, start: Place, number: u32, notes: &mut BTreeMap<u32, u32>) -> Mem<()>
+    requires valid { IsValid (H.big host.now) }
+    requires upward { AreUpward (H.big host.now) notes.old }
+    ensures { OnOk result (IsNotedUp (H.big host.now) notes.old notes.new start) }
 {
     let mut place = start;
     while let Place::Node(node) = place {
@@ -51,7 +52,7 @@ fn note_up(host: &Big, start: Place, number: u32, notes: &mut BTreeMap<u32, u32>
             return Ok(());
         }
         notes.insert(node, number)?;
-        let Some(row) = find_node(&host.nodes, node) else {
+        let Some(row) = host.row(node) else {
             return Ok(());
         };
         place = row.parent;

@@ -4,7 +4,7 @@ use Rattle.bg_cond.proofs.SortedImages.{answer_from_sorted}
 use Rattle.bg_cond.proofs.holding.all_hold.Goals as goal
 
 pub returns : goal.returns
-returns c =
-    answer_from_sorted c.args.indexed.now c.args.map.now c.as_slice.result.now
+returns g c =
+    answer_from_sorted (g.H.HostLookup.big c.args.host.now) c.args.map.now c.as_slice.result.now
     (subst (λ images. IsSortedCopy nat_cmp c.args.map.now images) (sym c.as_slice.ensures.value) c.in_ok-images.ensures) c.args.conditions.now
     c.in_ok-hold.hold c.in_ok-hold.ensures

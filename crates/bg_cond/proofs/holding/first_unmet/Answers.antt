@@ -4,7 +4,7 @@ use Rattle.bg_cond.proofs.SortedImages.{found_from_sorted}
 use Rattle.bg_cond.proofs.holding.first_unmet.Goals as goal
 
 pub returns : goal.returns
-returns c =
-    found_from_sorted c.args.indexed.now c.args.map.now c.as_slice.result.now
+returns g c =
+    found_from_sorted (g.H.HostLookup.big c.args.host.now) c.args.map.now c.as_slice.result.now
     (subst (λ images. IsSortedCopy nat_cmp c.args.map.now images) (sym c.as_slice.ensures.value) c.in_ok-images.ensures) c.args.conditions.now
     c.in_ok-found.found c.in_ok-found.ensures

@@ -3,4 +3,4 @@ use Rattle.bg_cond.proofs.Upto.{HoldsUpto}
 use Rattle.bg_cond.proofs.holding.first_unmet_beside.Given as goal
 
 abbrev pub invariant-loop-number : goal.invariant-loop-number
-invariant-loop-number l = HoldsUpto (HoldsInHost l.fn.indexed l.images) l.conditions l.number
+invariant-loop-number g l = HoldsUpto (HoldsInHost (g.H.HostLookup.big l.host) l.images) l.conditions l.number
