@@ -173,7 +173,16 @@ fn push_steps<H: NumberedHost>(
         return Ok(());
     }
     let lists = lists_for(alloc, host, rule)?;
-    push_steps_of(alloc, host, rules, rule, lists.as_slice(), number, most, steps)?;
+    push_steps_of(
+        alloc,
+        host,
+        rules,
+        rule,
+        lists.as_slice(),
+        number,
+        most,
+        steps,
+    )?;
     Ok(())
 }
 

@@ -12,7 +12,11 @@ use std::collections::BTreeMap;
 
 /// At each node in which the first node of one of the maps lies, the number of one such map. No node is gone past twice;
 /// takes memory for as many notes.
-pub(crate) fn notes_for<H: HostLookup>(alloc: Global, host: &H, maps: &[Map]) -> Mem<BTreeMap<u32, u32>>
+pub(crate) fn notes_for<H: HostLookup>(
+    alloc: Global,
+    host: &H,
+    maps: &[Map],
+) -> Mem<BTreeMap<u32, u32>>
     requires valid { IsValid (H.big host.now) }
     requires few { length maps.now < 2 ^ 32 }
     ensures { IfOk result (λ notes. AreNotedFor (H.big host.now) maps.now notes) }
@@ -25,7 +29,12 @@ pub(crate) fn notes_for<H: HostLookup>(alloc: Global, host: &H, maps: &[Map]) ->
 }
 
 /// Notes the number of the map at each node in which its first node lies, up to one at which something is noted.
-fn note_map<H: HostLookup>(host: &H, map: &[u32], number: u32, notes: &mut BTreeMap<u32, u32>) -> Mem<()>
+fn note_map<H: HostLookup>(
+    host: &H,
+    map: &[u32],
+    number: u32,
+    notes: &mut BTreeMap<u32, u32>,
+) -> Mem<()>
     requires valid { IsValid (H.big host.now) }
     requires upward { AreUpward (H.big host.now) notes.old }
     ensures { OnOk result (IsNotedFor (H.big host.now) notes.old notes.new map.now) }
@@ -41,7 +50,12 @@ fn note_map<H: HostLookup>(host: &H, map: &[u32], number: u32, notes: &mut BTree
 }
 
 /// Notes the number at the place and above it, up to a node at which something is noted.
-fn note_up<H: HostLookup>(host: &H, start: Place, number: u32, notes: &mut BTreeMap<u32, u32>) -> Mem<()>
+fn note_up<H: HostLookup>(
+    host: &H,
+    start: Place,
+    number: u32,
+    notes: &mut BTreeMap<u32, u32>,
+) -> Mem<()>
     requires valid { IsValid (H.big host.now) }
     requires upward { AreUpward (H.big host.now) notes.old }
     ensures { OnOk result (IsNotedUp (H.big host.now) notes.old notes.new start) }

@@ -10,7 +10,7 @@ loop-walk-init g c =
 
 pub is_enabled_at-requires-clause-occurs : goal.is_enabled_at-requires-clause-occurs
 is_enabled_at-requires-clause-occurs g c =
-    subst (λ nodes. Occurs (g.H.NumberedHost.state c.args.host.now).big c.args.rule.now.redex nodes) (sym c.as_slice-in-Some.ensures.same)
+    subst (λ nodes. Occurs (g.H.NumberedHost.state c.args.host.now).big c.args.rule.now.redex nodes) (sym c.as_slice.ensures.same)
     (try_occurs (g.H.NumberedHost.state c.args.host.now) c.args.rule.now c.loop-walk.walk c.next.new.self c.in-Some.map (rw c.in-Some.is at c.in_ok-map.ensures.next)
     c.loop-walk.invariant)
 
@@ -18,7 +18,7 @@ pub loop-walk-preserved : goal.loop-walk-preserved
 loop-walk-preserved g c =
     let never : IsTrue c.in_ok-is_enabled_at.field-0 → ⊥ = search rules in
     try_next (g.H.NumberedHost.state c.args.host.now) c.args.rule.now c.loop-walk.walk c.next.new.self c.in-Some.map (rw c.in-Some.is at c.in_ok-map.ensures.next)
-    (λ e. never (c.in_ok-is_enabled_at.ensures.1 (subst (λ nodes. IsEnabled (g.H.NumberedHost.state c.args.host.now) c.args.rule.now nodes) (sym c.as_slice-in-Some.ensures.same) e)))
+    (λ e. never (c.in_ok-is_enabled_at.ensures.1 (subst (λ nodes. IsEnabled (g.H.NumberedHost.state c.args.host.now) c.args.rule.now nodes) (sym c.as_slice.ensures.same) e)))
     c.loop-walk.invariant
 
 pub returns : goal.returns

@@ -1,0 +1,12 @@
+//! A host that follows what others commit to a shared one, so that its legal steps are found without an index made anew.
+//!
+//! - [`Replica`]: a host of its own at a version, brought to what the entries of a history lead to.
+//! - [`KeptFinder`]: who lists the legal steps at a replica, as a follower and as a finder.
+#![tactic(auto)]
+
+mod kept_finder;
+mod replica;
+mod taking;
+
+pub use kept_finder::KeptFinder;
+pub use replica::Replica;

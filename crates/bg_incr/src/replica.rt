@@ -1,0 +1,92 @@
+//! A host of its own, at a version.
+ghost use Rattle.std.specs.Prelude.{◌≡◌, ◌+◌, ◌<◌, ◌^◌, [], ◌∷◌, length, IfOk, OnOk, OnErr};
+ghost use Rattle.bg_cond.specs.Followers.{GoOn, HasFollowed, HasFollowedSome};
+
+use crate::taking::take_entry;
+use bg_base::Entry;
+use bg_cond::View;
+use bg_index::IndexedHost;
+use bg_lists::{Mem, OutOfMemory};
+use bg_match::NumberedHost;
+use bg_rules::{ReactFault, System};
+use std::alloc::Global;
+use std::marker::Model;
+
+/// A host of its own, with an index of it that is kept from one reaction to the next, and the number of entries that lead to
+/// it, its version. A contract sees both.
+#[derive(Drop)]
+pub struct Replica {
+    version: u32,
+    host: IndexedHost,
+}
+
+impl Model for Replica {
+    ghost use Rattle.bg_incr.specs.Replicas.{ReplicaState};
+
+    ghost Value = { ReplicaState };
+
+    ghost view = { λ replica. record { version = replica.version; host = replica.host } };
+}
+
+impl Replica {
+    /// The view's host, indexed, at the view's version. Costs time n log n, and memory n, in the size of the host.
+    pub fn start(alloc: Global, view: View) -> Mem<Replica>
+        ensures { IfOk result (λ replica. replica ≡ record { version = view.version; host = view.host }) }
+    {
+        let host = IndexedHost::of(alloc, &view.host)?;
+        Ok(Replica {
+            version: view.version,
+            host,
+        })
+    }
+
+    /// How many entries lead to its host.
+    pub fn version(&self) -> u32
+        ensures { result ≡ self.now.version }
+    {
+        self.version
+    }
+
+    /// Its host.
+    pub fn host(&self) -> &IndexedHost
+        ensures { result.now ≡ self.now.host }
+    {
+        &self.host
+    }
+
+    /// Brings the host to what the entries lead to, which go on from it. It refuses for want of memory alone, and then stands
+    /// behind the first of them, some, all or none, as its version tells. Costs for each entry what its reaction touches
+    /// (`react_in_place` of `bg_index`).
+    pub fn catch_up(&mut self, alloc: Global, system: &System, entries: &[Entry]) -> Mem<()>
+        requires entries { GoOn system.now.rules self.old.host entries.now }
+        requires few { self.old.version + length entries.now < 2 ^ 32 }
+        ensures followed { OnOk result (HasFollowed system.now.rules self.old.version self.old.host entries.now self.new.version self.new.host) }
+        ensures no_memory { OnErr result (HasFollowedSome system.now.rules self.old.version self.old.host entries.now self.new.version self.new.host) }
+    {
+        let _system = system.signature();
+        self.host.keeps();
+        for entry in entries {
+            self.take(alloc, system, entry)?;
+        }
+        Ok(())
+    }
+
+    /// Brings the host to what the entry leads to. It refuses for want of memory alone, and is then as it was.
+    fn take(&mut self, alloc: Global, system: &System, entry: &Entry) -> Mem<()>
+        requires entry { GoOn system.now.rules self.old.host (entry.now ∷ []) }
+        requires few { self.old.version + 1 < 2 ^ 32 }
+        ensures followed { OnOk result (HasFollowed system.now.rules self.old.version self.old.host (entry.now ∷ []) self.new.version self.new.host) }
+        ensures no_memory { OnErr result (self.new ≡ self.old) }
+    {
+        let _system = system.signature();
+        self.host.keeps();
+        match take_entry(alloc, &mut self.host, system, entry) {
+            Ok(_touched) => {
+                self.version += 1;
+                Ok(())
+            }
+            Err(ReactFault::OutOfMemory) => Err(OutOfMemory),
+            Err(ReactFault::Full) => unreachable!(),
+        }
+    }
+}
