@@ -2,17 +2,21 @@
 ghost use Rattle.std.specs.Prelude.{IfOk, IsTrue};
 ghost use Rattle.bg_rules.specs.Decomposition.{Occurs};
 
+mod cases;
 mod listing;
 mod texts;
 mod touching;
+mod walks;
 
+use crate::in_place::cases::{CASES, Case, has_causes, touches};
 use crate::in_place::listing::{has_children, has_points};
 use crate::in_place::texts::{Model, text};
-use crate::in_place::touching::{has_touched, is_touched};
+use crate::in_place::touching::is_touched;
+use crate::in_place::walks::are_walked;
 use crate::indexed::has_rows;
 use crate::models::{rule_of, system_of};
 use bg_base::{Big, Map, Place};
-use bg_index::{IndexedHost, Touched};
+use bg_index::{Causes, IndexedHost, Touched};
 use bg_lists::Mem;
 use bg_match::{embeds, list};
 use bg_react::react;
@@ -38,6 +42,19 @@ fn react_here(
         return Err(ReactFault::OutOfMemory);
     }
     indexed.react_in_place(alloc, rule, map)
+}
+
+/// The same that tells its causes.
+fn react_and_tell(
+    alloc: Global,
+    indexed: &mut IndexedHost,
+    rule: &Rule,
+    map: &[u32],
+) -> Result<Causes, ReactFault> {
+    if !occurs(alloc, indexed, rule, map)? {
+        return Err(ReactFault::OutOfMemory);
+    }
+    indexed.react_telling_causes(alloc, rule, map)
 }
 
 /// The reaction of the plain host, where the redex occurs there.
@@ -106,32 +123,28 @@ fn react_from(
     Ok(indexes && touches)
 }
 
-/// A model, its rule of that number, the nodes at which it reacts, and what is gone and what is changed after that.
-type Case = (Model, usize, &'static [u32], &'static [u32], &'static [u32]);
-
-const CASES: [Case; 15] = [
-    (Model::Building, 0, &[4, 1], &[1, 4], &[0, 6, 7]),
-    (Model::Copying, 0, &[0], &[0], &[1, 2, 3, 4]),
-    (Model::Swapping, 0, &[1, 4], &[1, 4], &[0, 2, 3, 5, 9, 10]),
-    (Model::Swapping, 0, &[1, 7], &[1, 7], &[0, 2, 8, 9, 10]),
-    (Model::Ports, 0, &[1], &[1, 2, 3], &[0, 14]),
-    (Model::Ports, 0, &[4], &[4, 5], &[0, 6, 14]),
-    (Model::Ports, 1, &[7], &[7], &[0, 8, 14]),
-    (Model::Ports, 2, &[8], &[8], &[0, 7, 14]),
-    (Model::Ports, 2, &[9], &[9], &[0, 10, 14]),
-    (Model::Ports, 2, &[13], &[13], &[12, 14]),
-    (Model::Ports, 3, &[2, 3], &[2, 3], &[1, 14, 15]),
-    (Model::Ports, 4, &[11], &[11], &[0, 12]),
-    (Model::Ports, 4, &[1], &[1], &[0, 2, 3]),
-    (Model::Ports, 5, &[5], &[5], &[4, 6, 14]),
-    (Model::Ports, 5, &[13], &[13], &[12, 14]),
-];
-
 /// Whether that is touched which the case says.
-fn touches(alloc: Global, host: &Host, rule: &Rule, case: &Case) -> Result<bool, ReactFault> {
+fn is_worked_touching(
+    alloc: Global,
+    host: &Host,
+    rule: &Rule,
+    case: &Case,
+) -> Result<bool, ReactFault> {
     let mut indexed = IndexedHost::of(alloc, host)?;
-    let touched = react_here(alloc, &mut indexed, rule, case.2)?;
-    Ok(has_touched(&touched, case.3, case.4))
+    let touched = react_here(alloc, &mut indexed, rule, case.map)?;
+    Ok(touches(&touched, case))
+}
+
+/// Whether the causes are those that the case says, and new nodes are told from old ones.
+fn is_worked_telling(
+    alloc: Global,
+    host: &Host,
+    rule: &Rule,
+    case: &Case,
+) -> Result<bool, ReactFault> {
+    let mut indexed = IndexedHost::of(alloc, host)?;
+    let causes = react_and_tell(alloc, &mut indexed, rule, case.map)?;
+    Ok(has_causes(&causes, case) && causes.next_node == host.next_node())
 }
 
 /// Whether both reactions are the same.
@@ -151,14 +164,15 @@ fn agrees_at(alloc: Global, host: &Host, rule: &Rule, map: &[u32]) -> Result<boo
 }
 
 fn is_worked(alloc: Global, system: &System, case: &Case) -> Result<bool, ReactFault> {
-    let rule = rule_of(system, case.1)?;
-    let touches = touches(alloc, system.init(), rule, case)?;
-    let agrees = agrees_at(alloc, system.init(), rule, case.2)?;
-    Ok(touches && agrees)
+    let rule = rule_of(system, case.rule)?;
+    let touches = is_worked_touching(alloc, system.init(), rule, case)?;
+    let tells = is_worked_telling(alloc, system.init(), rule, case)?;
+    let agrees = agrees_at(alloc, system.init(), rule, case.map)?;
+    Ok(touches && tells && agrees)
 }
 
 fn is_worked_in(alloc: Global, case: &Case) -> Result<bool, ReactFault> {
-    let system = system_of(alloc, text(case.0))?;
+    let system = system_of(alloc, text(case.model))?;
     is_worked(alloc, &system, case)
 }
 
@@ -191,7 +205,27 @@ fn occurrences(alloc: Global, host: &Host, rule: &Rule) -> Result<Vec<Map>, Reac
     }
 }
 
-/// The reaction of both at one of the occurrences: whether it is right; nothing where there is none.
+/// Whether walks over the indexed host go over the occurrences in the plain one, which are these.
+fn are_found(
+    alloc: Global,
+    indexed: &IndexedHost,
+    plain: &Host,
+    rule: &Rule,
+    maps: &[Map],
+) -> Result<bool, ReactFault> {
+    match are_walked(
+        alloc,
+        indexed,
+        rule.redex(),
+        plain.big().nodes.as_slice(),
+        maps,
+    ) {
+        Ok(holds) => Ok(holds),
+        Err(fault) => Err(fault_of(fault)),
+    }
+}
+
+/// The reaction of both at one of the occurrences, which walks find: whether it is right; nothing where there is none.
 fn react_at_turn(
     alloc: Global,
     indexed: &mut IndexedHost,
@@ -203,9 +237,10 @@ fn react_at_turn(
     if maps.is_empty() {
         return Ok(None);
     }
+    let found = are_found(alloc, indexed, plain, rule, &maps)?;
     let map = &maps[turn % maps.len()];
     let holds = react_both(alloc, indexed, plain, rule, map.as_slice())?;
-    Ok(Some(holds))
+    Ok(Some(found && holds))
 }
 
 /// The number of the rule whose turn it is; the first where the host is large.

@@ -50,13 +50,19 @@ pub(crate) fn has_rows(indexed: &IndexedHost, host: &Host) -> bool {
         && is_listed(indexed, row))
 }
 
-/// Whether the first edge has three points, and the first outer name one.
+/// Whether so many points are tied to the link, on these nodes.
+fn has_points_on(indexed: &IndexedHost, link: &Link, degree: u32, nodes: &[u32]) -> bool {
+    indexed.degree(link) == degree && indexed.on_link(link) == nodes
+}
+
+/// Whether the first edge has three points on two nodes, and the first outer name one.
 fn has_degrees(alloc: Global, indexed: &IndexedHost, host: &Host) -> Mem<bool> {
     let big = host.big();
     match (big.edges.first(), big.outer.first()) {
         (Some(edge), Some(name)) => {
             let name = Link::Outer(name.copy(alloc)?);
-            Ok(indexed.degree(&Link::Edge(*edge)) == 3 && indexed.degree(&name) == 1)
+            let edge = Link::Edge(*edge);
+            Ok(has_points_on(indexed, &edge, 3, &[1, 2]) && has_points_on(indexed, &name, 1, &[4]))
         }
         _ => Ok(false),
     }

@@ -1,7 +1,7 @@
 //! Whether an indexed host's lists are those of a plain host.
 use bg_base::{Link, Place};
 use bg_index::IndexedHost;
-use bg_link::Wiring;
+use bg_link::{Point, Wiring};
 use bg_lists::Mem;
 use bg_place::Forest;
 use bg_rules::Host;
@@ -28,5 +28,28 @@ pub(crate) fn has_points(alloc: Global, indexed: &IndexedHost, host: &Host) -> M
 
 fn has_points_of(indexed: &IndexedHost, wiring: &Wiring, links: &[Link]) -> bool {
     links.iter().all(|link| indexed.points(link) == wiring.points(link)
-        && indexed.degree(link) == wiring.degree(link))
+        && indexed.degree(link) == wiring.degree(link)
+        && are_nodes_of(indexed.on_link(link), wiring.points(link)))
+}
+
+fn is_port_of(point: &Point, wanted: u32) -> bool {
+    match point {
+        Point::Port { node, .. } => *node == wanted,
+        Point::Inner(_) => false,
+    }
+}
+
+fn is_on_one(point: &Point, nodes: &[u32]) -> bool {
+    match point {
+        Point::Port { node, .. } => nodes.binary_search(node).is_ok(),
+        Point::Inner(_) => false,
+    }
+}
+
+/// Whether these are the nodes of the ports among the points.
+fn are_nodes_of(nodes: &[u32], points: &[Point]) -> bool {
+    points.iter().all(|point| is_on_one(point, nodes))
+        && nodes
+            .iter()
+            .all(|node| points.iter().any(|point| is_port_of(point, *node)))
 }
