@@ -8,7 +8,7 @@ use bg_cond::View;
 use bg_index::IndexedHost;
 use bg_lists::{Mem, OutOfMemory};
 use bg_match::NumberedHost;
-use bg_rules::{ReactFault, System};
+use bg_rules::{Host, ReactFault, System};
 use std::alloc::Global;
 use std::marker::Model;
 
@@ -33,11 +33,15 @@ impl Replica {
     pub fn start(alloc: Global, view: View) -> Mem<Replica>
         ensures { IfOk result (λ replica. replica ≡ record { version = view.version; host = view.host }) }
     {
-        let host = IndexedHost::of(alloc, &view.host)?;
-        Ok(Replica {
-            version: view.version,
-            host,
-        })
+        Replica::at(alloc, view.version, &view.host)
+    }
+
+    /// The host, indexed, at that version.
+    pub(crate) fn at(alloc: Global, version: u32, host: &Host) -> Mem<Replica>
+        ensures { IfOk result (λ replica. replica ≡ record { version = version; host = host.now }) }
+    {
+        let host = IndexedHost::of(alloc, host)?;
+        Ok(Replica { version, host })
     }
 
     /// How many entries lead to its host.
@@ -56,7 +60,7 @@ impl Replica {
 
     /// Brings the host to what the entries lead to, which go on from it. It refuses for want of memory alone, and then stands
     /// behind the first of them, some, all or none, as its version tells. Costs for each entry what its reaction touches
-    /// (`react_in_place` of `bg_index`).
+    /// (`react_telling_causes` of `bg_index`).
     pub fn catch_up(&mut self, alloc: Global, system: &System, entries: &[Entry]) -> Mem<()>
         requires entries { GoOn system.now.rules self.old.host entries.now }
         requires few { self.old.version + length entries.now < 2 ^ 32 }
@@ -81,7 +85,7 @@ impl Replica {
         let _system = system.signature();
         self.host.keeps();
         match take_entry(alloc, &mut self.host, system, entry) {
-            Ok(_touched) => {
+            Ok(_causes) => {
                 self.version += 1;
                 Ok(())
             }
