@@ -16,7 +16,6 @@ use Rattle.bg_workers.specs.Members.{HasRun}
 use Rattle.bg_workers.specs.Working.{IsEnded, IsOwn, IsDrawn}
 use Rattle.bg_workers.specs.declared.ends.Ended.{Ended}
 use Rattle.bg_workers.specs.declared.ends.FollowMember.{FollowMember}
-use Rattle.bg_workers.specs.declared.ends.Member.{Member}
 use Rattle.rand_pcg.specs.Lcg.{Lcg}
 
 -- ---- passes
@@ -99,7 +98,7 @@ module _ {F : Type 0} where
     all_ended (p ∷ passes) [] after team count each = absurd team
     all_ended (p ∷ passes) (b ∷ before) [] team count each = absurd (omega (arith, count))
     all_ended (p ∷ passes) (b ∷ before) (a ∷ after) team count each =
-        (one_ended p b a team.0 (each 0 (as_member b) (as_member a) refl refl), all_ended passes before after team.1 (omega (arith, count)) (λ place one other e f. each (suc place) one other e f))
+        (one_ended p b a team.0 (each 0 b a refl refl), all_ended passes before after team.1 (omega (arith, count)) (λ place one other e f. each (suc place) one other e f))
 
     ended_of_table : (passes : List PassView) (members : List (FollowMember PassView F)) → HaveEnded table system limit seed passes members
         → OfTable table (map pass_of members)

@@ -3,8 +3,8 @@ ghost use Rattle.std.specs.Prelude.{◌≡◌, ◌<◌, All, length, map, Some, 
 ghost use Rattle.bg_runs.specs.Teams.{HasEnd, HaveEnds, HaveEnded, IsMember, IsParted, IsTeam, pass_of};
 ghost use Rattle.bg_seats.specs.Histories.{PassView};
 ghost use Rattle.bg_shared.specs.Shared.{OfTable};
-ghost use Rattle.bg_workers.specs.Following.{IsStanding, as_member};
-ghost use Rattle.bg_workers.specs.Members.{IsReady, AllRun};
+ghost use Rattle.bg_workers.specs.Following.{AllRunFollowing, IsStanding, as_member};
+ghost use Rattle.bg_workers.specs.Members.{IsReady};
 
 use bg_cond::{Follower, Gate, HostName, View};
 use bg_incr::KeptFinder;
@@ -91,7 +91,7 @@ fn run_members<N: HostName + Send + Sync, G: Gate + Sync, R: Threads + Wait + Sy
     requires limit { limit ≡ N.limit }
     requires members { All (λ member. IsReady (λ (pass : PassView). pass.table ≡ N.table) (λ (pass : PassView). pass.worker) (as_member member)) members.items }
     requires standing { All (IsStanding ⟦<KeptFinder as Follower>⟧.stands ⟦<KeptFinder as Follower>⟧.version ⟦<KeptFinder as Follower>⟧.host (λ (pass : PassView). pass.seen) N.system) members.items }
-    ensures { AllRun (λ (pass : PassView). pass.table ≡ N.table) (λ (pass : PassView). pass.worker) (λ (pass : PassView). pass.seen) N.system limit (map as_member members.items) (map as_member result.items) }
+    ensures { AllRunFollowing (λ (pass : PassView). pass.table ≡ N.table) (λ (pass : PassView). pass.worker) (λ (pass : PassView). pass.seen) N.system limit members.items result.items }
 {
     run_following(
         rt,

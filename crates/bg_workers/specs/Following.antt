@@ -1,9 +1,10 @@
 -- Workers that find steps at a host of their own, behind what they have seen.
-use Rattle.std.specs.Prelude.{◌≡◌, ℕ, ◌≤◌, List, ◌++◌, length, take}
+use Rattle.std.specs.Prelude.{◌≡◌, ℕ, ◌≤◌, List, ◌++◌, length, take, Some, slice_get}
 use Rattle.bg_base.specs.declared.history.Entry.{Entry}
 use Rattle.bg_cond.specs.Steps.{IsRun}
 use Rattle.bg_rules.specs.Reaction.{HostState}
 use Rattle.bg_rules.specs.Systems.{SystemParts}
+use Rattle.bg_workers.specs.Members.{HasRun}
 use Rattle.bg_workers.specs.declared.ends.FollowMember.{FollowMember}
 use Rattle.bg_workers.specs.declared.ends.Member.{Member}
 
@@ -24,3 +25,9 @@ as_member member = record { pass = member.pass; finder = member.follower; picker
 pub record IsStanding {P F : Type 0} (stands : F → SystemParts → Type 0) (version : F → ℕ) (host : F → HostState) (seen : P → List Entry) (system : SystemParts) (member : FollowMember P F) : Type 0 where
   pub standing : stands member.follower system
   pub behind : IsBehind system (seen member.pass) (version member.follower) (host member.follower)
+
+-- each member has run
+pub record AllRunFollowing {P F : Type 0} (is_of : P → Type 0) (number : P → ℕ) (seen : P → List Entry) (system : SystemParts) (limit : ℕ) (before after : List (FollowMember P F)) : Type 0 where
+  pub count : length after ≡ length before
+  pub each : (place : ℕ) (one other : FollowMember P F) → slice_get before place ≡ Some one → slice_get after place ≡ Some other
+      → HasRun is_of number seen system limit (as_member one) (as_member other)

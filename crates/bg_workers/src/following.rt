@@ -152,7 +152,8 @@ fn catch_up<B: Board, F: Follower, R: Wait>(
     ensures shows { OnOk result (Shows (B.system board.now) (B.limit board.now) (B.seen pass.new) (record { version = F.version follower.new; host = F.host follower.new })) }
 {
     let entries = board.news(rt, alloc, pass, follower.version())?;
-    follower.follow(alloc, system, &entries)
+    follower.follow(alloc, system, &entries)?;
+    Ok(())
 }
 
 /// The step that is picked at the follower's host, none where no step is legal there.

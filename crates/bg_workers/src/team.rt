@@ -1,6 +1,6 @@
 //! Workers that run at once.
-ghost use Rattle.std.specs.Prelude.{◌≡◌, All, map};
-ghost use Rattle.bg_workers.specs.Following.{IsStanding, as_member};
+ghost use Rattle.std.specs.Prelude.{◌≡◌, All};
+ghost use Rattle.bg_workers.specs.Following.{IsStanding, AllRunFollowing, as_member};
 ghost use Rattle.bg_workers.specs.Members.{IsReady, HasRun, AllRun};
 
 use crate::ends::{FollowMember, Member};
@@ -86,7 +86,7 @@ where
     requires board { (system.now ≡ B.system board.now) × (limit ≡ B.limit board.now) }
     requires members { All (λ member. IsReady (B.is_of board.now) B.worker (as_member member)) members.old }
     requires followers { All (IsStanding F.stands F.version F.host B.seen system.now) members.old }
-    ensures { AllRun (B.is_of board.now) B.worker B.seen system.now limit (map as_member members.old) (map as_member members.new) }
+    ensures { AllRunFollowing (B.is_of board.now) B.worker B.seen system.now limit members.old members.new }
 {
     let threads = members.len().max(1);
     thread::for_each_mut(

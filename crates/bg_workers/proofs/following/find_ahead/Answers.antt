@@ -9,4 +9,4 @@ returns-in-None-clause-found g c =
 pub returns-in-Some-clause-found : goal.returns-in-Some-clause-found
 returns-in-Some-clause-found g c =
     let chosen = rw c.in-Some.is at (picks c.in_ok-candidates.ensures.steps c.args.picker.now c.pick_step.new.picker c.pick_step.result c.pick_step.ensures) in
-    (c.version.ensures ∙ c.steps-candidates.ensures.version, chosen.0, chosen.1)
+    (c.version.ensures ∙ c.steps.ensures.version, chosen.0, chosen.1)
