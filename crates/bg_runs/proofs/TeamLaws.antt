@@ -88,9 +88,8 @@ module _ {F : Type 0} where
               (ran.drawn (ap (λ (p : PassView). p.seen) is.0 ∙ none) (subst (λ (w : ℕ). IsOwn w after.pass.seen) (sym worker) own)));
         }
 
-    pub all_ended : (passes : List PassView) (before after : List (FollowMember PassView F)) → IsTeam seed passes before → length (map as_member after) ≡ length (map as_member before)
-        → ((place : ℕ) (one other : Member PassView F) → slice_get (map as_member before) place ≡ Some one → slice_get (map as_member after) place ≡ Some other
-        → HasRun (λ (pass : PassView). pass.table ≡ table) (λ (pass : PassView). pass.worker) (λ (pass : PassView). pass.seen) system limit one other)
+    pub all_ended : (passes : List PassView) (before after : List (FollowMember PassView F)) → IsTeam seed passes before → length after ≡ length before
+        → ((place : ℕ) (one other : FollowMember PassView F) → slice_get before place ≡ Some one → slice_get after place ≡ Some other → Ran one other)
         → HaveEnded table system limit seed passes after
     all_ended [] [] [] team count each = tt
     all_ended [] [] (a ∷ after) team count each = absurd (omega (arith, count))
