@@ -4,7 +4,7 @@ ghost use Rattle.std.specs.Prelude.{◌≡◌, ⊤, IfOk};
 use crate::replica::Replica;
 use bg_base::{Entry, Step};
 use bg_cond::{Finder, Follower, View, steps_in};
-use bg_lists::{Duplicate, Mem};
+use bg_lists::Mem;
 use bg_rules::System;
 use std::alloc::Global;
 use std::marker::Model;
@@ -25,10 +25,10 @@ impl Model for KeptFinder {
 
 impl KeptFinder {
     /// Stands for the view's host at its version, under the system. Costs what [`Replica::start`] costs.
-    pub fn start(alloc: Global, view: View, _system: &System) -> Mem<KeptFinder>
-        ensures { IfOk result (λ finder. finder ≡ record { version = view.version; host = view.host }) }
+    pub fn start(alloc: Global, view: &View, _system: &System) -> Mem<KeptFinder>
+        ensures { IfOk result (λ finder. finder ≡ record { version = view.now.version; host = view.now.host }) }
     {
-        let replica = Replica::start(alloc, view)?;
+        let replica = Replica::at(alloc, view.version, &view.host)?;
         Ok(KeptFinder { replica })
     }
 }
@@ -57,13 +57,9 @@ impl Follower for KeptFinder {
 }
 
 impl Finder for KeptFinder {
-    /// As [`steps_in`], at a replica of the view, which stays: costs what [`KeptFinder::start`] costs, of a copy of the view.
+    /// As [`steps_in`], at a replica of the view, which stays: costs what [`KeptFinder::start`] costs besides.
     fn steps(&mut self, alloc: Global, system: &System, view: &View, most: u32) -> Mem<Vec<Step>> {
-        let copy = View {
-            version: view.version,
-            host: view.host.copy(alloc)?,
-        };
-        self.replica = Replica::start(alloc, copy)?;
+        self.replica = Replica::at(alloc, view.version, &view.host)?;
         steps_in(alloc, self.replica.host(), system, most)
     }
 }

@@ -1,14 +1,14 @@
 //! A host of its own, at a version.
 ghost use Rattle.std.specs.Prelude.{◌≡◌, ◌+◌, ◌<◌, ◌^◌, [], ◌∷◌, length, IfOk, OnOk, OnErr};
 ghost use Rattle.bg_cond.specs.Followers.{GoOn, HasFollowed, HasFollowedSome};
+ghost use Rattle.bg_cond.specs.Steps as run;
 
-use crate::taking::take_entry;
-use bg_base::Entry;
-use bg_cond::View;
+use bg_base::{Entry, Step};
+use bg_cond::{View, take_step_in_place};
 use bg_index::IndexedHost;
-use bg_lists::{Mem, OutOfMemory};
+use bg_lists::{Duplicate, Mem, OutOfMemory};
 use bg_match::NumberedHost;
-use bg_rules::{ReactFault, System};
+use bg_rules::{Host, ReactFault, System};
 use std::alloc::Global;
 use std::marker::Model;
 
@@ -33,11 +33,15 @@ impl Replica {
     pub fn start(alloc: Global, view: View) -> Mem<Replica>
         ensures { IfOk result (λ replica. replica ≡ record { version = view.version; host = view.host }) }
     {
-        let host = IndexedHost::of(alloc, &view.host)?;
-        Ok(Replica {
-            version: view.version,
-            host,
-        })
+        Replica::at(alloc, view.version, &view.host)
+    }
+
+    /// The host, indexed, at that version.
+    pub(crate) fn at(alloc: Global, version: u32, host: &Host) -> Mem<Replica>
+        ensures { IfOk result (λ replica. replica ≡ record { version = version; host = host.now }) }
+    {
+        let host = IndexedHost::of(alloc, host)?;
+        Ok(Replica { version, host })
     }
 
     /// How many entries lead to its host.
@@ -56,7 +60,7 @@ impl Replica {
 
     /// Brings the host to what the entries lead to, which go on from it. It refuses for want of memory alone, and then stands
     /// behind the first of them, some, all or none, as its version tells. Costs for each entry what its reaction touches
-    /// (`react_in_place` of `bg_index`).
+    /// ([`take_step_in_place`]).
     pub fn catch_up(&mut self, alloc: Global, system: &System, entries: &[Entry]) -> Mem<()>
         requires entries { GoOn system.now.rules self.old.host entries.now }
         requires few { self.old.version + length entries.now < 2 ^ 32 }
@@ -80,8 +84,9 @@ impl Replica {
     {
         let _system = system.signature();
         self.host.keeps();
-        match take_entry(alloc, &mut self.host, system, entry) {
-            Ok(_touched) => {
+        let step = step_of(alloc, entry)?;
+        match take_step_in_place(alloc, &mut self.host, system, &step) {
+            Ok(_causes) => {
                 self.version += 1;
                 Ok(())
             }
@@ -89,4 +94,14 @@ impl Replica {
             Err(ReactFault::Full) => unreachable!(),
         }
     }
+}
+
+/// The step of the entry.
+fn step_of(alloc: Global, entry: &Entry) -> Mem<Step>
+    ensures { IfOk result (λ step. step ≡ run.step_of entry.now) }
+{
+    Ok(Step {
+        rule: entry.rule,
+        map: entry.map.copy(alloc)?,
+    })
 }
