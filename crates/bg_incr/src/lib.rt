@@ -6,7 +6,6 @@
 
 mod kept_finder;
 mod replica;
-mod taking;
 
 pub use kept_finder::KeptFinder;
 pub use replica::Replica;

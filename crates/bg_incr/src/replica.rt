@@ -1,12 +1,12 @@
 //! A host of its own, at a version.
 ghost use Rattle.std.specs.Prelude.{◌≡◌, ◌+◌, ◌<◌, ◌^◌, [], ◌∷◌, length, IfOk, OnOk, OnErr};
 ghost use Rattle.bg_cond.specs.Followers.{GoOn, HasFollowed, HasFollowedSome};
+ghost use Rattle.bg_cond.specs.Steps as run;
 
-use crate::taking::take_entry;
-use bg_base::Entry;
-use bg_cond::View;
+use bg_base::{Entry, Step};
+use bg_cond::{View, take_step_in_place};
 use bg_index::IndexedHost;
-use bg_lists::{Mem, OutOfMemory};
+use bg_lists::{Duplicate, Mem, OutOfMemory};
 use bg_match::NumberedHost;
 use bg_rules::{Host, ReactFault, System};
 use std::alloc::Global;
@@ -60,7 +60,7 @@ impl Replica {
 
     /// Brings the host to what the entries lead to, which go on from it. It refuses for want of memory alone, and then stands
     /// behind the first of them, some, all or none, as its version tells. Costs for each entry what its reaction touches
-    /// (`react_telling_causes` of `bg_index`).
+    /// ([`take_step_in_place`]).
     pub fn catch_up(&mut self, alloc: Global, system: &System, entries: &[Entry]) -> Mem<()>
         requires entries { GoOn system.now.rules self.old.host entries.now }
         requires few { self.old.version + length entries.now < 2 ^ 32 }
@@ -84,7 +84,8 @@ impl Replica {
     {
         let _system = system.signature();
         self.host.keeps();
-        match take_entry(alloc, &mut self.host, system, entry) {
+        let step = step_of(alloc, entry)?;
+        match take_step_in_place(alloc, &mut self.host, system, &step) {
             Ok(_causes) => {
                 self.version += 1;
                 Ok(())
@@ -93,4 +94,14 @@ impl Replica {
             Err(ReactFault::Full) => unreachable!(),
         }
     }
+}
+
+/// The step of the entry.
+fn step_of(alloc: Global, entry: &Entry) -> Mem<Step>
+    ensures { IfOk result (λ step. step ≡ run.step_of entry.now) }
+{
+    Ok(Step {
+        rule: entry.rule,
+        map: entry.map.copy(alloc)?,
+    })
 }
