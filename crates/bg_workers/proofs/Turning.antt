@@ -11,7 +11,6 @@ use Rattle.bg_cond.specs.declared.ending.End.TheVariants.{Quiet, Limit, Full}
 use Rattle.bg_rules.specs.Reaction.{HostState}
 use Rattle.bg_rules.specs.Rules.{RuleParts}
 use Rattle.bg_workers.specs.Turns.{after_words, IsLater, behind_end, TakesStep, IsStop, TakesNone, Continues}
-use Rattle.bg_workers.specs.declared.drawing.DrawnRun.{DrawnRun}
 use Rattle.rand_pcg.specs.Lcg.{Lcg}
 
 module _ (rules : List RuleParts) (worker : ℕ) where
@@ -103,10 +102,10 @@ pub few_drawn : {rules : List RuleParts} {most : ℕ} {first : HostState} {seed 
     → Draws rules 0 most first seed entries end host → most ≤ most_steps → length entries ≤ most_steps
 few_drawn {rules} d few = let as_many = drawn_few rules 0 d in omega (arith, as_many, few)
 
-pub run_drawn : (rules : List RuleParts) (most : ℕ) (first : HostState) (seed : Lcg) {entries : List Entry} {end : End} {host : HostState} (run : DrawnRun)
-    → Draws rules 0 most first seed entries end host → run.journal ≡ entries → run.end ≡ end → run.host ≡ host
-    → Draws rules 0 most first seed run.journal run.end run.host
-run_drawn rules most first seed {entries} {end} {host} run d journal_is end_is host_is =
-    subst (λ (h : HostState). Draws rules 0 most first seed run.journal run.end h) (sym host_is)
-    (subst (λ (e : End). Draws rules 0 most first seed run.journal e host) (sym end_is)
-    (subst (λ (xs : List Entry). Draws rules 0 most first seed xs end host) (sym journal_is) d))
+pub run_drawn : (rules : List RuleParts) (most : ℕ) (seed : Lcg) (end : End) {first indexed after last : HostState} {entries journal : List Entry}
+    → Draws rules 0 most indexed seed entries end after → indexed ≡ first → journal ≡ entries → last ≡ after
+    → Draws rules 0 most first seed journal end last
+run_drawn rules most seed end {first} {indexed} {after} {last} {entries} {journal} d first_is journal_is last_is =
+    subst (λ (h : HostState). Draws rules 0 most first seed journal end h) (sym last_is)
+    (subst (λ (xs : List Entry). Draws rules 0 most first seed xs end after) (sym journal_is)
+    (subst (λ (h : HostState). Draws rules 0 most h seed entries end after) first_is d))
