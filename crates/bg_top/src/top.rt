@@ -40,7 +40,8 @@ pub const NO_MEMORY: u8 = 5;
 /// Does all that the program does: reads the words, then the source, and writes the answer to the sink.
 ///
 /// `words` are those of the command line, the program's name first; `watchers` are told of the entries of a run, and those
-/// that stay are left in the list; `gate` is told of moments of the workers of a run. The answer is made whole before its
+/// that stay are left in the list; `gate` is told of moments of the workers of a run, and of the pieces in which `match`
+/// searches. The answer is made whole before its
 /// first byte is written, each written line ends with a line feed, and at every status but 3, 4 and 5 the sink was flushed
 /// after the last byte. It may wait: the workers of a run do.
 ///
@@ -190,7 +191,15 @@ fn reply_to<G: Gate + Sync, R: Threads + Wait + Sync>(
         Command::Compose => answer_compose(alloc, input),
         Command::Check => answer_check(alloc, input),
         Command::Show => answer_show(alloc, input),
-        Command::Match => answer_match(alloc, input, request.most, request.explain),
+        Command::Match => answer_match(
+            rt,
+            alloc,
+            input,
+            request.workers,
+            request.most,
+            request.explain,
+            gate,
+        ),
         Command::Run => answer_run(
             rt,
             alloc,
@@ -201,7 +210,7 @@ fn reply_to<G: Gate + Sync, R: Threads + Wait + Sync>(
             watchers,
             gate,
         ),
-        Command::Trial => answer_trial(alloc, request.size),
+        Command::Trial => answer_trial(rt, alloc, request.size),
     }
 }
 

@@ -15,18 +15,32 @@ ghost use Rattle.command_match.specs.Match.{IsMatchAnswer};
 use crate::fault::MatchesFault;
 use bg_answers::{Reply, Status};
 use bg_base::{Map, Signature};
+use bg_cond::Gate;
 use bg_lists::{Mem, OutOfMemory};
 use bg_match::HostIndex;
 use bg_match_text::{write_excess_line, write_rule};
+use bg_par::list_parallel;
 use bg_rules::{ListFault, Rule, System};
 use std::alloc::Global;
+use std::thread::Threads;
 
 /// The texts of the rules of a system, or the line of the first with more occurrences than are asked for.
-pub(crate) fn matches_of(alloc: Global, system: &System, most: u32, explain: bool) -> Mem<Reply>
+pub(crate) fn matches_of<G: Gate + Sync, R: Threads + Sync>(
+    rt: &R,
+    alloc: Global,
+    system: &System,
+    workers: u32,
+    most: u32,
+    explain: bool,
+    gate: &G,
+) -> Mem<Reply>
+    requires workers { (1 ≤ workers) × (workers ≤ 64) }
     ensures { IfOk result (λ reply. IsMatchAnswer most explain system.now (answer_of reply)) }
 {
     let mut text = Vec::new(alloc);
-    match add_rules(alloc, system, most, explain, &mut text) {
+    match add_rules(
+        rt, alloc, system, workers, most, explain, gate, &mut text,
+    ) {
         Ok(()) => Ok(Reply {
             status: Status::Done,
             text,
@@ -52,13 +66,17 @@ fn excess_of(alloc: Global, system: &System, rule: u32, most: u32) -> Mem<Reply>
 }
 
 /// Adds the texts of the rules in order, with numbers from 0.
-fn add_rules(
+fn add_rules<G: Gate + Sync, R: Threads + Sync>(
+    rt: &R,
     alloc: Global,
     system: &System,
+    workers: u32,
     most: u32,
     explain: bool,
+    gate: &G,
     text: &mut Vec<u8>,
 ) -> Result<(), MatchesFault>
+    requires workers { (1 ≤ workers) × (workers ≤ 64) }
     ensures text { OnOk result (Appends (IsMatchText system.now explain) text.old.items text.new.items) }
     ensures few { OnOk result (AreFew most system.now) }
     ensures many { IfErr result (λ fault. (number : ℕ) → fault ≡ TooMany number
@@ -69,13 +87,16 @@ fn add_rules(
     let host = HostIndex::of(alloc, host)?;
     for (number, rule) in system.rules().iter().enumerate() {
         add_rule(
+            rt,
             alloc,
             signature,
             &host,
             number as u32,
             rule,
+            workers,
             most,
             explain,
+            gate,
             text,
         )?;
     }
@@ -83,22 +104,26 @@ fn add_rules(
 }
 
 /// Adds the text of the rule with that number. Its maps are dropped before those of the next are listed.
-fn add_rule(
+fn add_rule<G: Gate + Sync, R: Threads + Sync>(
+    rt: &R,
     alloc: Global,
     signature: &Signature,
     host: &HostIndex<'_>,
     number: u32,
     rule: &Rule,
+    workers: u32,
     most: u32,
     explain: bool,
+    gate: &G,
     text: &mut Vec<u8>,
 ) -> Result<(), MatchesFault>
+    requires workers { (1 ≤ workers) × (workers ≤ 64) }
     requires fits { IsValidUnder signature.now host.now }
     ensures text { OnOk result (Appends (IsRuleText signature.now host.now explain number rule.now) text.old.items text.new.items) }
     ensures few { OnOk result (AreAtMost most host.now rule.now.redex) }
     ensures many { IfErr result (λ fault. (found : ℕ) → fault ≡ TooMany found → (found ≡ number) × AreMoreThan most host.now rule.now.redex) }
 {
-    let maps = occurrences(alloc, host, number, rule, most)?;
+    let maps = occurrences(rt, alloc, host, number, rule, workers, most, gate)?;
     write_rule(
         alloc,
         signature,
@@ -112,19 +137,25 @@ fn add_rule(
     Ok(())
 }
 
-/// All occurrences of the redex of the rule with that number, where there are at most so many.
-fn occurrences(
+/// All occurrences of the redex of the rule with that number, where there are at most so many: by so many workers at once.
+fn occurrences<G: Gate + Sync, R: Threads + Sync>(
+    rt: &R,
     alloc: Global,
     host: &HostIndex<'_>,
     number: u32,
     rule: &Rule,
+    workers: u32,
     most: u32,
+    gate: &G,
 ) -> Result<Vec<Map>, MatchesFault>
+    requires workers { (1 ≤ workers) × (workers ≤ 64) }
     ensures all { IfOk result (λ maps. AreOccurrences host.now rule.now.redex maps.items) }
     ensures few { IfOk result (λ maps. length maps.items ≤ most) }
     ensures many { IfErr result (λ fault. (found : ℕ) → fault ≡ TooMany found → (found ≡ number) × AreMoreThan most host.now rule.now.redex) }
 {
-    match host.list(alloc, rule.redex(), most) {
+    // That the host is ground is known here.
+    let _host = host.host();
+    match list_parallel(rt, alloc, host, rule.redex(), workers, most, gate) {
         Ok(maps) => Ok(maps),
         Err(fault) => Err(fault_of(number, fault)),
     }

@@ -11,16 +11,22 @@ use bg_lists::{Duplicate, Mem};
 use bg_rules::{Rule, System};
 use bg_workers::{DrawnRun, Picker, draw};
 use std::alloc::Global;
+use std::thread::Threads;
 
 /// The most steps of the run of a trial.
 const MOST_TRIAL_STEPS: u32 = 1_000;
 
-/// The text of a trial of the system: how often its rules occur, and how the run ends that seed 0 draws. Costs a walk over all
-/// occurrences of each rule, and the run.
-pub(crate) fn summary_of(alloc: Global, system: &System, size: u32) -> Mem<Vec<u8>>
+/// The text of a trial of the system: how often its rules occur, and how the run ends that seed 0 draws. Costs the
+/// lists of the occurrences of the rules, and the run.
+pub(crate) fn summary_of<R: Threads + Sync>(
+    rt: &R,
+    alloc: Global,
+    system: &System,
+    size: u32,
+) -> Mem<Vec<u8>>
     ensures { IfOk result (λ text. IsTrialText size system.now text.items) }
 {
-    let counts = counts_of(alloc, system)?;
+    let counts = counts_of(rt, alloc, system)?;
     let host = system.init().copy(alloc)?;
     let run = draw(
         alloc,

@@ -7,6 +7,6 @@ use Rattle.command_match.proofs.matches.add_rules.Given as goal
 
 -- the rules so far are written, and each has at most so many occurrences
 abbrev pub invariant-loop-number : goal.invariant-loop-number
-invariant-loop-number l =
+invariant-loop-number g l =
     Appends (AreRuleTexts l.system.signature l.system.init.big l.explain 0 (take l.number l.system.rules)) l.fn.text.items l.text.items
     × All (λ (rule : RuleParts). AreAtMost l.most l.system.init.big rule.redex) (take l.number l.system.rules)

@@ -12,7 +12,7 @@ too_many_of number listing.TooMany found e = (cc, refl)
 too_many_of number listing.OutOfMemory found e = cc
 
 pub returns-in-Err-clause-many : goal.returns-in-Err-clause-many
-returns-in-Err-clause-many c =
+returns-in-Err-clause-many g c =
     λ found is.
     let of = too_many_of c.args.number c.in-Err.fault found (sym c.fault_of.ensures ∙ is) in
     (of.0, subst (AreMoreThan c.args.most c.args.host.now) c.redex.ensures.same (c.in-Err.ensures.many of.1))

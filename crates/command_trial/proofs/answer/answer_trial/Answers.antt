@@ -9,12 +9,12 @@ use Rattle.command_trial.specs.Trial.{trial_promise}
 use Rattle.command_trial.proofs.Size.{model_small}
 use Rattle.command_trial.proofs.answer.answer_trial.Goals as goal
 
-pub reply-requires : goal.reply-requires
-reply-requires c =
+pub reply-made-requires : goal.reply-made-requires
+reply-made-requires g c =
     subst (λ (xs : List ℕ). length xs < 4294967295) (sym (c.as_slice.ensures.value ∙ c.in_ok-model.ensures)) (model_small c.args.size c.requires.1)
 
 pub returns : goal.returns
-returns c =
+returns g c =
     let is : c.as_slice.result.now ≡ trial_model c.args.size = c.as_slice.ensures.value ∙ c.in_ok-model.ensures in
     subst (λ (xs : List ℕ). IfOk c.of.result (λ (reply : Reply). IsRightAnswer (trial_promise c.args.size) xs (answer_of reply))) is
-    (answered {E = OutOfMemory} (trial_promise c.args.size) c.as_slice.result.now c.reply.result c.of.result c.reply.ensures c.of.ensures)
+    (answered {E = OutOfMemory} (trial_promise c.args.size) c.as_slice.result.now c.reply-made.result c.of.result c.reply-made.ensures c.of.ensures)
