@@ -1,8 +1,7 @@
 -- Steps that are found at a view, and what becomes of them.
-use Rattle.std.proofs.Common.{◌≡◌, ℕ, ◌+◌, ◌<◌, ◌≤◌, List, [], ◌∷◌, ◌++◌, length, take, sym, ap, subst, ◌∙◌, take_all, length-append, refl, arith}
+use Rattle.std.proofs.Common.{◌≡◌, ℕ, ◌+◌, ◌≤◌, List, [], ◌∷◌, length, take, sym, ap, subst, ◌∙◌, take_all, length-append, refl, arith}
 use Rattle.std.proofs.lemmas.List.{append_cancel_left}
 use Rattle.bg_base.specs.declared.history.Entry.{Entry}
-use Rattle.bg_base.specs.declared.history.Step.{Step}
 use Rattle.bg_cond.proofs.DrawnRuns.{system_rules}
 use Rattle.bg_cond.proofs.Runs.{run_one_end}
 use Rattle.bg_cond.specs.Boards.{Shows, IsFound, IsDone, IsAgain, IsSpent, IsFull, IsCommitted}
@@ -15,7 +14,7 @@ use Rattle.bg_cond.specs.declared.commits.Commit.TheVariants.{Done, Again, Spent
 use Rattle.bg_rules.specs.Reaction.{HostState}
 use Rattle.bg_rules.specs.Systems.{SystemParts, IsSystem}
 use Rattle.bg_seats.proofs.Histories.{entries-own}
-use Rattle.bg_seats.specs.Histories.{entries_of, Grows}
+use Rattle.bg_seats.specs.Histories.{entries_of}
 
 -- a legal step at a view is found at what was seen
 pub found_at_view : (system : SystemParts) (limit : ℕ) (seen : List Entry) (view : View) (found : Found) → Shows system limit seen view

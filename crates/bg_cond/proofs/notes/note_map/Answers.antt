@@ -1,6 +1,4 @@
-use Rattle.std.proofs.Common.{◌≡◌, Some, None, List, sym, subst}
-use Rattle.bg_base.specs.declared.big.NodeRow.{NodeRow}
-use Rattle.bg_base.specs.Bigraph.{row_of}
+use Rattle.std.proofs.Common.{sym}
 use Rattle.bg_cond.proofs.NoteLaws.{for_none, for_first}
 use Rattle.bg_cond.proofs.notes.note_map.Goals as goal
 

@@ -1,7 +1,5 @@
-use Rattle.std.proofs.Common.{◌≡◌, ◌<◌, Some, None, List, sym, subst}
+use Rattle.std.proofs.Common.{◌<◌, sym, subst}
 use Rattle.bg_base.specs.declared.names.Place.{Place}
-use Rattle.bg_base.specs.declared.big.NodeRow.{NodeRow}
-use Rattle.bg_base.specs.Bigraph.{row_of}
 use Rattle.bg_base.specs.Climbing.{depth}
 use Rattle.bg_base.proofs.Depths.{parent_nearer}
 use Rattle.bg_cond.proofs.NoteLaws.{to_next, to_lost}
