@@ -38,9 +38,7 @@ pub(crate) fn matches_of<G: Gate + Sync, R: Threads + Sync>(
     ensures { IfOk result (λ reply. IsMatchAnswer most explain system.now (answer_of reply)) }
 {
     let mut text = Vec::new(alloc);
-    match add_rules(
-        rt, alloc, system, workers, most, explain, gate, &mut text,
-    ) {
+    match add_rules(rt, alloc, system, workers, most, explain, gate, &mut text) {
         Ok(()) => Ok(Reply {
             status: Status::Done,
             text,

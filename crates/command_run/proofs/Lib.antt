@@ -4,3 +4,4 @@ mod OneText
 pub mod Settled
 mod Telling
 mod Texts
+mod Truths

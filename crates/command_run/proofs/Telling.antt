@@ -1,17 +1,11 @@
--- Telling which predicates occur.
-use Rattle.std.proofs.Common.{◌≡◌, ◌↔◌, IsTrue, ◌++◌, ℕ, zero, suc, ◌<◌, ◌≤◌, ◌+◌, List, [], ◌∷◌, Bool, take, length, zip, get_or, refl, sym, ap, subst, ◌∙◌, arith}
+-- The lines of predicates.
+use Rattle.std.proofs.Common.{◌≡◌, ◌++◌, ℕ, zero, suc, ◌<◌, ◌≤◌, ◌+◌, List, [], ◌∷◌, Bool, take, length, zip, get_or, refl, sym, ap, ◌∙◌, arith}
 use Rattle.std.specs.List.{flat_map}
 use Rattle.bg_lists.proofs.Places.{At-get_or, get_or-At}
-use Rattle.std.proofs.lemmas.List.{append_assoc, append-nil, take_more}
+use Rattle.std.proofs.lemmas.List.{append_assoc, append-nil}
 use Rattle.bg_base.specs.declared.big.Big.{Big}
 use Rattle.bg_rules.specs.declared.predicate.Predicate.{Predicate}
-use Rattle.bg_cond.specs.Conditions.{OccursSomewhere}
 use Rattle.command_run.specs.RunText.{predicate_line, AreTold, none_told, each_told}
-
-pub told_more : {host : Big} {predicates : List Predicate} {truths : List Bool} (predicate : Predicate) (truth : Bool) → (IsTrue truth ↔ OccursSomewhere host predicate.pattern)
-    → AreTold host predicates truths → AreTold host (predicates ++ predicate ∷ []) (truths ++ truth ∷ [])
-told_more predicate truth told none_told = each_told told none_told
-told_more predicate truth told (each_told first rest) = each_told first (told_more predicate truth told rest)
 
 pub told_count : {host : Big} {predicates : List Predicate} {truths : List Bool} → AreTold host predicates truths → length truths ≡ length predicates
 told_count none_told = refl
@@ -62,16 +56,3 @@ pub got_again : (truths : List Bool) (predicates : List Predicate) (number : ℕ
 got_again truths predicates number d count less =
     let below : number < length truths = omega (arith, less, count) in
     sym (get_or-At truths (get_or truths number d) (At-get_or truths number d below))
-
-pub told_next : (host indexed : Big) (predicates : List Predicate) (at : ℕ) (predicate : Predicate) (truths new : List Bool) (truth : Bool)
-    → at < length predicates → predicate ≡ get_or predicates at predicate → AreTold host (take at predicates) truths → (IsTrue truth ↔ OccursSomewhere indexed predicate.pattern)
-    → indexed ≡ host → new ≡ truths ++ truth ∷ [] → AreTold host (take (at + 1) predicates) new
-told_next host indexed predicates at predicate truths new truth below is so_far told same pushed =
-    let next : take at predicates ++ (predicate ∷ []) ≡ take (at + 1) predicates =
-    ap (λ (p : Predicate). take at predicates ++ (p ∷ [])) is ∙ sym (take_more predicates at predicate below) in
-    subst (λ (ts : List Bool). AreTold host (take (at + 1) predicates) ts) (sym pushed)
-    (subst (λ (ps : List Predicate). AreTold host ps (truths ++ truth ∷ [])) next
-    (told_more predicate truth (subst (λ (h : Big). (IsTrue truth ↔ OccursSomewhere h predicate.pattern)) same told) so_far))
-
-pub told_start : (host : Big) (truths : List Bool) → truths ≡ [] → AreTold host [] truths
-told_start host truths e = subst (λ (ts : List Bool). AreTold host [] ts) (sym e) none_told

@@ -38,12 +38,13 @@ pub(crate) fn text_of<G: Gate + Sync, R: Threads + Wait + Sync>(
     ensures no_memory { OnErr result (watchers.new ≡ watchers.old) }
 {
     let finished = run(rt, alloc, system, most, workers, seed, gate)?;
-    let text = text_of_run(alloc, &finished, watchers)?;
+    let text = text_of_run(rt, alloc, &finished, watchers)?;
     Ok(text)
 }
 
 /// The text of the run. The watchers are told of its entries.
-fn text_of_run(
+fn text_of_run<R: Threads + Sync>(
+    rt: &R,
     alloc: Global,
     run: &FinishedRun,
     watchers: &mut Vec<Box<dyn Watcher>>,
@@ -52,7 +53,7 @@ fn text_of_run(
     ensures text { IfOk result (λ text. IsToldRun run.now (map (λ w. state w) watchers.old.items) (map (λ w. state w) watchers.new.items) text.items) }
     ensures no_memory { OnErr result (watchers.new ≡ watchers.old) }
 {
-    let truths = truths_of(alloc, &run.host, run.system.preds())?;
+    let truths = truths_of(rt, alloc, &run.host, run.system.preds())?;
     let counts = counts_of(alloc, &run.system, run.journal.as_slice())?;
     let mut text = Vec::new(alloc);
     put_front(alloc, run, truths.as_slice(), &mut text)?;

@@ -1,12 +1,17 @@
-use Rattle.std.proofs.Common.{rules, ◌∙◌}
-use Rattle.command_run.proofs.Telling.{told_start, told_next}
+use Rattle.std.proofs.Common.{ap, subst, ◌∙◌}
+use Rattle.std.specs.List.{AllZip}
+use Rattle.bg_base.specs.declared.big.Big.{Big}
+use Rattle.rayon.proofs.ToStd.{slice-AllZip}
+use Rattle.command_run.proofs.Truths.{Answers, collected}
 use Rattle.command_run.proofs.predicates.truths_of.Goals as goal
 
-pub loop-predicate-init : goal.loop-predicate-init
-loop-predicate-init c = told_start c.args.host.now.big c.new-truths.result.items c.new-truths.ensures.items
-
-pub loop-predicate-preserved : goal.loop-predicate-preserved
-loop-predicate-preserved c =
-    told_next c.args.host.now.big c.in_ok-indexed.indexed c.args.predicates.now c.loop-predicate.predicate-index c.predicate-item.result
-    c.loop-predicate.truths.items _ c.in_ok-occurs_somewhere.field-0 c.loop-predicate-test.true c.predicate-item.is c.loop-predicate.invariant c.in_ok-occurs_somewhere.ensures
-    (c.in_ok-indexed.ensures ∙ c.big.ensures.same) (search rules)
+pub returns : goal.returns
+returns g c =
+    let made = c.in_ok-collect.ensures in
+    let chain = rw c.map.ensures.f at made.1 in
+    let slice = ap (λ it. it.base.slice.now) c.map.ensures.base ∙ ap (λ it. it.slice.now) c.with_min_len.ensures.base ∙ c.par_iter.ensures in
+    let predicates = c.args.predicates.now in
+    let each : AllZip (Answers c.in_ok-indexed.indexed) predicates made.0
+    = slice-AllZip chain.0 predicates (chain.1 ∙ slice) (Answers c.in_ok-indexed.indexed) made.0 chain.2 in
+    let same = c.in_ok-indexed.ensures ∙ c.big.ensures.same in
+    collected c.args.host.now.big predicates made.0 _ (subst (λ (big : Big). AllZip (Answers big) predicates made.0) same each) made.2
