@@ -1,4 +1,4 @@
-//! Tests of hosts that threads share: their history, the host behind the lock, workers, and runs.
+//! Tests of hosts that threads share: their history, the host behind the lock, workers, and runs; of searches in pieces.
 #![tactic(auto)]
 
 #[cfg(test)]
@@ -11,3 +11,5 @@ mod hosts;
 mod meeting;
 #[cfg(test)]
 mod models;
+#[cfg(test)]
+mod pieces;

@@ -20,16 +20,18 @@ use std::thread::Threads;
 /// A worker that waits does not wait longer than so many turns.
 const MOST_TURNS: u64 = 10_000_000;
 
-/// A gate that holds workers 0 and 1 at the first step that they find, until the other has found one.
+/// A gate that holds 0 and 1, workers or pieces, each at the first such moment, until the other has come to its own.
 #[derive(Drop)]
-struct Meeting {
+pub(crate) struct Meeting {
+    moment: Moment,
     here: [AtomicU64; 2],
     turns: [AtomicU64; 2],
 }
 
 impl Meeting {
-    fn new() -> Meeting {
+    pub(crate) fn at(moment: Moment) -> Meeting {
         Meeting {
+            moment,
             here: [AtomicU64::new(0), AtomicU64::new(0)],
             turns: [AtomicU64::new(0), AtomicU64::new(0)],
         }
@@ -50,7 +52,7 @@ impl Meeting {
     }
 
     /// Both have come, and neither has waited too long.
-    fn has_met(&self) -> bool {
+    pub(crate) fn has_met(&self) -> bool {
         self.here[0].load(Ordering::SeqCst) == 1
             && self.here[1].load(Ordering::SeqCst) == 1
             && self.turns[0].load(Ordering::SeqCst) < MOST_TURNS
@@ -60,7 +62,7 @@ impl Meeting {
 
 impl Gate for Meeting {
     fn pass(&self, worker: u32, moment: Moment) {
-        if moment != Moment::Found {
+        if moment != self.moment {
             return;
         }
         if worker == 0 {
@@ -81,7 +83,7 @@ const OFFICE_RULES: &str =
 begin brs init s; rules = [ {sit}, {shut} ]; end";
 
 /// An office of so many rooms and agents.
-fn office(alloc: Global, size: u32) -> Mem<String> {
+pub(crate) fn office(alloc: Global, size: u32) -> Mem<String> {
     let mut text = String::from_str(alloc, OFFICE)?;
     text.push_str("room")?;
     for _ in 1..size {
@@ -169,7 +171,7 @@ fn try_run<G: Gate + Sync, R: Abort + Threads + Wait + Sync>(
 
 #[test]
 fn two_workers_run_at_once(rt: HostRuntime) -> Mem<()> {
-    let gate = Meeting::new();
+    let gate = Meeting::at(Moment::Found);
     let text = office(rt.alloc(), 20)?;
     let count = try_run(&rt, rt.alloc(), &text, 1000, 2, &gate)?;
     assert!(rt; count == 21);
@@ -205,7 +207,7 @@ fn status_of<G: Gate + Sync, R: Threads + Wait + Sync>(
 
 #[test]
 fn the_program_has_its_workers_run_at_once(rt: HostRuntime) -> Mem<()> {
-    let gate = Meeting::new();
+    let gate = Meeting::at(Moment::Found);
     let text = office(rt.alloc(), 20)?;
     assert!(rt; status_of(&rt, rt.alloc(), &text, &gate)? == 0);
     assert!(rt; gate.has_met());
