@@ -90,12 +90,6 @@ module _ (rules : List RuleParts) (worker : ℕ) (seed : Lcg) (host next : HostS
       turn.later_is ∙ ap (behind_end end) so_far ∙ ap (λ (xs : List Entry). behind_end end (after_words (length xs) seed)) (sym (e ∙ turn.same))
       ∙ ap (λ (x : End). behind_end x (after_words (length journal) seed)) (sym f)
 
-pub words_spent : (seed state : Lcg) (entries journal : List Entry) (end : End) → state ≡ after_words (length entries) seed → journal ≡ entries
-    → end ≡ Limit → state ≡ behind_end end (after_words (length journal) seed)
-words_spent seed state entries journal end so_far e f =
-    so_far ∙ ap (λ (xs : List Entry). after_words (length xs) seed) (sym e)
-    ∙ ap (λ (x : End). behind_end x (after_words (length journal) seed)) (sym f)
-
 -- ---- the run that is made
 
 pub few_drawn : {rules : List RuleParts} {most : ℕ} {first : HostState} {seed : Lcg} {entries : List Entry} {end : End} {host : HostState}

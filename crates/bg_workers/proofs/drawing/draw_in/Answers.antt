@@ -1,7 +1,7 @@
 use Rattle.std.proofs.Common.{◌≡◌, ◌-◌, suc, List, length, arith, refl, sym, ap, subst}
 use Rattle.bg_base.specs.declared.history.Entry.{Entry}
 use Rattle.bg_workers.specs.Turns.{Continues, after_words}
-use Rattle.bg_workers.proofs.Turning.{starts, goes_on, stops, spent, few_drawn, words_on, words_end, words_spent}
+use Rattle.bg_workers.proofs.Turning.{starts, goes_on, stops, spent, few_drawn, words_on, words_end}
 use Rattle.bg_workers.proofs.drawing.draw_in.Goals as goal
 
 pub loop-room-init : goal.loop-room-init
