@@ -57,7 +57,6 @@ pub struct ControlEntry {
 
 /// The parts of an indexed host. The slots ascend by node and are the only way to the nodes; the edges ascend by number
 /// and the controls by theirs; the names stand beside the outer names.
-#[derive(Drop)]
 pub struct Index {
     pub nodes: Slab<NodeEntry>,
     pub slots: Vec<Slot>,
@@ -68,6 +67,23 @@ pub struct Index {
     pub controls: Vec<ControlEntry>,
     pub next_node: u32,
     pub next_edge: u32,
+}
+
+// One step for whoever holds it, and not one for each list.
+impl Drop for Index {
+    fn drop(self) {
+        let Index {
+            nodes: _,
+            slots: _,
+            regions: _,
+            edges: _,
+            outer: _,
+            names: _,
+            controls: _,
+            next_node: _,
+            next_edge: _,
+        } = self;
+    }
 }
 
 /// The slot of the node, in slots that ascend by node.
