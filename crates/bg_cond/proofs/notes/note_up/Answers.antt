@@ -13,8 +13,9 @@ returns-in_default-row g c =
 
 pub loop-place-smaller : goal.loop-place-smaller
 loop-place-smaller g c =
-    subst (λ (place : Place). depth (g.H.HostLookup.big c.args.host.now) c.in-Some.row.now.parent < depth (g.H.HostLookup.big c.args.host.now) place) (sym c.in-Node.is)
-    (parent_nearer (g.H.HostLookup.big c.args.host.now) c.requires.valid c.in-Node.node
+    let host = g.H.HostLookup.big c.args.host.now in
+    subst (λ (place : Place). depth host c.in-Some.row.now.parent < depth host place) (sym c.in-Node.is)
+    (parent_nearer host c.requires.valid c.in-Node.node
     (sym c.in-Some.ensures))
 
 pub loop-place-preserved : goal.loop-place-preserved
