@@ -111,7 +111,7 @@ pub(crate) fn parted(alloc: Global, mut members: Vec<Worker>) -> Mem<(Vec<Pass>,
     requires { 0 < length members.items }
     ensures { IfOk result (λ left. IsParted members.items left.0.items left.2) }
 {
-    let Member {
+    let FollowMember {
         pass,
         follower: _,
         picker,
@@ -141,7 +141,7 @@ fn pass_of_ended(member: Worker) -> Mem<Pass>
     ensures pass { IfOk result (λ pass. pass ≡ member.pass) }
     ensures ended { OnOk result (HasEnd member) }
 {
-    let Member {
+    let FollowMember {
         pass,
         follower: _,
         picker: _,
