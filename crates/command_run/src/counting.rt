@@ -27,12 +27,7 @@ pub(crate) fn counts_of(alloc: Global, system: &System, entries: &[Entry]) -> Me
 }
 
 /// The host becomes that after the entry.
-fn make_step(
-    alloc: Global,
-    host: &mut IndexedHost,
-    system: &System,
-    entry: &Entry,
-) -> Mem<()>
+fn make_step(alloc: Global, host: &mut IndexedHost, system: &System, entry: &Entry) -> Mem<()>
     requires legal { IsLegal host.old system.now.rules (step_of entry.now) }
     requires within { ¬ IsTooLarge host.old system.now.rules (step_of entry.now) }
     ensures { OnOk result (LeadsTo host.old system.now.rules (step_of entry.now) host.new) }
