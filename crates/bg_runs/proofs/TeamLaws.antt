@@ -1,17 +1,20 @@
 -- Teams, and what becomes of their members.
 use Rattle.std.proofs.Common.{◌≡◌, ℕ, zero, suc, ◌≤◌, ◌<◌, List, [], ◌∷◌, ◌++◌, length, get_or, map, take, drop, refl, sym, ap, ap₂, subst, ◌∙◌, arith, Some, Ok, slice_get, IfOk, take_at}
+use Rattle.std.specs.List.{AllByRecursion}
 use Rattle.std.specs.declared.option.Option.{Option}
 use Rattle.std.specs.declared.result.Result.{Result}
 use Rattle.atomic_table.specs.Seated.{TableId}
 use Rattle.bg_base.specs.declared.history.Entry.{Entry}
 use Rattle.bg_cond.specs.Picks.{seeded}
+use Rattle.bg_cond.specs.Steps.{IsRun, ended as nothing_ran}
+use Rattle.bg_incr.specs.Replicas.{ReplicaState}
 use Rattle.bg_rules.specs.Systems.{SystemParts}
 use Rattle.bg_runs.specs.Finished.{CameFrom}
-use Rattle.bg_runs.specs.Teams.{pass_of, IsMember, IsTeam, HasEnd, HaveEnds, HasEnded, HaveEnded, IsParted}
+use Rattle.bg_runs.specs.Teams.{pass_of, IsMember, IsTeam, StandsFirst, HasEnd, HaveEnds, HasEnded, HaveEnded, IsParted}
 use Rattle.bg_seats.specs.Histories.{PassView, Grows, new_pass, new_passes}
 use Rattle.bg_shared.proofs.Committing.{all_snoc, all_last}
 use Rattle.bg_shared.specs.Shared.{OfTable, BeginsWith, BeginsWithEach}
-use Rattle.bg_workers.specs.Following.{as_member}
+use Rattle.bg_workers.specs.Following.{IsStanding, as_member}
 use Rattle.bg_workers.specs.Members.{HasRun}
 use Rattle.bg_workers.specs.Working.{IsEnded, IsOwn, IsDrawn}
 use Rattle.bg_workers.specs.declared.ends.Ended.{Ended}
@@ -104,6 +107,28 @@ module _ {F : Type 0} where
     ended_of_table passes [] all = tt
     ended_of_table [] (m ∷ members) all = absurd all
     ended_of_table (p ∷ passes) (m ∷ members) all = (let has = all.0 in has.of, ended_of_table passes members all.1)
+
+-- ---- followers
+
+-- a follower that stands for the first host stands for the host after none of the entries that were seen, whatever they are
+module _ (stands : ReplicaState → SystemParts → Type 0) (any : (follower : ReplicaState) (system : SystemParts) → stands follower system) (system : SystemParts) where
+  stands_first : (member : FollowMember PassView ReplicaState) → StandsFirst system member
+      → IsStanding stands (λ (f : ReplicaState). f.version) (λ (f : ReplicaState). f.host) (λ (pass : PassView). pass.seen) system member
+  stands_first member first =
+      let none = first.version_is in record {
+        standing = any member.follower system;
+        behind = record {
+          few = omega (arith, none);
+          run = subst (λ (n : ℕ). IsRun system.rules system.init (take n member.pass.seen) member.follower.host) (sym none) (nothing_ran first.host_is);
+        };
+      }
+
+  pub all_standing : (members : List (FollowMember PassView ReplicaState)) → AllByRecursion (StandsFirst system) members
+      → (place : ℕ) (d : FollowMember PassView ReplicaState) → place < length members
+      → IsStanding stands (λ (f : ReplicaState). f.version) (λ (f : ReplicaState). f.host) (λ (pass : PassView). pass.seen) system (get_or members place d)
+  all_standing [] all place d less = absurd (omega (arith, less))
+  all_standing (m ∷ members) all zero d less = stands_first m all.0
+  all_standing (m ∷ members) all (suc place) d less = all_standing members all.1 place d (omega (arith, less))
 
 -- a slice that was written whole
 pub written_whole : {A : Type 0} (count : ℕ) (new tail : List A) → count ≡ length new → take count (new ++ tail) ≡ new

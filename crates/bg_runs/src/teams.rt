@@ -1,6 +1,7 @@
 //! Teams of workers, one for each pass of a shared host.
 ghost use Rattle.std.specs.Prelude.{◌≡◌, ◌<◌, All, length, map, Some, Ok, IfOk, OnOk};
-ghost use Rattle.bg_runs.specs.Teams.{HasEnd, HaveEnds, HaveEnded, IsMember, IsParted, IsTeam, pass_of};
+ghost use Rattle.std.specs.List.{AllByRecursion};
+ghost use Rattle.bg_runs.specs.Teams.{HasEnd, HaveEnds, HaveEnded, IsMember, IsParted, IsTeam, StandsFirst, pass_of};
 ghost use Rattle.bg_seats.specs.Histories.{PassView};
 ghost use Rattle.bg_shared.specs.Shared.{OfTable};
 ghost use Rattle.bg_workers.specs.Following.{AllRunFollowing, IsStanding, as_member};
@@ -23,7 +24,7 @@ pub(crate) type Worker = FollowMember<Pass, KeptFinder>;
 /// A worker for each pass, which stands at the system's first host; the generator of each is made by the seed and its number.
 fn team_of(alloc: Global, passes: Vec<Pass>, seed: u64, system: &System) -> Mem<Vec<Worker>>
     ensures team { IfOk result (λ members. IsTeam seed passes.items members.items) }
-    ensures standing { IfOk result (λ members. All (IsStanding ⟦<KeptFinder as Follower>⟧.stands ⟦<KeptFinder as Follower>⟧.version ⟦<KeptFinder as Follower>⟧.host (λ (pass : PassView). pass.seen) system.now) members.items) }
+    ensures standing { IfOk result (λ members. AllByRecursion (StandsFirst system.now) members.items) }
 {
     let view = first_view(alloc, system)?;
     let mut members = Vec::new(alloc);
@@ -47,7 +48,7 @@ fn member_of(alloc: Global, pass: Pass, seed: u64, system: &System, view: &View)
     requires version { view.now.version ≡ 0 }
     requires host { view.now.host ≡ system.now.init }
     ensures member { IfOk result (λ member. IsMember seed pass member) }
-    ensures standing { IfOk result (λ member. IsStanding ⟦<KeptFinder as Follower>⟧.stands ⟦<KeptFinder as Follower>⟧.version ⟦<KeptFinder as Follower>⟧.host (λ (pass : PassView). pass.seen) system.now member) }
+    ensures standing { IfOk result (λ member. StandsFirst system.now member) }
 {
     let number = worker(&pass);
     let follower = KeptFinder::start(alloc, view, system)?;
