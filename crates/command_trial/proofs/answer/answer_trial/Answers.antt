@@ -11,7 +11,7 @@ use Rattle.command_trial.proofs.answer.answer_trial.Goals as goal
 
 pub reply-made-requires : goal.reply-made-requires
 reply-made-requires g c =
-    subst (λ (xs : List ℕ). length xs < 4294967295) (sym (c.as_slice.ensures.value ∙ c.in_ok-model.ensures)) (model_small c.args.size c.requires.1)
+    (c.type_bounds.sync-R, subst (λ (xs : List ℕ). length xs < 4294967295) (sym (c.as_slice.ensures.value ∙ c.in_ok-model.ensures)) (model_small c.args.size c.requires.1))
 
 pub returns : goal.returns
 returns g c =
