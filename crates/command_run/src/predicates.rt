@@ -30,7 +30,16 @@ pub(crate) fn truths_of<R: Threads + Sync>(
         .map(
             |predicate: &Predicate| -> Mem<bool>
                 ensures { IfOk result (λ truth. IsTrue truth ↔ OccursSomewhere indexed.entry.now predicate.entry.now.pattern) }
-            { occurs_somewhere(alloc, indexed, &predicate.pattern) },
+            { holds_in(alloc, indexed, predicate) },
         )
         .collect::<Result<Vec<bool>, OutOfMemory>>(rt, alloc)?
+}
+
+/// Whether the pattern of the predicate occurs in the host.
+fn holds_in<'a>(alloc: Global, host: &HostIndex<'a>, predicate: &Predicate) -> Mem<bool>
+    ensures { IfOk result (λ truth. IsTrue truth ↔ OccursSomewhere host.now predicate.now.pattern) }
+{
+    let _big = host.host();
+    let truth = occurs_somewhere(alloc, host, &predicate.pattern)?;
+    Ok(truth)
 }

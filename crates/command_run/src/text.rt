@@ -3,7 +3,7 @@ ghost use Rattle.std.specs.Prelude.{◌≡◌, ◌≤◌, ◌++◌, length, map,
 ghost use Rattle.bg_base.specs.Limits.{most_steps};
 ghost use Rattle.bg_cond.specs.Steps.{IsRun};
 ghost use Rattle.command_run.specs.RunText as text;
-ghost use Rattle.command_run.specs.RunText.{IsRunText};
+ghost use Rattle.command_run.specs.RunText.{AreTold, IsRunText};
 ghost use Rattle.command_run.specs.Told.{IsToldRun};
 
 use crate::counting::counts_of;
@@ -38,25 +38,34 @@ pub(crate) fn text_of<G: Gate + Sync, R: Threads + Wait + Sync>(
     ensures no_memory { OnErr result (watchers.new ≡ watchers.old) }
 {
     let finished = run(rt, alloc, system, most, workers, seed, gate)?;
-    let text = text_of_run(rt, alloc, &finished, watchers)?;
+    let truths = truths_of_run(rt, alloc, &finished)?;
+    let text = text_of_run(alloc, &finished, truths.as_slice(), watchers)?;
     Ok(text)
 }
 
-/// The text of the run. The watchers are told of its entries.
-fn text_of_run<R: Threads + Sync>(
-    rt: &R,
+/// For each predicate of the system whether its pattern occurs in the last host.
+fn truths_of_run<R: Threads + Sync>(rt: &R, alloc: Global, run: &FinishedRun) -> Mem<Vec<bool>>
+    ensures { IfOk result (λ truths. AreTold run.now.host.big run.now.system.preds truths.items) }
+{
+    let truths = truths_of(rt, alloc, &run.host, run.system.preds())?;
+    Ok(truths)
+}
+
+/// The text of the run, of which the predicates are told so. The watchers are told of its entries.
+fn text_of_run(
     alloc: Global,
     run: &FinishedRun,
+    truths: &[bool],
     watchers: &mut Vec<Box<dyn Watcher>>,
 ) -> Mem<Vec<u8>>
-    requires { IsRun run.now.system.rules run.now.system.init run.now.journal run.now.host }
+    requires run { IsRun run.now.system.rules run.now.system.init run.now.journal run.now.host }
+    requires truths { AreTold run.now.host.big run.now.system.preds truths.now }
     ensures text { IfOk result (λ text. IsToldRun run.now (map (λ w. state w) watchers.old.items) (map (λ w. state w) watchers.new.items) text.items) }
     ensures no_memory { OnErr result (watchers.new ≡ watchers.old) }
 {
-    let truths = truths_of(rt, alloc, &run.host, run.system.preds())?;
     let counts = counts_of(alloc, &run.system, run.journal.as_slice())?;
     let mut text = Vec::new(alloc);
-    put_front(alloc, run, truths.as_slice(), &mut text)?;
+    put_front(alloc, run, truths, &mut text)?;
     let mut last = Vec::new(alloc);
     write_host(alloc, run.system.signature(), &run.host, &mut last)?;
     put_watched(

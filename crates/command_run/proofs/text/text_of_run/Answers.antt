@@ -10,14 +10,14 @@ use Rattle.command_run.proofs.text.text_of_run.Goals as goal
 
 pub put_front-requires : goal.put_front-requires
 put_front-requires g c =
-    ap (λ (ts : List Bool). length ts) c.as_slice-2.ensures.value ∙ told_count c.in_ok-truths.ensures ∙ ap (λ (ps : List Predicate). length ps) c.preds.ensures.same
+    told_count c.requires.truths
 
 pub write_host-requires : goal.write_host-requires
 write_host-requires g c =
     subst (λ (signature : List Control). IsValidUnder signature c.args.run.now.host.big) (sym c.signature.ensures.same)
-    (system_run_fits c.args.run.now.system c.signature.ensures.kept c.requires)
+    (system_run_fits c.args.run.now.system c.signature.ensures.kept c.requires.run)
 
 pub put_watched-requires : goal.put_watched-requires
 put_watched-requires g c =
-    ap (λ (xs : List Entry). length xs) (c.as_slice-3.ensures.same ∙ sym c.as_slice.ensures.same) ∙ sym (counts_length c.in_ok-counts.ensures)
-    ∙ ap length (sym c.as_slice-4.ensures.value)
+    ap (λ (xs : List Entry). length xs) (c.as_slice-2.ensures.same ∙ sym c.as_slice.ensures.same) ∙ sym (counts_length c.in_ok-counts.ensures)
+    ∙ ap length (sym c.as_slice-3.ensures.value)
