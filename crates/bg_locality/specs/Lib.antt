@@ -1,0 +1,4 @@
+pub mod Changes
+pub mod Locality
+pub mod Twins
+pub mod Updates
