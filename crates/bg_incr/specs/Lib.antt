@@ -1,1 +1,3 @@
+pub mod Finders
+pub mod Ports
 pub mod Replicas

@@ -4,7 +4,9 @@
 //! - [`KeptFinder`]: who lists the legal steps at a replica, as a follower and as a finder.
 #![tactic(auto)]
 
+mod keeping;
 mod kept_finder;
+mod listing;
 mod replica;
 
 pub use kept_finder::KeptFinder;

@@ -2,10 +2,11 @@
 ghost use Rattle.std.specs.Prelude.{◌≡◌, ◌+◌, ◌<◌, ◌^◌, [], ◌∷◌, length, IfOk, OnOk, OnErr};
 ghost use Rattle.bg_cond.specs.Followers.{GoOn, HasFollowed, HasFollowedSome};
 ghost use Rattle.bg_cond.specs.Steps as run;
+ghost use Rattle.bg_index.specs.Causes.{AreCauses};
 
 use bg_base::{Entry, Step};
 use bg_cond::{View, take_step_in_place};
-use bg_index::IndexedHost;
+use bg_index::{Causes, IndexedHost};
 use bg_lists::{Duplicate, Mem, OutOfMemory};
 use bg_match::NumberedHost;
 use bg_rules::{Host, ReactFault, System};
@@ -75,20 +76,21 @@ impl Replica {
         Ok(())
     }
 
-    /// Brings the host to what the entry leads to. It refuses for want of memory alone, and is then as it was.
-    fn take(&mut self, alloc: Global, system: &System, entry: &Entry) -> Mem<()>
+    /// Brings the host to what the entry leads to, and tells why nodes are touched. It refuses for want of memory alone, and is then as it was.
+    pub(crate) fn take(&mut self, alloc: Global, system: &System, entry: &Entry) -> Mem<Causes>
         requires entry { GoOn system.now.rules self.old.host (entry.now ∷ []) }
         requires few { self.old.version + 1 < 2 ^ 32 }
         ensures followed { OnOk result (HasFollowed system.now.rules self.old.version self.old.host (entry.now ∷ []) self.new.version self.new.host) }
+        ensures causes { IfOk result (AreCauses self.old.host.big self.new.host.big) }
         ensures no_memory { OnErr result (self.new ≡ self.old) }
     {
         let _system = system.signature();
         self.host.keeps();
         let step = step_of(alloc, entry)?;
         match take_step_in_place(alloc, &mut self.host, system, &step) {
-            Ok(_causes) => {
+            Ok(causes) => {
                 self.version += 1;
-                Ok(())
+                Ok(causes)
             }
             Err(ReactFault::OutOfMemory) => Err(OutOfMemory),
             Err(ReactFault::Full) => unreachable!(),
