@@ -7,7 +7,7 @@ use Rattle.atomic_table.specs.Seated.{TableId}
 use Rattle.bg_base.specs.declared.history.Entry.{Entry}
 use Rattle.bg_cond.specs.Picks.{seeded}
 use Rattle.bg_cond.specs.Steps.{IsRun, ended as nothing_ran}
-use Rattle.bg_incr.specs.Replicas.{ReplicaState}
+use Rattle.bg_incr.specs.Finders.{FinderState, StandsFor}
 use Rattle.bg_rules.specs.Systems.{SystemParts}
 use Rattle.bg_runs.specs.Finished.{CameFrom}
 use Rattle.bg_runs.specs.Teams.{pass_of, IsMember, IsTeam, StandsFirst, HasEnd, HaveEnds, HasEnded, HaveEnded, IsParted}
@@ -111,21 +111,21 @@ module _ {F : Type 0} where
 -- ---- followers
 
 -- a follower that stands for the first host stands for the host after none of the entries that were seen, whatever they are
-module _ (stands : ReplicaState → SystemParts → Type 0) (any : (follower : ReplicaState) (system : SystemParts) → stands follower system) (system : SystemParts) where
-  stands_first : (member : FollowMember PassView ReplicaState) → StandsFirst system member
-      → IsStanding stands (λ (f : ReplicaState). f.version) (λ (f : ReplicaState). f.host) (λ (pass : PassView). pass.seen) system member
+module _ (system : SystemParts) where
+  stands_first : (member : FollowMember PassView FinderState) → StandsFirst system member
+      → IsStanding (λ (f : FinderState) (s : SystemParts). StandsFor f s) (λ (f : FinderState). f.version) (λ (f : FinderState). f.host) (λ (pass : PassView). pass.seen) system member
   stands_first member first =
       let none = first.version_is in record {
-        standing = any member.follower system;
+        standing = first.standing;
         behind = record {
           few = omega (arith, none);
           run = subst (λ (n : ℕ). IsRun system.rules system.init (take n member.pass.seen) member.follower.host) (sym none) (nothing_ran first.host_is);
         };
       }
 
-  pub all_standing : (members : List (FollowMember PassView ReplicaState)) → AllByRecursion (StandsFirst system) members
-      → (place : ℕ) (d : FollowMember PassView ReplicaState) → place < length members
-      → IsStanding stands (λ (f : ReplicaState). f.version) (λ (f : ReplicaState). f.host) (λ (pass : PassView). pass.seen) system (get_or members place d)
+  pub all_standing : (members : List (FollowMember PassView FinderState)) → AllByRecursion (StandsFirst system) members
+      → (place : ℕ) (d : FollowMember PassView FinderState) → place < length members
+      → IsStanding (λ (f : FinderState) (s : SystemParts). StandsFor f s) (λ (f : FinderState). f.version) (λ (f : FinderState). f.host) (λ (pass : PassView). pass.seen) system (get_or members place d)
   all_standing [] all place d less = absurd (omega (arith, less))
   all_standing (m ∷ members) all zero d less = stands_first m all.0
   all_standing (m ∷ members) all (suc place) d less = all_standing members all.1 place d (omega (arith, less))

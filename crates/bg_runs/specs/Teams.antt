@@ -4,7 +4,7 @@ use Rattle.std.specs.List.{AllByRecursion}
 use Rattle.std.specs.declared.result.Result.{Result}
 use Rattle.atomic_table.specs.Seated.{TableId}
 use Rattle.bg_cond.specs.Picks.{seeded}
-use Rattle.bg_incr.specs.Replicas.{ReplicaState}
+use Rattle.bg_incr.specs.Finders.{FinderState, StandsFor}
 use Rattle.bg_lists.specs.declared.memory.OutOfMemory.{OutOfMemory}
 use Rattle.bg_rules.specs.Systems.{SystemParts}
 use Rattle.bg_seats.specs.Histories.{PassView}
@@ -27,8 +27,9 @@ IsTeam seed [] (member ∷ members) = ⊥
 IsTeam seed (pass ∷ passes) [] = ⊥
 IsTeam seed (pass ∷ passes) (member ∷ members) = IsMember seed pass member × IsTeam seed passes members
 
--- the follower of the member stands for the system's first host, before any entry
-pub record StandsFirst (system : SystemParts) (member : FollowMember PassView ReplicaState) : Type 0 where
+-- the follower of the member stands under the system for its first host, before any entry
+pub record StandsFirst (system : SystemParts) (member : FollowMember PassView FinderState) : Type 0 where
+  pub standing : StandsFor member.follower system
   pub version_is : member.follower.version ≡ 0
   pub host_is : member.follower.host ≡ system.init
 

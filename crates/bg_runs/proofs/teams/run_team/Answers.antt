@@ -8,7 +8,7 @@ run_members-members-requires-clause-members g c κs within =
 pub run_members-members-requires-clause-standing : goal.run_members-members-requires-clause-standing
 run_members-members-requires-clause-standing g c κs within =
     let standing = rw c.system.ensures at c.in_ok-members.ensures.standing in
-    all_standing _ (λ follower system. tt) g.N.HostName.system c.in_ok-members.members.items standing
+    all_standing g.N.HostName.system c.in_ok-members.members.items standing
 
 pub returns : goal.returns
 returns g c =
