@@ -1,6 +1,6 @@
 -- The last local condition: it follows from the others where the pattern has one region, and stays where nothing above has
 -- moved. So occurrences stay that are seen alike.
-use Rattle.std.proofs.Common.{◌≡◌, ℕ, ◌⊎◌, true, List, inl, inr, refl, sym, ap, subst, ◌∙◌}
+use Rattle.std.proofs.Common.{◌≡◌, ℕ, true, List, inl, inr, refl, sym, ap, subst, ◌∙◌}
 use Rattle.bg_lists.specs.Lists.{Mem}
 use Rattle.bg_base.specs.declared.names.Place.{Place}
 use Rattle.bg_base.specs.declared.names.Place.TheVariants.{Node, Region}

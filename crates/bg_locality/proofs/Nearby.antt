@@ -1,6 +1,6 @@
 -- Where two hosts look the same to a pattern at the numbers of a map, the map meets all local conditions but one in the other
 -- host where it does in the one.
-use Rattle.std.proofs.Common.{◌≡◌, ℕ, ◌⊎◌, List, filter, inl, inr, length, refl, sym, ap, subst, ◌∙◌, arith}
+use Rattle.std.proofs.Common.{◌≡◌, ℕ, ◌⊎◌, Bool, List, filter, inl, inr, length, sym, ap, subst, ◌∙◌, arith}
 use Rattle.bg_lists.specs.Lists.{Mem, At}
 use Rattle.bg_lists.proofs.Members.{Mem-same, Mem-map, Mem-unmap, Mem-filter, Mem-unfilter}
 use Rattle.bg_lists.proofs.Places.{At-below, At-total, At-from_Mem, Mem-from_At}
@@ -22,7 +22,7 @@ use Rattle.bg_rules.proofs.Patterns.{same_node_row, number_row, used_edge}
 use Rattle.bg_rewriting.proofs.Members.{Mem-children, child_row}
 use Rattle.bg_match.specs.PortNodes.{nodes_on}
 use Rattle.bg_match.proofs.TiedLaws.{nodes_on-tied}
-use Rattle.bg_locality.specs.Locality.{MeetsNearby, IsSeenAlike, IsSeenAlikeAt, AreSeenAlike}
+use Rattle.bg_locality.specs.Locality.{MeetsNearby, IsSeenAlike, AreSeenAlike}
 
 -- ---- what is the same there is the same back
 

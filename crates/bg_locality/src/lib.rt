@@ -2,7 +2,7 @@
 //! all occurrences is brought up to date. A call does nothing.
 #![tactic(auto)]
 
-ghost use Rattle.std.specs.Prelude.{◌≡◌, ◌↔◌, ℕ, Bool, List, length, map};
+ghost use Rattle.std.specs.Prelude.{◌≡◌, ◌↔◌, ◌+◌, ℕ, Bool, List, length, map};
 ghost use Rattle.bg_base.specs.declared.big.Big.{Big};
 ghost use Rattle.bg_base.specs.Bigraph.{IsValid, IsGround};
 ghost use Rattle.bg_rules.specs.Decomposition.{AreNew, Occurs};
