@@ -1,5 +1,5 @@
 -- Entries that go on from a host, followed one after the other.
-use Rattle.std.proofs.Common.{◌≡◌, ℕ, suc, ◌+◌, ◌<◌, ◌≤◌, List, [], ◌∷◌, ◌++◌, length, take, drop, get_or, All, refl, sym, ap, subst, ◌∙◌, take_all, length-append, arith}
+use Rattle.std.proofs.Common.{◌≡◌, ℕ, zero, suc, ◌+◌, ◌<◌, ◌≤◌, List, [], ◌∷◌, ◌++◌, length, take, drop, get_or, All, refl, sym, ap, subst, ◌∙◌, take_all, length-append, arith}
 use Rattle.std.proofs.Math.Seq.{take-suc}
 use Rattle.std.proofs.lemmas.List.{drop_more}
 use Rattle.bg_base.specs.declared.history.Entry.{Entry}
@@ -93,3 +93,19 @@ module _ (rules : List RuleParts) (version : ℕ) (host : HostState) (entries : 
             rest = subst (λ (h : HostState). GoOn rules h (drop (place + 1) entries)) same (record { after = goes_on.after; run = first.rest });
             is_host = subst IsHost same (next_is_host rules rules_are at are.is_host (step_of entry) first.leads);
           }
+
+      -- some or none of one entry more
+      pub following_err : {later : ℕ} {after : HostState} → All IsRule rules → HasFollowedSome rules now at (entry ∷ []) later after
+          → HasFollowedSome rules version host entries later after
+      following_err {later} {after} rules_are some = by_count some.count some.some some.followed where
+        by_count : (count : ℕ) → count ≤ 1 → HasFollowed rules now at (take count (entry ∷ [])) later after → HasFollowedSome rules version host entries later after
+        by_count zero le followed =
+            let number = followed.version_is in
+            let same : later ≡ now = omega (arith, number) in
+            let stays : after ≡ at = run_none followed.run in
+            subst (λ (n : ℕ). HasFollowedSome rules version host entries n after) (sym same)
+            (subst (λ (h : HostState). HasFollowedSome rules version host entries now h) (sym stays) (following_some (omega (arith, below))))
+        by_count (suc zero) le followed =
+            let next = following_next rules_are followed in
+            record { count = place + 1; some = omega (arith, below); followed = next.followed }
+        by_count (suc (suc n)) le followed = absurd (omega (arith, le))

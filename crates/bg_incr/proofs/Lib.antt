@@ -1,3 +1,5 @@
 pub mod Following
+pub mod KeptClasses
+pub mod KeptFor
 pub mod KeptSteps
 pub mod PortLaws

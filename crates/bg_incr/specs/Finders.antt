@@ -8,7 +8,7 @@ use Rattle.bg_index.specs.Causes.{AreCauses}
 use Rattle.bg_index.specs.declared.causes.Causes.{Causes}
 use Rattle.bg_kept.specs.declared.kept_list.KeptList.{KeptList}
 use Rattle.bg_kept.specs.Lists.{IsKept}
-use Rattle.bg_locality.specs.Changes.{HasLowEdges}
+use Rattle.bg_locality.specs.Changes.{Changes, AreChanges, HasLowEdges}
 use Rattle.bg_rules.specs.Reaction.{HostState}
 use Rattle.bg_rules.specs.Rules.{RuleParts}
 use Rattle.bg_rules.specs.Systems.{SystemParts}
@@ -43,6 +43,13 @@ pub record WereKeptFor (after : Big) (causes : Causes) (rules : List RuleParts) 
   pub before : Big
   pub ground : IsGround before
   pub causes : AreCauses before after causes
+  pub kept : AreKeptFor before rules lists
+
+-- so they were before these changes
+pub record WereKeptAll (after : Big) (changes : Changes) (rules : List RuleParts) (lists : List KeptList) : Type 0 where
+  pub before : Big
+  pub ground : IsGround before
+  pub changed : AreChanges before after changes
   pub kept : AreKeptFor before rules lists
 
 -- the list tells whether there is an occurrence: it has one, or is the list of all
