@@ -26,6 +26,6 @@ module _ (host : HostState) (rule : RuleParts) (list : KeptList) (keepable : IsK
             (kept.maps.all somewhere.nodes (occurs_enabled somewhere.enabled) (ap (λ b. is_below b somewhere.nodes) whole))
         | inr some ↦ omega (arith, some, none)
       ] where
-    no_member : (maps : List (List ℕ)) → length maps ≡ 0 → (nodes : List ℕ) → Mem nodes maps → ⊥
-    no_member [] e nodes m = not_Mem-nil nodes m
-    no_member (map ∷ maps) e nodes m = absurd (omega (arith, e))
+        no_member : (maps : List (List ℕ)) → length maps ≡ 0 → (nodes : List ℕ) → Mem nodes maps → ⊥
+        no_member [] e nodes m = not_Mem-nil nodes m
+        no_member (map ∷ maps) e nodes m = absurd (omega (arith, e))

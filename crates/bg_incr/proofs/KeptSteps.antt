@@ -1,5 +1,5 @@
 -- The first steps of a rule more, from the occurrences that are kept of its redex.
-use Rattle.std.proofs.Common.{◌≡◌, ℕ, ◌+◌, ◌<◌, ◌≤◌, ◌⊎◌, Bool, true, false, Option, None, Some, List, [], ◌∷◌, ◌++◌, map, take, length, inl, inr, refl, sym, ap, subst, ◌∙◌, nat_cmp, Less, Equal, arith, Ordering, All}
+use Rattle.std.proofs.Common.{◌≡◌, ℕ, ◌+◌, ◌<◌, ◌≤◌, ◌⊎◌, Bool, true, false, Option, None, Some, List, [], ◌∷◌, ◌++◌, map, take, length, inl, inr, refl, sym, ap, subst, ◌∙◌, nat_cmp, Less, Equal, arith, Ordering, All, rules}
 use Rattle.std.specs.Ordering.{is_lt, ordering_then}
 use Rattle.std.specs.Cmp.Lexicographic.{slice_cmp}
 use Rattle.std.proofs.lemmas.Bool.{cases_Bool, cases_lt, false≢true}
@@ -39,10 +39,10 @@ module _ {host : HostState} {rule : RuleParts} {nodes : List ℕ} where
         decomposes = o.decomposes;
         hold = no_condition bare;
       } where
-    no_condition : {P : Condition → Type 0} {conditions : List Condition} → conditions ≡ [] → All P conditions
-    no_condition {P} e = subst (All P) (sym e) none where
-      none : All P []
-      none = search rules
+        no_condition : {P : Condition → Type 0} {conditions : List Condition} → conditions ≡ [] → All P conditions
+        no_condition {P} e = subst (All P) (sym e) none where
+          none : All P []
+          none = search rules
 
   pub occurs_enabled : IsEnabled host rule nodes → Occurs host.big rule.redex nodes
   occurs_enabled e = record { context = e.context; edges = e.edges; parameter = e.parameter; decomposes = e.decomposes }
@@ -55,12 +55,7 @@ rule_less x y less = ap (λ o. ordering_then o (slice_cmp nat_cmp x.map y.map)) 
 map_less : (x y : Step) → x.rule ≡ y.rule → slice_cmp nat_cmp x.map y.map ≡ Less → step_cmp x y ≡ Less
 map_less x y same less =
     ap (λ n. ordering_then (nat_cmp n y.rule) (slice_cmp nat_cmp x.map y.map)) same
-    ∙ ap (λ o. ordering_then o (slice_cmp nat_cmp x.map y.map)) (tied y.rule) ∙ less where
-  tied : (n : ℕ) → nat_cmp n n ≡ Equal
-  tied n = Equal-tied n
-
-  Equal-tied : (n : ℕ) → nat_cmp n n ≡ Equal
-  Equal-tied n = search rules
+    ∙ ap (λ o. ordering_then o (slice_cmp nat_cmp x.map y.map)) (tied_itself nat_cmp_total y.rule) ∙ less
 
 -- a list of wanted steps, and what else is wanted comes later: where it is long enough, its beginning is the first so many
 first_prefix : (most : ℕ) (Wanted : Step → Type 0) (all : List Step) → Ascending (λ x y. step_cmp x y ≡ Less) all
@@ -172,11 +167,13 @@ module _ (most : ℕ) (host : HostState) (rules_of : List RuleParts) (class numb
                 (to_step step same (kept.all step.map (occurs_here step same w.enabled) within)))
             | inr past ↦ elim enough [
               | inl none ↦ (let bad : None ≡ Some past.0 = sym none ∙ past.1 in cc)
-              | inr many ↦ inr ((omega (arith, many, long)),
-                  λ x m. elim (Mem-append_cases steps (steps_at number maps) m) [
-                    | inl k ↦ earlier x step k same
-                    | inr k ↦ after_all step same past.0 past.1 past.2 x k
-                  ])
+              | inr many ↦ inr (
+                (omega (arith, many, long)),
+                λ x m. elim (Mem-append_cases steps (steps_at number maps) m) [
+                  | inl k ↦ earlier x step k same
+                  | inr k ↦ after_all step same past.0 past.1 past.2 x k
+                ],
+              )
             ]
           ]
         ])

@@ -42,7 +42,7 @@ pub record StandsFor (finder : FinderState) (system : SystemParts) : Type 0 wher
 pub record WereKeptFor (after : Big) (causes : Causes) (rules : List RuleParts) (lists : List KeptList) : Type 0 where
   pub before : Big
   pub ground : IsGround before
-  pub causes : AreCauses before after causes
+  pub caused : AreCauses before after causes
   pub kept : AreKeptFor before rules lists
 
 -- so they were before these changes

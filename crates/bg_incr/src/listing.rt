@@ -74,12 +74,7 @@ fn first_class(_host: &IndexedHost, rules: &[Rule], lists: &[KeptList]) -> Optio
 }
 
 /// The class of the rule, where it comes before the first so far and the rule's redex occurs; else the first so far.
-fn higher_of(
-    _host: &IndexedHost,
-    rule: &Rule,
-    list: &KeptList,
-    first: Option<u32>,
-) -> Option<u32>
+fn higher_of(_host: &IndexedHost, rule: &Rule, list: &KeptList, first: Option<u32>) -> Option<u32>
     requires keepable { IsKeepable rule.now }
     requires kept { IsKept _host.now.big rule.now.redex list.now }
     requires settled { IsSettled list.now }
