@@ -43,6 +43,21 @@ module _ {rules : List RuleParts} {host : HostState} {entry : Entry} where
       → HasFollowed rules version host (entry ∷ []) (version + 1) after
   has_taken version on leads = record { version_is = refl; run = stepped (is_legal on) leads (ended refl) }
 
+-- none of some entries is followed yet
+pub followed_none : (rules : List RuleParts) (version : ℕ) (host : HostState) (entries : List Entry) → HasFollowedSome rules version host entries version host
+followed_none rules version host entries =
+    record { count = 0; some = omega arith; followed = record { version_is = omega arith; run = ended refl } }
+
+-- all of them are
+pub followed_all : (rules : List RuleParts) (version : ℕ) (host : HostState) (entries : List Entry) {later : ℕ} {after : HostState}
+    → HasFollowed rules version host entries later after → HasFollowedSome rules version host entries later after
+followed_all rules version host entries {later} {after} followed =
+    record {
+      count = length entries;
+      some = omega arith;
+      followed = subst (λ (es : List Entry). HasFollowed rules version host es later after) (sym (take_all (length entries) entries (omega arith))) followed;
+    }
+
 -- ---- all of them
 
 -- the first so many of the entries are followed, and the others go on from the host
