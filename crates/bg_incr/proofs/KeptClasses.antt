@@ -1,5 +1,5 @@
 -- Rules without conditions are enabled where their redexes occur, as the lists that are kept tell.
-use Rattle.std.proofs.Common.{◌≡◌, ℕ, ◌<◌, ◌⊎◌, true, None, List, [], ◌∷◌, length, inl, inr, refl, sym, ap, subst, ◌∙◌, arith}
+use Rattle.std.proofs.Common.{◌≡◌, ℕ, List, [], ◌∷◌, length, inl, inr, refl, ap, arith}
 use Rattle.bg_lists.specs.Lists.{Mem, here}
 use Rattle.bg_lists.proofs.Members.{not_Mem-nil}
 use Rattle.bg_cond.specs.Conditions.{IsEnabledSomewhere}

@@ -1,9 +1,9 @@
 -- The first steps of a rule more, from the occurrences that are kept of its redex.
-use Rattle.std.proofs.Common.{◌≡◌, ℕ, ◌+◌, ◌<◌, ◌≤◌, ◌⊎◌, Bool, true, false, Option, None, Some, List, [], ◌∷◌, ◌++◌, map, take, length, inl, inr, refl, sym, ap, subst, ◌∙◌, nat_cmp, Less, Equal, arith, Ordering, All, rules}
-use Rattle.std.specs.Ordering.{is_lt, ordering_then}
+use Rattle.std.proofs.Common.{◌≡◌, ℕ, ◌+◌, ◌<◌, ◌≤◌, ◌⊎◌, true, false, Option, None, Some, List, [], ◌++◌, take, length, inl, inr, refl, sym, ap, subst, ◌∙◌, nat_cmp, Less, arith, All}
+use Rattle.std.specs.Ordering.{ordering_then}
 use Rattle.std.specs.Cmp.Lexicographic.{slice_cmp}
-use Rattle.std.proofs.lemmas.Bool.{cases_Bool, cases_lt, false≢true}
-use Rattle.std.proofs.lemmas.Cmp.{tied_itself, nat_cmp_total, nat_list_cmp_total}
+use Rattle.std.proofs.lemmas.Bool.{cases_Bool, cases_lt}
+use Rattle.std.proofs.lemmas.Cmp.{tied_itself, nat_cmp_total}
 use Rattle.std.proofs.lemmas.List.{length-map, length-append, length-take-le, take_at}
 use Rattle.bg_lists.specs.Lists.{Mem, At}
 use Rattle.bg_lists.specs.Orders.{Ascending}
@@ -11,9 +11,9 @@ use Rattle.bg_lists.proofs.Ascents.{Ascending-append, Ascending-map}
 use Rattle.bg_lists.proofs.Comparisons.{nat_cmp-lt, Less-from_is_lt}
 use Rattle.bg_lists.proofs.Members.{Mem-same, Mem-append_left, Mem-append_right, Mem-append_cases, Mem-map, Mem-unmap}
 use Rattle.bg_lists.proofs.Places.{At-one}
-use Rattle.bg_base.specs.declared.big.Big.{Big}
+use Rattle.bg_lists.proofs.Words.{All-from_members}
 use Rattle.bg_base.specs.declared.history.Step.{Step}
-use Rattle.bg_cond.specs.Conditions.{IsEnabled}
+use Rattle.bg_cond.specs.Conditions.{Holds, IsEnabled}
 use Rattle.bg_cond.specs.Found.{IsEnabledBelow}
 use Rattle.bg_cond.specs.Steps.{IsEnabledStep, step_cmp, AreFirst}
 use Rattle.bg_cond.proofs.FirstSteps.{first_full}
@@ -29,6 +29,9 @@ use Rattle.bg_rules.specs.Rules.{RuleParts}
 
 -- ---- a rule without conditions
 
+no_condition : (P : Condition → Type 0) (conditions : List Condition) → conditions ≡ [] → All P conditions
+no_condition P conditions e = All-from_members P conditions (λ condition m. let bad = subst (λ cs. Mem condition cs) e m in elim bad [ ])
+
 module _ {host : HostState} {rule : RuleParts} {nodes : List ℕ} where
   pub enabled_bare : rule.conditions ≡ [] → Occurs host.big rule.redex nodes → IsEnabled host rule nodes
   enabled_bare bare o =
@@ -37,12 +40,8 @@ module _ {host : HostState} {rule : RuleParts} {nodes : List ℕ} where
         edges = o.edges;
         parameter = o.parameter;
         decomposes = o.decomposes;
-        hold = no_condition bare;
-      } where
-        no_condition : {P : Condition → Type 0} {conditions : List Condition} → conditions ≡ [] → All P conditions
-        no_condition {P} e = subst (All P) (sym e) none where
-          none : All P []
-          none = search rules
+        hold = no_condition (Holds host o.context o.parameter) rule.conditions bare;
+      }
 
   pub occurs_enabled : IsEnabled host rule nodes → Occurs host.big rule.redex nodes
   occurs_enabled e = record { context = e.context; edges = e.edges; parameter = e.parameter; decomposes = e.decomposes }

@@ -3,3 +3,4 @@ pub mod KeptClasses
 pub mod KeptFor
 pub mod KeptSteps
 pub mod PortLaws
+pub mod Pushed

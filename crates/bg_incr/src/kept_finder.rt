@@ -107,7 +107,7 @@ impl Follower for KeptFinder {
     /// Costs for each entry what its reaction touches; and for each rule whose occurrences are kept, what
     /// [`KeptList::follow`] costs.
     fn follow(&mut self, alloc: Global, system: &System, entries: &[Entry]) -> Mem<()> {
-        let _signature = system.signature();
+        let _system = system.signature();
         self.replica.host().keeps();
         for entry in entries {
             self.follow_entry(alloc, system, entry)?;

@@ -1,10 +1,10 @@
 //! The first legal steps of a system without conditions, from the occurrences that are kept.
-ghost use Rattle.std.specs.Prelude.{◌≡◌, ◌+◌, ◌<◌, ◌≤◌, ◌^◌, ◌++◌, ◌⊎◌, ⊤, true, length, take, None, [], IfOk, OnOk, IsTrue, MatchOption};
+ghost use Rattle.std.specs.Prelude.{◌≡◌, ◌+◌, ◌<◌, ◌≤◌, ◌^◌, ◌++◌, ⊤, true, length, take, None, IfOk, OnOk, IsTrue, MatchOption};
+ghost use Rattle.bg_cond.specs.Found as found;
 ghost use Rattle.bg_cond.specs.Found.{IsEnabledBelow, IsHigherOf};
 ghost use Rattle.bg_cond.specs.Steps.{AreFirst, AreFirstLegal, IsFirstClass, IsQuiet};
 ghost use Rattle.bg_incr.specs.Finders.{AreKeptFor, AreSettled, IsKeepable, IsSettled, steps_at};
 ghost use Rattle.bg_kept.specs.Lists.{IsKept};
-ghost use Rattle.bg_lists.specs.Lists.{At};
 
 use bg_base::{Map, Step};
 use bg_cond::steps_in;
@@ -80,13 +80,34 @@ fn higher_of(_host: &IndexedHost, rule: &Rule, list: &KeptList, first: Option<u3
     requires settled { IsSettled list.now }
     ensures { IsHigherOf _host.now rule.now first result }
 {
+    if is_higher(rule.class(), first) {
+        return raised(_host, rule, list, first);
+    }
+    first
+}
+
+/// Whether the class comes before the first so far.
+fn is_higher(class: u32, first: Option<u32>) -> bool
+    ensures { result ≡ found.is_higher class first }
+{
+    match first {
+        Some(other) => class < other,
+        None => true,
+    }
+}
+
+/// The class of the rule, where its redex occurs; else the first so far.
+fn raised(_host: &IndexedHost, rule: &Rule, list: &KeptList, first: Option<u32>) -> Option<u32>
+    requires keepable { IsKeepable rule.now }
+    requires kept { IsKept _host.now.big rule.now.redex list.now }
+    requires settled { IsSettled list.now }
+    requires higher { found.is_higher rule.now.class first ≡ true }
+    ensures { IsHigherOf _host.now rule.now first result }
+{
     if list.maps().is_empty() {
         return first;
     }
-    match first {
-        Some(class) if class <= rule.class() => first,
-        _ => Some(rule.class()),
-    }
+    Some(rule.class())
 }
 
 /// The first steps of the first class; none where the lists do not reach far enough.
