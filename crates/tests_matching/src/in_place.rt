@@ -21,6 +21,9 @@ use bg_lists::Mem;
 use bg_match::{embeds, list};
 use bg_react::react;
 use bg_rules::{Host, ListFault, ReactFault, Rule, System};
+use rand_core::SeedableRng;
+use rand_core::utils::NextWord;
+use rand_pcg::Pcg32;
 use std::alloc::Global;
 
 fn occurs(alloc: Global, indexed: &IndexedHost, rule: &Rule, map: &[u32]) -> Mem<bool>
@@ -225,34 +228,35 @@ fn are_found(
     }
 }
 
-/// The reaction of both at one of the occurrences, which walks find: whether it is right; nothing where there is none.
+/// The reaction of both at the occurrence that is drawn by a word, among those that walks find: whether it is right;
+/// nothing where there is none.
 fn react_at_turn(
     alloc: Global,
     indexed: &mut IndexedHost,
     plain: &mut Host,
     rule: &Rule,
-    turn: usize,
+    word: usize,
 ) -> Result<Option<bool>, ReactFault> {
     let maps = occurrences(alloc, plain, rule)?;
     if maps.is_empty() {
         return Ok(None);
     }
     let found = are_found(alloc, indexed, plain, rule, &maps)?;
-    let map = &maps[turn % maps.len()];
+    let map = &maps[word % maps.len()];
     let holds = react_both(alloc, indexed, plain, rule, map.as_slice())?;
     Ok(Some(found && holds))
 }
 
-/// The number of the rule whose turn it is; the first where the host is large.
-fn number_at(host: &Host, rules: usize, turn: usize) -> usize {
+/// The number of the rule that is drawn by a word; the first where the host is large.
+fn number_at(host: &Host, rules: usize, word: usize) -> usize {
     if rules == 0 || host.big().nodes.len() > 40 {
         0
     } else {
-        turn % rules
+        word % rules
     }
 }
 
-/// How many of so many turns are reactions; 0 where one is not right.
+/// How many of so many turns, whose rules and places are drawn at random, are reactions; 0 where one is not right.
 fn turns(
     alloc: Global,
     rules: &[Rule],
@@ -260,11 +264,13 @@ fn turns(
     plain: &mut Host,
     most: usize,
 ) -> Result<usize, ReactFault> {
+    let mut generator = Pcg32::seed_from_u64(1);
     let mut count = 0_usize;
-    for turn in 0..most {
-        let number = number_at(plain, rules.len(), turn);
+    for _ in 0..most {
+        let number = number_at(plain, rules.len(), generator.next_word() as usize);
+        let place = generator.next_word() as usize;
         if number < rules.len() {
-            match react_at_turn(alloc, indexed, plain, &rules[number], turn)? {
+            match react_at_turn(alloc, indexed, plain, &rules[number], place)? {
                 Some(true) => count = count.saturating_add(1),
                 Some(false) => return Ok(0),
                 None => {}
@@ -295,10 +301,16 @@ fn turns_in(alloc: Global, model: Model, most: usize) -> Result<usize, ReactFaul
 }
 
 #[test]
-fn reactions_in_a_row(rt: HostRuntime) -> Result<(), ReactFault> {
-    let rooms = turns_in(rt.alloc(), Model::Rooms, 120)?;
-    let cells = turns_in(rt.alloc(), Model::Cells, 120)?;
-    assert!(rt; rooms > 60 && cells > 60, "{rooms} {cells}");
+fn agents_in_rooms_react_alike(rt: HostRuntime) -> Result<(), ReactFault> {
+    let count = turns_in(rt.alloc(), Model::Rooms, 2_000)?;
+    assert!(rt; count > 1_500, "{count}");
+    Ok(())
+}
+
+#[test]
+fn cells_react_alike(rt: HostRuntime) -> Result<(), ReactFault> {
+    let count = turns_in(rt.alloc(), Model::Cells, 2_000)?;
+    assert!(rt; count > 500, "{count}");
     Ok(())
 }
 
