@@ -15,15 +15,15 @@ some_of [] some = absurd (some refl)
 some_of (map ∷ maps) some = (map, here refl)
 
 module _ (host : HostState) (rule : RuleParts) (list : KeptList) (keepable : IsKeepable rule) (kept : IsKept host.big rule.redex list) where
-  pub enabled_some : (length list.maps.items ≡ 0 → ⊥) → IsEnabledSomewhere host rule
+  pub enabled_some : (length list.first.maps.items ≡ 0 → ⊥) → IsEnabledSomewhere host rule
   enabled_some some =
-      let w = some_of list.maps.items some in record { nodes = w.0; enabled = enabled_bare keepable.bare (kept.maps.occur w.0 w.1) }
+      let w = some_of list.first.maps.items some in record { nodes = w.0; enabled = enabled_bare keepable.bare (kept.first.maps.occur w.0 w.1) }
 
-  pub enabled_none : IsSettled list → length list.maps.items ≡ 0 → IsEnabledSomewhere host rule → ⊥
+  pub enabled_none : IsSettled list → length list.first.maps.items ≡ 0 → IsEnabledSomewhere host rule → ⊥
   enabled_none settled none somewhere =
       elim settled.tells [
-        | inl whole ↦ no_member list.maps.items none somewhere.nodes
-            (kept.maps.all somewhere.nodes (occurs_enabled somewhere.enabled) (ap (λ b. is_below b somewhere.nodes) whole))
+        | inl whole ↦ no_member list.first.maps.items none somewhere.nodes
+            (kept.first.maps.all somewhere.nodes (occurs_enabled somewhere.enabled) (ap (λ b. is_below b somewhere.nodes) whole))
         | inr some ↦ omega (arith, some, none)
       ] where
         no_member : (maps : List (List ℕ)) → length maps ≡ 0 → (nodes : List ℕ) → Mem nodes maps → ⊥

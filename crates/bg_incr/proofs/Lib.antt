@@ -1,6 +1,7 @@
 pub mod Following
 pub mod KeptClasses
-pub mod KeptFor
 pub mod KeptSteps
+pub mod ListLaws
+pub mod MatchLaws
 pub mod PortLaws
 pub mod Pushed

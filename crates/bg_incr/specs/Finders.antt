@@ -1,14 +1,13 @@
 -- Who lists the legal steps at a host that is kept, from lists of occurrences that are kept.
 use Rattle.std.specs.Prelude.{◌≡◌, ℕ, ⊤, ◌⊎◌, ◌<◌, Option, None, List, [], length, map, MatchOption, All}
-use Rattle.bg_lists.specs.Lists.{At}
 use Rattle.bg_base.specs.declared.big.Big.{Big}
 use Rattle.bg_base.specs.Bigraph.{IsGround}
 use Rattle.bg_base.specs.declared.history.Step.{Step}
 use Rattle.bg_index.specs.Causes.{AreCauses}
 use Rattle.bg_index.specs.declared.causes.Causes.{Causes}
 use Rattle.bg_kept.specs.declared.kept_list.KeptList.{KeptList}
-use Rattle.bg_kept.specs.Lists.{IsKept}
-use Rattle.bg_locality.specs.Changes.{Changes, AreChanges, HasLowEdges}
+use Rattle.bg_incr.specs.Lists.{AreListsOf}
+use Rattle.bg_locality.specs.Changes.{HasLowEdges}
 use Rattle.bg_rules.specs.Reaction.{HostState}
 use Rattle.bg_rules.specs.Rules.{RuleParts}
 use Rattle.bg_rules.specs.Systems.{SystemParts}
@@ -28,11 +27,14 @@ pub record IsKeepable (rule : RuleParts) : Type 0 where
   pub bare : rule.conditions ≡ []
   pub low : HasLowEdges rule.redex most_points
 
--- for each rule the list of its redex
+-- the lists of which not all occurrences are kept have at least so many, for a pick among the first of them
+abbrev pub fewest_kept : ℕ
+fewest_kept = 4096
+
+-- no rule has a condition, and for each there is the list of its redex
 pub record AreKeptFor (host : Big) (rules : List RuleParts) (lists : List KeptList) : Type 0 where
-  pub as_many : length lists ≡ length rules
   pub keepable : All IsKeepable rules
-  pub each : (place : ℕ) (rule : RuleParts) (list : KeptList) → At rule place rules → At list place lists → IsKept host rule.redex list
+  pub kept : AreListsOf host rules fewest_kept lists
 
 -- the lists, where they are kept, are those of the host for the rules of the system
 pub record StandsFor (finder : FinderState) (system : SystemParts) : Type 0 where
@@ -45,16 +47,9 @@ pub record WereKeptFor (after : Big) (causes : Causes) (rules : List RuleParts) 
   pub caused : AreCauses before after causes
   pub kept : AreKeptFor before rules lists
 
--- so they were before these changes
-pub record WereKeptAll (after : Big) (changes : Changes) (rules : List RuleParts) (lists : List KeptList) : Type 0 where
-  pub before : Big
-  pub ground : IsGround before
-  pub changed : AreChanges before after changes
-  pub kept : AreKeptFor before rules lists
-
 -- the list tells whether there is an occurrence: it has one, or is the list of all
 pub record IsSettled (list : KeptList) : Type 0 where
-  pub tells : (list.bound ≡ None) ⊎ (0 < length list.maps.items)
+  pub tells : (list.first.bound ≡ None) ⊎ (0 < length list.first.maps.items)
 
 abbrev pub AreSettled : List KeptList → Type 0
 AreSettled lists = All IsSettled lists

@@ -4,7 +4,7 @@ ghost use Rattle.bg_cond.specs.Followers.{GoOn, HasFollowed, HasFollowedSome};
 ghost use Rattle.bg_cond.specs.Steps.{AreFirstLegal};
 ghost use Rattle.bg_incr.specs.Finders.{StandsFor};
 
-use crate::keeping::{are_keepable, followed, lists_of};
+use crate::keeping::{are_keepable, picks_followed, picks_of};
 use crate::listing::steps_from;
 use crate::replica::Replica;
 use bg_base::{Entry, Step};
@@ -60,7 +60,7 @@ impl KeptFinder {
         let lists = self.lists.take();
         let causes = self.replica.take(alloc, system, entry)?;
         if let Some(lists) = lists {
-            let lists = followed(alloc, self.replica.host(), system.rules(), causes, lists)?;
+            let lists = picks_followed(alloc, self.replica.host(), system.rules(), causes, lists)?;
             self.lists = Some(lists);
         }
         Ok(())
@@ -85,7 +85,7 @@ impl KeptFinder {
         ensures same { (self.new.version ≡ self.old.version) × (self.new.host ≡ self.old.host) }
     {
         if self.lists.is_none() && are_keepable(system.rules()) {
-            let lists = lists_of(alloc, self.replica.host(), system.rules())?;
+            let lists = picks_of(alloc, self.replica.host(), system.rules())?;
             self.lists = Some(lists);
         }
         Ok(())
@@ -105,7 +105,7 @@ impl Follower for KeptFinder {
     }
 
     /// Costs for each entry what its reaction touches; and for each rule whose occurrences are kept, what
-    /// [`KeptList::follow`] costs.
+    /// [`KeptList::renewal`] and [`KeptList::renew`] cost.
     fn follow(&mut self, alloc: Global, system: &System, entries: &[Entry]) -> Mem<()> {
         let _system = system.signature();
         self.replica.host().keeps();

@@ -1,13 +1,16 @@
 //! A host that follows what others commit to a shared one, so that its legal steps are found without an index made anew.
 //!
 //! - [`Replica`]: a host of its own at a version, brought to what the entries of a history lead to.
+//! - [`KeptMatches`]: all occurrences of the redexes of a system's rules, kept from one reaction to the next.
 //! - [`KeptFinder`]: who lists the legal steps at a replica, as a follower and as a finder.
 #![tactic(auto)]
 
 mod keeping;
 mod kept_finder;
+mod kept_matches;
 mod listing;
 mod replica;
 
 pub use kept_finder::KeptFinder;
+pub use kept_matches::KeptMatches;
 pub use replica::Replica;

@@ -1,14 +1,23 @@
 //! The texts of journals, of ends of runs and of hosts.
 //!
 //! - [`write_journal`]: appends the text of a journal; [`write_step`]: that of a rule and a map.
+//! - [`read_journal`]: the journal whose text the bytes begin with, or the first line that is not of the form
+//!   ([`JournalFault`]).
 //! - [`write_end`]: appends the line of the end of a run.
 //! - [`write_host`]: appends the text of a host.
+//! - [`laws`]: what acceptance and refusal of a journal mean of the whole text.
 #![tactic(auto)]
 
 mod ending;
+mod entry;
+mod fault;
 mod host;
+pub mod laws;
+mod reading;
 mod writing;
 
 pub use ending::write_end;
+pub use fault::JournalFault;
 pub use host::write_host;
+pub use reading::read_journal;
 pub use writing::{write_journal, write_step};

@@ -4,5 +4,6 @@ pub mod Bringing
 pub mod ChangeLaws
 pub mod Clearing
 pub mod Nearby
+pub mod TouchLaws
 pub mod TwinLaws
 pub mod TwinPatterns

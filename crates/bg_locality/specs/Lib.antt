@@ -1,4 +1,5 @@
 pub mod Changes
 pub mod Locality
+pub mod Touches
 pub mod Twins
 pub mod Updates

@@ -7,10 +7,14 @@ ghost use Rattle.bg_base.specs.declared.big.Big.{Big};
 ghost use Rattle.bg_base.specs.Bigraph.{IsValid, IsGround};
 ghost use Rattle.bg_rules.specs.Decomposition.{AreNew, Occurs};
 ghost use Rattle.bg_rules.specs.LocalConditions.{MeetsLocally};
+ghost use Rattle.bg_rules.specs.Reaction.{HostState, IsNumbered, Reacts};
+ghost use Rattle.bg_rules.specs.Rules.{RuleParts, IsRule};
 ghost use Rattle.bg_rules.specs.Solid.{IsPattern};
+ghost use Rattle.bg_rewriting.specs.Touching.{IsTouched};
 ghost use Rattle.bg_match.specs.Selections.{AreOccurrencesThat, begins_with};
 ghost use Rattle.bg_locality.specs.Changes.{Changes, AreChanges, HasLowEdges, are_anew, Settles};
 ghost use Rattle.bg_locality.specs.Locality.{MeetsNearby, IsClear, AreSeenAlike, AreSteady};
+ghost use Rattle.bg_locality.specs.Touches.{AreToldBy};
 ghost use Rattle.bg_locality.specs.Twins.{twin_of, put_back, AreRearranged, ComesFirst};
 ghost use Rattle.bg_locality.specs.Updates.{AreAnchors, AreAllWith, AreGathered, AreAllThat, IsBroughtUp};
 
@@ -35,6 +39,14 @@ pub fn changes_settle()
     ensures { (before after pattern : Big) (changes : Changes) → IsGround before → IsGround after → IsPattern pattern
         → AreChanges before after changes → HasLowEdges pattern changes.high
         → Settles (are_anew after pattern changes) before after pattern }
+{}
+
+/// What a reaction touches, together with where the nodes lay before, tells all changes.
+pub fn touched_nodes_tell()
+    ensures { (before after : HostState) (rule : RuleParts) (nodes gone changed : List ℕ) (changes : Changes) → IsNumbered before
+        → IsRule rule → Occurs before.big rule.redex nodes → Reacts before rule nodes after
+        → IsTouched before.big after.big gone changed → changes.next_node ≡ before.next_node
+        → AreToldBy before.big after.big gone changed changes → AreChanges before.big after.big changes }
 {}
 
 /// What is gathered from all that is seen anew is all that may have come; and the list from which stale maps are left out,

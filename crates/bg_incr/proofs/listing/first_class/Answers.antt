@@ -6,7 +6,7 @@ use Rattle.bg_incr.proofs.listing.first_class.Goals as goal
 pub higher_of-first-requires-clause-kept : goal.higher_of-first-requires-clause-kept
 higher_of-first-requires-clause-kept c =
     let inside : c.loop-number.number < length c.args.lists.now = search rules in
-    c.requires.kept.each c.loop-number.number c.index-rules-number.result c.index-lists-number.result
+    c.requires.kept.kept.each c.loop-number.number c.index-rules-number.result c.index-lists-number.result
     (item_at c.args.rules.now c.loop-number.number c.index-rules-number.result c.loop-number-test.true c.index-rules-number.is)
     (item_at c.args.lists.now c.loop-number.number c.index-lists-number.result inside c.index-lists-number.is)
 

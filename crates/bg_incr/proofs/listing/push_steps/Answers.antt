@@ -23,14 +23,14 @@ returns c =
     let inside : c.args.number < length c.args.lists.now = search rules in
     let of_class : rule.class ≡ c.args.class = search rules in
     let at = item_at c.args.rules.now c.args.number rule c.requires.there c.index-rules-number.is in
-    let is_kept = c.requires.kept.each c.args.number rule list at (item_at c.args.lists.now c.args.number list inside c.index-lists-number.is) in
-    let enough : (list.bound ≡ None) ⊎ (c.args.most ≤ length c.args.steps.now.items + length list.maps.items) =
+    let is_kept = c.requires.kept.kept.each c.args.number rule list at (item_at c.args.lists.now c.args.number list inside c.index-lists-number.is) in
+    let enough : (list.first.bound ≡ None) ⊎ (c.args.most ≤ length c.args.steps.now.items + length list.first.maps.items) =
     elim c.else-not-is_whole.branch [
       | else-not-is_whole-via-then-not-is_whole+else-saturating_add-most w ↦ inr (search (rules, w))
       | else-not-is_whole-via-else-not-is_whole w ↦ inl (search (rules, w))
     ] in
-    let pushed : c.push_kept.new.steps.items ≡ take c.args.most (c.args.steps.now.items ++ steps_at c.args.number list.maps.items) = search rules in
+    let pushed : c.push_kept.new.steps.items ≡ take c.args.most (c.args.steps.now.items ++ steps_at c.args.number list.first.maps.items) = search rules in
     λ yes. subst (AreFirst c.args.most (IsEnabledBelow c.args._host.now c.args.rules.now c.args.class (c.args.number + 1))) (sym pushed)
     (first_joined c.args.most c.args._host.now c.args.rules.now c.args.class c.args.number rule at of_class
-    (All-member IsKeepable c.args.rules.now c.requires.kept.keepable (Mem-from_At at)).bare list.bound list.maps.items is_kept.maps
+    (All-member IsKeepable c.args.rules.now c.requires.kept.keepable (Mem-from_At at)).bare list.first.bound list.first.maps.items is_kept.first.maps
     c.args.steps.now.items c.requires.before enough)

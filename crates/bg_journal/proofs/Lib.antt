@@ -1,0 +1,3 @@
+pub mod EntryLines
+pub mod Journals
+pub mod BadLines
