@@ -13,7 +13,7 @@ pub enum Status {
     WrongWords,
     /// 6: there are more occurrences than are asked for, and the text says of which rule.
     TooMany,
-    /// 7: what the input gives is no run of the system, and the text says why. No command answers it yet.
+    /// 7: the journal that the input begins with is none, or no run of the system, and the text says why.
     NoRun,
     /// 8: the input has more bytes than are read.
     TooLong,

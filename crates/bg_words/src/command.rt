@@ -15,6 +15,8 @@ pub enum Command {
     Match,
     /// `run`: a run of the system that a model is.
     Run,
+    /// `replay`: whether a journal is a run of the system that a model is, and to which host it comes.
+    Replay,
     /// `trial`: where the rules of a model that is made occur, and a run of it. It reads nothing.
     Trial,
 }
@@ -29,8 +31,12 @@ impl Command {
     {
         match self {
             Command::Trial => false,
-            Command::Compose | Command::Check | Command::Show | Command::Match | Command::Run =>
-                true,
+            Command::Compose
+            | Command::Check
+            | Command::Show
+            | Command::Match
+            | Command::Run
+            | Command::Replay => true,
         }
     }
 }
@@ -45,6 +51,7 @@ pub(crate) fn command_of(name: &str) -> Option<Command>
         "show" => Some(Command::Show),
         "match" => Some(Command::Match),
         "run" => Some(Command::Run),
+        "replay" => Some(Command::Replay),
         "trial" => Some(Command::Trial),
         _ => None,
     }
