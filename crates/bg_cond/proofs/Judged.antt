@@ -1,8 +1,7 @@
 -- The verdict on a step.
-use Rattle.std.proofs.Common.{◌≡◌, ℕ, ◌<◌, List, [], ◌∷◌, All, refl, sym, subst, arith, inl, inr}
-use Rattle.std.proofs.lemmas.Bool.{cases_lt}
+use Rattle.std.proofs.Common.{◌≡◌, ℕ, ◌<◌, ◌≤◌, List, [], ◌∷◌, length, All, refl, sym, ap, subst, ◌∙◌, arith, inl, inr}
 use Rattle.bg_lists.specs.Lists.{Mem, here, At}
-use Rattle.bg_lists.proofs.Places.{Mem-from_At}
+use Rattle.bg_lists.proofs.Places.{Mem-from_At, At-one, At-below}
 use Rattle.bg_lists.proofs.Words.{All-member}
 use Rattle.bg_base.specs.declared.big.Big.{Big}
 use Rattle.bg_base.specs.declared.history.Step.{Step}
@@ -12,9 +11,9 @@ use Rattle.bg_rules.specs.Hosts.{IsHost}
 use Rattle.bg_rules.specs.Reaction.{HostState}
 use Rattle.bg_rules.specs.Rules.{RuleParts}
 use Rattle.bg_cond.specs.Sides.{HoldsInHost, IsSought, LooksForNodes}
-use Rattle.bg_cond.specs.Steps.{IsEnabledStep, IsHighest, IsFirstClass, IsQuiet, IsLegal, AreFirstLegal}
-use Rattle.bg_cond.specs.declared.verdict.Verdict.{Verdict}
-use Rattle.bg_cond.specs.Verdicts.{IsNoOccurrence, IsFirstFailing, IsHigher, IsFirstUnmet, IsJudged, verdict_of}
+use Rattle.bg_cond.specs.Steps.{IsEnabledStep, IsHighest, IsLegal, AreFirstLegal}
+use Rattle.bg_cond.specs.Verdicts.{IsNoOccurrence, IsFirstFailing, IsHigher, IsFirstUnmet, IsEnabledThere, HasClass}
+use Rattle.bg_cond.proofs.DrawnRuns.{none_quiet}
 use Rattle.bg_cond.proofs.HostConditions.{holds_in_host, holds_in_pieces, enabled_from_host}
 
 module _ (host : HostState) (rules : List RuleParts) (step : Step) where
@@ -53,40 +52,52 @@ module _ (host : HostState) (rules : List RuleParts) (step : Step) where
       (subst (λ ns. All (HoldsInHost big ns) rule.conditions) f (subst (λ cs. All (HoldsInHost big images) cs) g held)) in
       record { rule = rule; there = at; of_class = sym same; enabled = enabled_from_host host rule step.map is_host looks o hold }
 
-  module _ (class : ℕ) (enabled : IsEnabledStep host rules class step) where
-    pub judged_quiet : IsQuiet host rules → ⊥
-    judged_quiet quiet = quiet.none enabled.rule step.map (Mem-from_At enabled.there) enabled.enabled
+  -- no class comes before the first
+  pub judged_top : (class : ℕ) → class ≡ 0 → IsEnabledStep host rules class step → IsLegal host rules step
+  judged_top class none enabled =
+      record { class = class; enabled = enabled; highest = record { none_higher = λ rule nodes m e. omega (arith, none) } }
 
-    -- no class comes before that of an enabled step
-    pub judged_legal : (first : ℕ) → IsFirstClass host rules first → (first < class → ⊥) → IsLegal host rules step
-    judged_legal first is never =
-        let up = is.highest.none_higher enabled.rule step.map (Mem-from_At enabled.there) enabled.enabled in
-        let own = enabled.of_class in
-        let same : first ≡ class = elim (cases_lt first class) [ inl less ↦ absurd (never less) | inr more ↦ omega (arith, up, own, more) ] in
-        record { class = class; enabled = enabled; highest = subst (λ c. IsHighest host rules c) same is.highest }
+  -- ---- beside the first legal step
 
-    pub judged_higher : (first : ℕ) (other : Step) → first < class → IsFirstClass host rules first → AreFirstLegal 1 host rules (other ∷ [])
-        → IsHigher host rules step other
-    judged_higher first other less is are =
-        let w = are.wanted other (here refl) in
-        let up = w.highest.none_higher is.enabled.rule is.step.map (Mem-from_At is.enabled.there) is.enabled.enabled in
-        let own = is.enabled.of_class in
-        record { class = class; enabled = enabled; higher = w.class; of_higher = w.enabled; before = omega (arith, up, own, less); first = are }
+  module _ (enabled : IsEnabledThere host rules step) where
+    -- where a step is enabled, some step is legal
+    pub judged_some : AreFirstLegal 1 host rules [] → ⊥
+    judged_some are =
+        let quiet = none_quiet host rules (record {
+          none = λ other legal. elim (are.others_later other legal) [
+            | inl m ↦ elim m [ ]
+            | inr full ↦ (let none = full.0 in omega (arith, none))
+          ];
+        }) in
+        quiet.none enabled.1.rule step.map (Mem-from_At enabled.1.there) enabled.1.enabled
 
-    -- there is a first legal step
-    pub judged_some : (first : ℕ) → IsFirstClass host rules first → AreFirstLegal 1 host rules [] → ⊥
-    judged_some first is are =
-        elim (are.others_later is.step (record { class = first; enabled = is.enabled; highest = is.highest })) [
-          | inl m ↦ elim m [ ]
-          | inr full ↦ (let none = full.0 in omega (arith, none))
-        ]
+    module _ (other : Step) (first : AreFirstLegal 1 host rules (other ∷ [])) where
+      legal : IsLegal host rules other
+      legal = first.wanted other (here refl)
 
-    pub judged_first : (first : ℕ) (steps : List Step) (verdict : Verdict) → first < class → IsFirstClass host rules first → AreFirstLegal 1 host rules steps
-        → verdict ≡ verdict_of steps → IsJudged host rules step verdict
-    judged_first first [] verdict less is are e = absurd (judged_some first is are)
-    judged_first first (other ∷ []) verdict less is are e =
-        subst (λ v. IsJudged host rules step v) (sym e) (judged_higher first other less is are)
-    judged_first first (other ∷ next ∷ steps) verdict less is are e = let few = are.few in absurd (omega (arith, few))
+      pub other_there : other.rule < length rules
+      other_there = At-below legal.enabled.there
+
+      own_class : (class : ℕ) → HasClass rules step.rule class → class ≡ enabled.0
+      own_class class has = has.2.1 ∙ ap (λ (r : RuleParts). r.class) (At-one has.2.0 enabled.1.there) ∙ enabled.1.of_class
+
+      first_class : (class : ℕ) → HasClass rules other.rule class → class ≡ legal.class
+      first_class class has = has.2.1 ∙ ap (λ (r : RuleParts). r.class) (At-one has.2.0 legal.enabled.there) ∙ legal.enabled.of_class
+
+      pub judged_higher : (class higher : ℕ) → HasClass rules step.rule class → HasClass rules other.rule higher → higher < class → IsHigher host rules step other
+      judged_higher class higher own its less =
+          let one = own_class class own in
+          let two = first_class higher its in
+          record { class = enabled.0; enabled = enabled.1; higher = legal.class; of_higher = legal.enabled; before = omega (arith, one, two, less); first = first }
+
+      pub judged_highest : (class higher : ℕ) → HasClass rules step.rule class → HasClass rules other.rule higher → class ≤ higher → IsLegal host rules step
+      judged_highest class higher own its more =
+          let one = own_class class own in
+          let two = first_class higher its in
+          let up = legal.highest.none_higher enabled.1.rule step.map (Mem-from_At enabled.1.there) enabled.1.enabled in
+          let of = enabled.1.of_class in
+          let same : legal.class ≡ enabled.0 = omega (arith, one, two, more, up, of) in
+          record { class = enabled.0; enabled = enabled.1; highest = subst (λ c. IsHighest host rules c) same legal.highest }
 
   pub judged_absent : (rule : RuleParts) (big pattern : Big) (images : List ℕ) → At rule step.rule rules → big ≡ host.big → pattern ≡ rule.redex
       → images ≡ step.map → (Occurs big pattern images → ⊥) → IsNoOccurrence host rules step

@@ -12,6 +12,7 @@ pub mod HostConditions
 pub mod FirstSteps
 pub mod Seeking
 pub mod Upto
+pub mod Picking
 pub mod FirstClass
 pub mod Made
 pub mod PieceCalls

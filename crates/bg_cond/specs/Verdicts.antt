@@ -1,5 +1,5 @@
 -- Whether a step is legal, or why not.
-use Rattle.std.specs.Prelude.{ℕ, ◌<◌, ◌≤◌, List, [], ◌∷◌, length}
+use Rattle.std.specs.Prelude.{◌≡◌, ℕ, ◌<◌, ◌≤◌, List, [], ◌∷◌, length}
 use Rattle.bg_lists.specs.Lists.{At}
 use Rattle.bg_base.specs.declared.big.Big.{Big}
 use Rattle.bg_base.specs.declared.history.Step.{Step}
@@ -49,10 +49,13 @@ IsJudged host rules step NotEmbedding = IsNoOccurrence host rules step
 IsJudged host rules step (ConditionFails number) = IsFirstFailing host rules step number
 IsJudged host rules step (HigherClass other) = IsHigher host rules step other
 
--- the verdict that names the first of the steps
-abbrev pub verdict_of : List Step → Verdict
-verdict_of [] = Legal
-verdict_of (step ∷ steps) = HigherClass step
+-- the rule of the step is there, and is enabled at its nodes
+abbrev pub IsEnabledThere : HostState → List RuleParts → Step → Type 0
+IsEnabledThere host rules step = (class : ℕ) × IsEnabledStep host rules class step
+
+-- the rule of that number is of the class
+abbrev pub HasClass : List RuleParts → ℕ → ℕ → Type 0
+HasClass rules number class = (rule : RuleParts) × At rule number rules × (class ≡ rule.class)
 
 -- the condition of that number is the first that does not hold, asked of the whole host
 pub record IsFirstUnmet (big : Big) (images : List ℕ) (conditions : List Condition) (number : ℕ) : Type 0 where

@@ -1,10 +1,14 @@
 //! Who keeps a host of its own, and finds legal steps there.
-ghost use Rattle.std.specs.Prelude.{◌≡◌, ℕ, ◌+◌, ◌<◌, ◌^◌, length, IfOk, OnOk, OnErr};
+ghost use Rattle.std.specs.Prelude.{◌≡◌, ℕ, ◌+◌, ◌<◌, ◌^◌, length, IfOk, OnOk, OnErr, MatchOption};
 ghost use Rattle.bg_cond.specs.Followers.{GoOn, HasFollowed, HasFollowedSome};
-ghost use Rattle.bg_cond.specs.Steps.{AreFirstLegal};
+ghost use Rattle.bg_cond.specs.Drawn.{IsPick};
+ghost use Rattle.bg_cond.specs.Picks.{next_state};
+ghost use Rattle.bg_cond.specs.Steps.{AreFirstLegal, HasNoStep};
 ghost use Rattle.bg_rules.specs.Reaction.{HostState};
 ghost use Rattle.bg_rules.specs.Systems.{SystemParts};
 
+use crate::finder::MOST_CANDIDATES;
+use crate::picker::Picker;
 use bg_base::{Entry, Step};
 use bg_lists::Mem;
 use bg_rules::System;
@@ -42,4 +46,21 @@ pub trait Follower {
         ensures version { version self.new ≡ version self.old }
         ensures host { host self.new ≡ host self.old }
         ensures steps { IfOk result (λ found. AreFirstLegal most (host self.old) system.now.rules found.items) };
+
+    /// The step that the picker picks of the first 4,096 legal ones at its host: the next word, modulo their number, is its
+    /// place; none where no step is legal, and then no word is taken. It refuses for want of memory alone, and then no word is
+    /// taken; host and version stay.
+    fn pick(&mut self, alloc: Global, system: &System, picker: &mut Picker) -> Mem<Option<Step>>
+        requires stands { stands self.old system.now }
+        ensures stands { stands self.new system.now }
+        ensures version { version self.new ≡ version self.old }
+        ensures host { host self.new ≡ host self.old }
+        ensures picked { IfOk result (λ found. MatchOption found (HasNoStep (host self.old) system.now.rules × (picker.new ≡ picker.old))
+            (λ step. IsPick (host self.old) system.now.rules picker.old step × (picker.new ≡ next_state picker.old))) }
+        ensures no_memory { OnErr result (picker.new ≡ picker.old) }
+    {
+        let candidates = self.steps(alloc, system, MOST_CANDIDATES)?;
+        let chosen = picker.choose(candidates);
+        Ok(chosen)
+    }
 }

@@ -3,5 +3,6 @@ pub mod KeptClasses
 pub mod KeptSteps
 pub mod ListLaws
 pub mod MatchLaws
+pub mod PickLaws
 pub mod PortLaws
 pub mod Pushed

@@ -61,7 +61,7 @@ fn is_settled(list: &KeptList) -> bool
 }
 
 /// The first class with an occurrence.
-fn first_class(_host: &IndexedHost, rules: &[Rule], lists: &[KeptList]) -> Option<u32>
+pub fn first_class(_host: &IndexedHost, rules: &[Rule], lists: &[KeptList]) -> Option<u32>
     requires kept { AreKeptFor _host.now.big rules.now lists.now }
     requires settled { AreSettled lists.now }
     ensures { MatchOption result (IsQuiet _host.now rules.now) (λ class. IsFirstClass _host.now rules.now class) }

@@ -1,7 +1,8 @@
 //! A host of its own, at a version.
-ghost use Rattle.std.specs.Prelude.{◌≡◌, ◌+◌, ◌<◌, ◌^◌, [], ◌∷◌, length, IfOk, OnOk, OnErr};
+ghost use Rattle.std.specs.Prelude.{◌≡◌, ◌+◌, ◌<◌, ◌^◌, [], ◌∷◌, length, IfOk, OnOk, OnErr, IsErrOf};
 ghost use Rattle.bg_cond.specs.Followers.{GoOn, HasFollowed, HasFollowedSome};
 ghost use Rattle.bg_cond.specs.Steps as run;
+ghost use Rattle.bg_cond.specs.Steps.{IsLegal, IsTooLarge, LeadsTo};
 ghost use Rattle.bg_index.specs.Causes.{AreCauses};
 
 use bg_base::{Entry, Step};
@@ -76,7 +77,29 @@ impl Replica {
         Ok(())
     }
 
-    /// Brings the host to what the entry leads to, and tells why nodes are touched. It refuses for want of memory alone, and is then as it was.
+    /// Takes a legal step, and tells why nodes are touched. It refuses with `Full` where the result passes a limit, and is then, as
+    /// for want of memory, as it was.
+    pub(crate) fn take_step(
+        &mut self,
+        alloc: Global,
+        system: &System,
+        step: &Step,
+    ) -> Result<Causes, ReactFault>
+        requires legal { IsLegal self.old.host system.now.rules step.now }
+        requires few { self.old.version + 1 < 2 ^ 32 }
+        ensures version { OnOk result (self.new.version ≡ self.old.version + 1) }
+        ensures leads { OnOk result (LeadsTo self.old.host system.now.rules step.now self.new.host) }
+        ensures causes { IfOk result (AreCauses self.old.host.big self.new.host.big) }
+        ensures full { IsErrOf result ReactFault.Full → IsTooLarge self.old.host system.now.rules step.now }
+        ensures kept { OnErr result (self.new ≡ self.old) }
+    {
+        let causes = take_step_in_place(alloc, &mut self.host, system, step)?;
+        self.version += 1;
+        Ok(causes)
+    }
+
+    /// Brings the host to what the entry leads to, and tells why nodes are touched. It refuses for want of memory alone, and is
+    /// then as it was.
     pub(crate) fn take(&mut self, alloc: Global, system: &System, entry: &Entry) -> Mem<Causes>
         requires entry { GoOn system.now.rules self.old.host (entry.now ∷ []) }
         requires few { self.old.version + 1 < 2 ^ 32 }
@@ -87,11 +110,8 @@ impl Replica {
         let _system = system.signature();
         self.host.keeps();
         let step = step_of(alloc, entry)?;
-        match take_step_in_place(alloc, &mut self.host, system, &step) {
-            Ok(causes) => {
-                self.version += 1;
-                Ok(causes)
-            }
+        match self.take_step(alloc, system, &step) {
+            Ok(causes) => Ok(causes),
             Err(ReactFault::OutOfMemory) => Err(OutOfMemory),
             Err(ReactFault::Full) => unreachable!(),
         }

@@ -1,4 +1,3 @@
-mod Picking
 mod Reference
 mod Turning
 pub mod TurnLaws

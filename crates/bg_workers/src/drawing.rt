@@ -1,16 +1,13 @@
 //! Drawing a run on the calling thread.
-ghost use Rattle.std.specs.Prelude.{◌≡◌, ◌≤◌, ◌++◌, ◌∷◌, [], length, IfOk, OnOk, MatchOption};
+ghost use Rattle.std.specs.Prelude.{◌≡◌, ◌≤◌, ◌<◌, ◌+◌, ◌^◌, ◌++◌, ◌∷◌, [], length, IfOk, OnOk};
 ghost use Rattle.bg_base.specs.Limits.{most_steps};
-ghost use Rattle.bg_cond.specs.Drawn.{Draws, IsPick};
-ghost use Rattle.bg_cond.specs.Picks.{next_state};
-ghost use Rattle.bg_cond.specs.Steps.{HasNoStep};
+ghost use Rattle.bg_cond.specs.Drawn.{Draws};
+ghost use Rattle.bg_incr.specs.Finders.{StandsFor};
 ghost use Rattle.bg_workers.specs.Turns.{Turns, after_words, behind_end};
 
-use crate::choosing::pick_step;
-use crate::picker::Picker;
 use bg_base::{Entry, Journal, Step};
-use bg_cond::{End, MOST_CANDIDATES, steps_in, take_step_in_place};
-use bg_index::IndexedHost;
+use bg_cond::{End, Follower, Picker};
+use bg_incr::KeptFinder;
 use bg_lists::{Mem, OutOfMemory, Rows};
 use bg_rules::{Host, ReactFault, System};
 use std::alloc::Global;
@@ -28,8 +25,8 @@ pub struct DrawnRun {
 /// The run that the generator draws from the host on, of at most so many entries, all of worker 0: at each host the first
 /// 4,096 legal steps are the candidates, and the next word of the generator, modulo their number, is the place of the one
 /// that is taken. The generator is then a word further for each entry, and one more where the picked step passes a limit.
-/// The host is indexed once, and taken from the index at the end; each turn costs what [`steps_in`] and
-/// [`take_step_in_place`] cost.
+/// The host is indexed once, and taken from the index at the end; each turn costs what [`KeptFinder`] pays to pick and to take
+/// a step.
 pub fn draw(
     alloc: Global,
     system: &System,
@@ -41,10 +38,10 @@ pub fn draw(
     ensures drawn { IfOk result (λ run. Draws system.now.rules 0 most host picker.old run.journal run.end run.host) }
     ensures words { IfOk result (λ run. picker.new ≡ behind_end run.end (after_words (length run.journal) picker.old)) }
 {
-    let mut indexed = IndexedHost::of(alloc, &host)?;
+    let mut finder = KeptFinder::at(alloc, 0, &host)?;
     drop(host);
-    let (entries, end) = draw_in(alloc, system, &mut indexed, most, picker)?;
-    let last = indexed.to_host(alloc)?;
+    let (entries, end) = draw_in(alloc, system, &mut finder, most, picker)?;
+    let last = finder.host().to_host(alloc)?;
     Ok(DrawnRun {
         journal: Rows::from_vec(entries),
         end,
@@ -52,23 +49,25 @@ pub fn draw(
     })
 }
 
-/// The entries that are drawn, and why no more are; the host becomes that after all of them.
+/// The entries that are drawn, and why no more are; the finder's host becomes that after all of them.
 fn draw_in(
     alloc: Global,
     system: &System,
-    host: &mut IndexedHost,
+    finder: &mut KeptFinder,
     most: u32,
     picker: &mut Picker,
 ) -> Mem<(Vec<Entry>, End)>
-    requires { most ≤ most_steps }
-    ensures drawn { IfOk result (λ drawn. Draws system.now.rules 0 most host.old picker.old drawn.0.items drawn.1 host.new) }
+    requires most { most ≤ most_steps }
+    requires stands { StandsFor finder.old system.now }
+    requires first { finder.old.version ≡ 0 }
+    ensures drawn { IfOk result (λ drawn. Draws system.now.rules 0 most finder.old.host picker.old drawn.0.items drawn.1 finder.new.host) }
     ensures words { IfOk result (λ drawn. picker.new ≡ behind_end drawn.1 (after_words (length drawn.0.items) picker.old)) }
     ensures few { IfOk result (λ drawn. length drawn.0.items ≤ most_steps) }
 {
     let mut entries = Vec::new(alloc);
     let mut room = most;
     while room > 0 {
-        if let Some(end) = draw_one(alloc, system, 0, host, picker, &mut entries)? {
+        if let Some(end) = draw_one(alloc, system, 0, finder, picker, &mut entries)? {
             return Ok((entries, end));
         }
         room -= 1;
@@ -81,17 +80,21 @@ fn draw_one(
     alloc: Global,
     system: &System,
     worker: u32,
-    host: &mut IndexedHost,
+    finder: &mut KeptFinder,
     picker: &mut Picker,
     entries: &mut Vec<Entry>,
 ) -> Mem<Option<End>>
-    ensures { IfOk result (λ end. Turns system.now.rules worker host.old picker.old entries.old.items host.new picker.new entries.new.items end) }
+    requires stands { StandsFor finder.old system.now }
+    requires few { finder.old.version + 1 < 2 ^ 32 }
+    ensures stands { StandsFor finder.new system.now }
+    ensures version { IfOk result (λ end. finder.new.version ≤ finder.old.version + 1) }
+    ensures turns { IfOk result (λ end. Turns system.now.rules worker finder.old.host picker.old entries.old.items finder.new.host picker.new entries.new.items end) }
 {
-    let Some(step) = choose(alloc, host, system, picker)? else {
+    let Some(step) = finder.pick(alloc, system, picker)? else {
         return Ok(Some(End::Quiet));
     };
-    match take_step_in_place(alloc, host, system, &step) {
-        Ok(_causes) => {
+    match finder.take(alloc, system, &step) {
+        Ok(()) => {
             push_entry(entries, worker, step)?;
             Ok(None)
         }
@@ -107,19 +110,4 @@ fn push_entry(entries: &mut Vec<Entry>, worker: u32, step: Step) -> Mem<()>
     let Step { rule, map } = step;
     entries.push(Entry { worker, rule, map })?;
     Ok(())
-}
-
-/// The step that the generator picks of the first legal ones, none where no step is legal.
-fn choose(
-    alloc: Global,
-    host: &IndexedHost,
-    system: &System,
-    picker: &mut Picker,
-) -> Mem<Option<Step>>
-    ensures { IfOk result (λ chosen. MatchOption chosen (HasNoStep host.now system.now.rules × (picker.new ≡ picker.old))
-        (λ step. IsPick host.now system.now.rules picker.old step × (picker.new ≡ next_state picker.old))) }
-{
-    let candidates = steps_in(alloc, host, system, MOST_CANDIDATES)?;
-    let chosen = pick_step(candidates, picker);
-    Ok(chosen)
 }

@@ -1,6 +1,6 @@
 //! Workers that are to run, and how they end.
-use crate::picker::Picker;
 use bg_base::Step;
+use bg_cond::Picker;
 use bg_lists::Mem;
 
 /// How a worker ends.

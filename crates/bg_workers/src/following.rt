@@ -10,11 +10,9 @@ ghost use Rattle.bg_workers.specs.Following.{IsBehind};
 ghost use Rattle.bg_workers.specs.Turns.{IsLater};
 ghost use Rattle.bg_workers.specs.Working.{IsEnded, IsOwn, IsDrawn, HasTurned};
 
-use crate::choosing::pick_step;
 use crate::ends::Ended;
-use crate::picker::Picker;
 use crate::working::commit_found;
-use bg_cond::{Board, Commit, Follower, Found, Gate, MOST_CANDIDATES};
+use bg_cond::{Board, Commit, Follower, Found, Gate, Picker};
 use bg_lists::Mem;
 use bg_rules::System;
 use std::alloc::Global;
@@ -170,8 +168,7 @@ fn find_ahead<F: Follower>(
         (λ it. (it.version ≡ F.version follower.old) × IsPick (F.host follower.old) system.now.rules picker.old it.step × (picker.new ≡ next_state picker.old))) }
     ensures no_memory { OnErr result (picker.new ≡ picker.old) }
 {
-    let candidates = follower.steps(alloc, system, MOST_CANDIDATES)?;
-    match pick_step(candidates, picker) {
+    match follower.pick(alloc, system, picker)? {
         Some(step) => Ok(Some(Found {
             version: follower.version(),
             step,

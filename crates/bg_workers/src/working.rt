@@ -9,10 +9,8 @@ ghost use Rattle.bg_workers.specs.Following.{IsLonger};
 ghost use Rattle.bg_workers.specs.Turns.{IsLater};
 ghost use Rattle.bg_workers.specs.Working.{IsEnded, IsOwn, IsDrawn, HasTurned};
 
-use crate::choosing::pick_step;
 use crate::ends::Ended;
-use crate::picker::Picker;
-use bg_cond::{Board, Commit, Finder, Found, Gate, MOST_CANDIDATES, Moment, View};
+use bg_cond::{Board, Commit, Finder, Found, Gate, MOST_CANDIDATES, Moment, Picker, View};
 use bg_lists::Mem;
 use bg_rules::System;
 use std::alloc::Global;
@@ -135,7 +133,7 @@ fn find<F: Finder>(
     ensures no_memory { OnErr result (picker.new ≡ picker.old) }
 {
     let candidates = finder.steps(alloc, system, view, MOST_CANDIDATES)?;
-    match pick_step(candidates, picker) {
+    match picker.choose(candidates) {
         Some(step) => Ok(Some(Found {
             version: view.version,
             step,

@@ -7,46 +7,46 @@ use Rattle.bg_workers.proofs.drawing.draw_in.Goals as goal
 pub loop-room-init : goal.loop-room-init
 loop-room-init c =
     let none = c.new-entries.ensures.items in (
-      subst (λ (xs : List Entry). Continues c.args.system.now.rules 0 c.args.most c.args.host.now c.args.picker.now c.args.most c.args.host.now c.args.picker.now xs) (sym none)
-          (starts c.args.system.now.rules 0 c.args.most c.args.host.now c.args.picker.now c.args.host.now c.args.picker.now refl refl),
+      subst (λ (xs : List Entry). Continues c.args.system.now.rules 0 c.args.most c.args.finder.now.host c.args.picker.now c.args.most c.args.finder.now.host c.args.picker.now xs) (sym none)
+          (starts c.args.system.now.rules 0 c.args.most c.args.finder.now.host c.args.picker.now c.args.finder.now.host c.args.picker.now refl refl),
       ap (λ (xs : List Entry). after_words (length xs) c.args.picker.now) (sym none),
     )
 
 pub returns-in-Some-clause-drawn : goal.returns-in-Some-clause-drawn
 returns-in-Some-clause-drawn c =
-    stops c.args.system.now.rules 0 c.args.most c.args.host.now c.args.picker.now c.loop-room.room c.loop-room.host c.draw_one.new.host
+    stops c.args.system.now.rules 0 c.args.most c.args.finder.now.host c.args.picker.now c.loop-room.room c.loop-room.finder.host c.draw_one.new.finder.host
     c.loop-room.picker c.draw_one.new.picker c.loop-room.entries.items c.draw_one.new.entries.items c.draw_one.new.entries.items c.in-Some.end
-    c.loop-room-test.true c.loop-room.invariant.0 (rw c.in-Some.is at c.in_ok-end.ensures) refl
+    c.loop-room-test.true c.loop-room.invariant.0 (rw c.in-Some.is at c.in_ok-end.ensures.turns) refl
 
 pub returns-in-Some-clause-words : goal.returns-in-Some-clause-words
 returns-in-Some-clause-words c =
-    words_end c.args.system.now.rules 0 c.args.picker.now c.loop-room.host c.draw_one.new.host c.loop-room.picker c.draw_one.new.picker
+    words_end c.args.system.now.rules 0 c.args.picker.now c.loop-room.finder.host c.draw_one.new.finder.host c.loop-room.picker c.draw_one.new.picker
     c.loop-room.entries.items c.draw_one.new.entries.items c.loop-room.invariant.1 c.draw_one.new.entries.items c.in-Some.end c.in-Some.end
-    (rw c.in-Some.is at c.in_ok-end.ensures) refl refl
+    (rw c.in-Some.is at c.in_ok-end.ensures.turns) refl refl
 
 pub returns-in-Some-clause-few : goal.returns-in-Some-clause-few
-returns-in-Some-clause-few c = few_drawn (returns-in-Some-clause-drawn c) c.requires
+returns-in-Some-clause-few c = few_drawn (returns-in-Some-clause-drawn c) c.requires.most
 
 pub loop-room-preserved : goal.loop-room-preserved
 loop-room-preserved c =
     let more = c.loop-room-test.true in
     let next : c.loop-room.room ≡ suc (c.loop-room.room - 1) = omega (arith, more) in (
-      goes_on c.args.system.now.rules 0 c.args.most c.args.host.now c.args.picker.now c.loop-room.room (c.loop-room.room - 1) c.loop-room.host
-          c.draw_one.new.host c.loop-room.picker c.draw_one.new.picker c.loop-room.entries.items c.draw_one.new.entries.items next
-          c.loop-room.invariant.0 (rw c.in_default.is at c.in_ok-end.ensures),
-      words_on c.args.system.now.rules 0 c.args.picker.now c.loop-room.host c.draw_one.new.host c.loop-room.picker c.draw_one.new.picker
-          c.loop-room.entries.items c.draw_one.new.entries.items c.loop-room.invariant.1 (rw c.in_default.is at c.in_ok-end.ensures),
+      goes_on c.args.system.now.rules 0 c.args.most c.args.finder.now.host c.args.picker.now c.loop-room.room (c.loop-room.room - 1) c.loop-room.finder.host
+          c.draw_one.new.finder.host c.loop-room.picker c.draw_one.new.picker c.loop-room.entries.items c.draw_one.new.entries.items next
+          c.loop-room.invariant.0 (rw c.in_default.is at c.in_ok-end.ensures.turns),
+      words_on c.args.system.now.rules 0 c.args.picker.now c.loop-room.finder.host c.draw_one.new.finder.host c.loop-room.picker c.draw_one.new.picker
+          c.loop-room.entries.items c.draw_one.new.entries.items c.loop-room.invariant.1 (rw c.in_default.is at c.in_ok-end.ensures.turns),
     )
 
 pub returns-clause-drawn : goal.returns-clause-drawn
 returns-clause-drawn c =
     let no_more = c.loop-room-test.false in
     let none : c.loop-room.room ≡ 0 = omega (arith, no_more) in
-    spent c.args.system.now.rules 0 c.args.most c.args.host.now c.args.picker.now c.loop-room.room c.loop-room.host c.loop-room.picker
+    spent c.args.system.now.rules 0 c.args.most c.args.finder.now.host c.args.picker.now c.loop-room.room c.loop-room.finder.host c.loop-room.picker
     c.loop-room.entries.items c.loop-room.entries.items none c.loop-room.invariant.0 refl
 
 pub returns-clause-words : goal.returns-clause-words
 returns-clause-words c = c.loop-room.invariant.1
 
 pub returns-clause-few : goal.returns-clause-few
-returns-clause-few c = few_drawn (returns-clause-drawn c) c.requires
+returns-clause-few c = few_drawn (returns-clause-drawn c) c.requires.most
