@@ -4,6 +4,7 @@ ghost use Rattle.bg_incr.specs.Matches.{AreMatchesOf};
 
 use crate::following::{are_fresh, list_of, react_at};
 use crate::models::{Model, rule_of, system_of};
+use crate::searches::are_found_alike;
 use bg_base::Map;
 use bg_incr::KeptMatches;
 use bg_index::IndexedHost;
@@ -13,6 +14,7 @@ use rand_core::SeedableRng;
 use rand_core::utils::NextWord;
 use rand_pcg::Pcg32;
 use std::alloc::Global;
+use std::thread::Threads;
 
 /// The number of the rule that is drawn by a word; the first where the host is large.
 fn number_at(host: &IndexedHost, system: &System, word: u32) -> u32 {
@@ -64,8 +66,13 @@ fn turn(
     Ok(Some(false))
 }
 
-/// How many of so many turns are reactions; 0 where a list is not a fresh one.
-fn turns(alloc: Global, system: &System, most: usize) -> Result<usize, ReactFault> {
+/// How many of so many turns are reactions; 0 where a list is not a fresh one, or a search finds another.
+fn turns<R: Threads + Sync>(
+    rt: &R,
+    alloc: Global,
+    system: &System,
+    most: usize,
+) -> Result<usize, ReactFault> {
     let mut host = IndexedHost::of(alloc, system.init())?;
     let mut kept = KeptMatches::start(alloc, &host, system)?;
     let mut generator = Pcg32::seed_from_u64(2);
@@ -74,8 +81,10 @@ fn turns(alloc: Global, system: &System, most: usize) -> Result<usize, ReactFaul
         let word = generator.next_word();
         let place = generator.next_word();
         match turn(alloc, system, &mut host, &mut kept, word, place)? {
-            Some(true) => count = count.saturating_add(1),
-            Some(false) => return Ok(0),
+            Some(true) if are_found_alike(rt, alloc, system, &host)? => {
+                count = count.saturating_add(1);
+            }
+            Some(_) => return Ok(0),
             None => {}
         }
     }
@@ -85,7 +94,7 @@ fn turns(alloc: Global, system: &System, most: usize) -> Result<usize, ReactFaul
 #[test]
 fn agents_in_rooms_are_kept(rt: HostRuntime) -> Result<(), ReactFault> {
     let system = system_of(rt.alloc(), Model::Rooms)?;
-    let count = turns(rt.alloc(), &system, 600)?;
+    let count = turns(&rt, rt.alloc(), &system, 600)?;
     assert!(rt; count > 400, "{count}");
     Ok(())
 }
@@ -93,7 +102,7 @@ fn agents_in_rooms_are_kept(rt: HostRuntime) -> Result<(), ReactFault> {
 #[test]
 fn cells_are_kept(rt: HostRuntime) -> Result<(), ReactFault> {
     let system = system_of(rt.alloc(), Model::Cells)?;
-    let count = turns(rt.alloc(), &system, 600)?;
+    let count = turns(&rt, rt.alloc(), &system, 600)?;
     assert!(rt; count > 100, "{count}");
     Ok(())
 }
