@@ -1,5 +1,5 @@
 -- Of the steps that are kept of the first class the first so many are the first legal ones.
-use Rattle.std.proofs.Common.{◌≡◌, ℕ, zero, suc, ◌+◌, ◌-◌, ◌<◌, ◌≤◌, ◌⊎◌, ◌==◌, Bool, true, false, Option, None, Some, List, [], ◌∷◌, ◌++◌, length, take, drop, inl, inr, refl, sym, ap, subst, ◌∙◌, arith, All, cond, cond-true, cond-false, eqb-eq, eqb-refl, append_assoc, take_all, length-take-le}
+use Rattle.std.proofs.Common.{◌≡◌, ℕ, zero, suc, ◌+◌, ◌-◌, ◌<◌, ◌≤◌, ◌⊎◌, ◌==◌, Bool, true, false, Option, None, Some, List, [], ◌∷◌, ◌++◌, length, take, drop, inl, inr, refl, sym, ap, subst, ◌∙◌, arith, All, cond, cond-true, cond-false, eqb-true, eq-eqb, append_assoc, take_all, length-take-le}
 use Rattle.std.specs.Prelude.{⊤, MatchOption}
 use Rattle.std.proofs.lemmas.Bool.{cases_Bool, cases_lt, false≢true}
 use Rattle.std.proofs.lemmas.List.{append-nil, length-map, length-append}
@@ -22,6 +22,7 @@ use Rattle.bg_rules.specs.Rules.{RuleParts}
 -- ---- parts of lists
 
 drop_at : {X : Type 0} {x : X} {at : ℕ} (xs : List X) → At x at xs → drop at xs ≡ x ∷ drop (suc at) xs
+drop_at [] a = elim a [ ]
 drop_at (y ∷ ys) (at_here e) = ap (λ z. z ∷ ys) e
 drop_at (y ∷ ys) (at_there a) = drop_at ys a
 
@@ -38,6 +39,7 @@ take_front (suc n) (x ∷ xs) ys = ap (λ zs. x ∷ zs) (take_front n xs ys)
 
 pub At_take : {X : Type 0} {x : X} {at : ℕ} (n : ℕ) (xs : List X) → at < n → At x at xs → At x at (take n xs)
 At_take zero xs below a = absurd (omega (arith, below))
+At_take (suc n) [] below a = elim a [ ]
 At_take (suc n) (y ∷ ys) below (at_here e) = at_here e
 At_take (suc n) (y ∷ ys) below (at_there a) = at_there (At_take n ys (omega (arith, below)) a)
 
@@ -62,11 +64,11 @@ module _ (class : ℕ) (rules : List RuleParts) (lists : List KeptList) (number 
 
 module _ (class number : ℕ) (rule : RuleParts) (list : KeptList) where
   pub own_maps : rule.class ≡ class → kept_maps class rule list ≡ list.first.maps.items
-  own_maps e = cond-true (rule.class == class) _ _ (ap (λ n. n == class) e ∙ eqb-refl class)
+  own_maps e = cond-true (rule.class == class) _ _ (ap (λ n. n == class) e ∙ eq-eqb class class refl)
 
   pub no_maps : (rule.class ≡ class → ⊥) → kept_maps class rule list ≡ []
   no_maps other = elim (cases_Bool (rule.class == class)) [
-    | inl e ↦ absurd (other (eqb-eq rule.class class e))
+    | inl e ↦ absurd (other (eqb-true rule.class class e))
     | inr e ↦ cond-false (rule.class == class) _ _ e
   ]
 
@@ -100,13 +102,13 @@ module _ (host : HostState) (rules : List RuleParts) (lists : List KeptList) (ke
         → AreFirst most_candidates (IsEnabledBelow host rules class (number + 1)) (take most_candidates (steps ++ steps_at number (kept_maps class rule list)))
     first_next number rule list steps a b first =
         elim (cases_Bool (rule.class == class)) [
-          | inl e ↦ (let same = eqb-eq rule.class class e in
+          | inl e ↦ (let same = eqb-true rule.class class e in
               let enough = elim (enough_kept number rule list a b) [ inl whole ↦ inl whole | inr long ↦ inr (omega (arith, long)) ] in
               subst (λ maps. AreFirst most_candidates (IsEnabledBelow host rules class (number + 1)) (take most_candidates (steps ++ steps_at number maps)))
               (sym (own_maps class number rule list same))
               (first_joined most_candidates host rules class number rule a same (All-member IsKeepable rules kept.keepable (Mem-from_At a)).bare
               list.first.bound list.first.maps.items (kept.kept.each number rule list a b).first.maps steps first enough))
-          | inr e ↦ (let other : rule.class ≡ class → ⊥ = λ same. false≢true (sym e ∙ (ap (λ n. n == class) same ∙ eqb-refl class)) in
+          | inr e ↦ (let other : rule.class ≡ class → ⊥ = λ same. false≢true (sym e ∙ (ap (λ n. n == class) same ∙ eq-eqb class class refl)) in
               let few = first.few in
               let whole : take most_candidates (steps ++ []) ≡ steps
               = ap (take most_candidates) (append-nil steps) ∙ take_all most_candidates steps (omega (arith, few)) in
