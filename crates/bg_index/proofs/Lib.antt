@@ -25,6 +25,7 @@ pub mod ReadyLaws
 pub mod RoomLaws
 pub mod SetLaws
 pub mod SiteLaws
+pub mod SpanLaws
 pub mod StepLaws
 pub mod TiedLaws
 pub mod TouchedLaws

@@ -12,6 +12,7 @@ pub mod Plans
 pub mod PortNodes
 pub mod Readings
 pub mod Sites
+pub mod Spans
 pub mod Steps
 pub mod Telling
 pub mod Tied

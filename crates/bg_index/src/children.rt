@@ -13,10 +13,10 @@ ghost use Rattle.bg_place.specs.Places.{numbers_in};
 use crate::IndexedHost;
 use crate::arrivals::NodesByPlace;
 use crate::entries::NodeEntry;
-use crate::parts::without;
 use crate::plans::{Move, Nest};
 use crate::reading::Reading;
-use crate::sets::{number_set, place_set};
+use crate::sets::place_set;
+use crate::spans::changed;
 use bg_base::{NodeRow, Place};
 use bg_lists::{Mem, copies};
 use std::alloc::Global;
@@ -30,7 +30,8 @@ pub struct Filling {
 
 /// The rows, and each place in which an image lay, with what is to lie in them: what lies in such a place and is no image, and
 /// what moves there or is new there. Costs time n log n, and memory n, in the number of the moves and the new rows, of the
-/// regions of the redex, and of what lies in these places.
+/// images, and of the regions of the redex; and for each of these places a copy of what lies there, with a search in it for
+/// each image and for each node that comes there.
 pub fn filling_of(
     alloc: Global,
     host: &IndexedHost,
@@ -39,6 +40,7 @@ pub fn filling_of(
     new: Vec<NodeRow>,
 ) -> Mem<Filling>
     requires images_ascend { IsStrictlySortedBy nat_cmp reading.now.images.items }
+    requires arrivals_ascend { (place : PlaceValue) → IsStrictlySortedBy nat_cmp (numbers_in place (arriving moves.now new.items)) }
     ensures rows { IfOk result (λ filling. rows_in filling.entries.items ≡ new.items) }
     ensures filled { IfOk result (λ filling. (entry : NodeEntryValue) → Member entry filling.entries.items
         → entry.children.items ≡ numbers_in (Node entry.row.id) (arriving moves.now new.items)) }
@@ -74,6 +76,7 @@ fn nests_of(
     incoming: &NodesByPlace,
 ) -> Mem<Vec<Nest>>
     requires images_ascend { IsStrictlySortedBy nat_cmp reading.now.images.items }
+    requires arrivals_ascend { (place : PlaceValue) → IsStrictlySortedBy nat_cmp (numbers_in place incoming.now) }
     ensures places { IfOk result (λ nests. (place : PlaceValue) → (Member place (places_in nests.items) ↔ Member place reading.now.places.items)) }
     ensures nested { IfOk result (λ nests. (nest : NestValue) → Member nest nests.items
         → AreNestedIn host.now.big reading.now.images.items incoming.now nest.place nest.children.items) }
@@ -100,6 +103,7 @@ fn nests_at(
     places: &[Place],
 ) -> Mem<Vec<Nest>>
     requires ascending { IsStrictlySortedBy nat_cmp images.now }
+    requires arrivals_ascend { (place : PlaceValue) → IsStrictlySortedBy nat_cmp (numbers_in place incoming.now) }
     ensures places { IfOk result (λ nests. places_in nests.items ≡ places.now) }
     ensures nested { IfOk result (λ nests. (nest : NestValue) → Member nest nests.items
         → AreNestedIn host.now.big images.now incoming.now nest.place nest.children.items) }
@@ -115,7 +119,8 @@ fn nests_at(
     Ok(nests)
 }
 
-/// The children of the place that are no images and what arrives there, ascending.
+/// The children of the place that are no images and what arrives there, ascending. Of m children it costs a copy of them, and a
+/// search in them for each image and for each node that arrives.
 fn nested(
     alloc: Global,
     host: &IndexedHost,
@@ -124,9 +129,11 @@ fn nested(
     place: Place,
 ) -> Mem<Vec<u32>>
     requires ascending { IsStrictlySortedBy nat_cmp images.now }
+    requires arrivals_ascend { IsStrictlySortedBy nat_cmp (numbers_in place incoming.now) }
     ensures { IfOk result (λ children. AreNestedIn host.now.big images.now incoming.now place children.items) }
 {
-    let mut children = without(alloc, host.children(place), images)?;
-    children.extend_from_slice(incoming.in_place(place))?;
-    Ok(number_set(children))
+    let before = host.children(place);
+    let arrivals = incoming.in_place(place);
+    let children = changed(alloc, before, images, arrivals)?;
+    Ok(children)
 }

@@ -9,7 +9,7 @@ ghost use Rattle.bg_index.specs.Indexed.{edge_cmp};
 ghost use Rattle.bg_rules.specs.Instantiation.{is_among};
 
 use crate::entries::{EdgeEntry, NameEntry};
-use crate::leaving::{FEW, stays};
+use crate::leaving::{is_cheaper_singly, stays};
 use crate::plans::{Bundle, LinkKey};
 
 /// Takes the idle edges out, sets the points of links, and puts the used edges behind.
@@ -31,7 +31,7 @@ pub fn change_links(
     push_edges(edges, used);
 }
 
-/// Takes these edges out. A pass over the edges where they are many.
+/// Takes these edges out: one by one where that costs less, else by a pass over all.
 fn drop_edges(edges: &mut Vec<EdgeEntry>, idle: &[u32])
     requires edges_ascend { IsStrictlySortedBy edge_cmp edges.old.items }
     requires ascending { IsStrictlySortedBy nat_cmp idle.now }
@@ -39,10 +39,18 @@ fn drop_edges(edges: &mut Vec<EdgeEntry>, idle: &[u32])
     ensures count { vec_len edges.new ≤ vec_len edges.old }
     ensures capacity { vec_capacity edges.new ≡ vec_capacity edges.old }
 {
-    if idle.len() < FEW {
+    if is_cheaper_singly(idle.len(), behind_first(edges, idle), edges.len()) {
         take_edges(edges, idle);
     } else {
         edges.retain(|entry| stays(idle, entry.edge));
+    }
+}
+
+/// How many edges stand behind the first of these, or are that. Logarithmic.
+fn behind_first(edges: &[EdgeEntry], idle: &[u32]) -> usize {
+    match idle.first() {
+        Some(first) => edges.len() - edges.partition_point(|entry| entry.edge < *first),
+        None => 0,
     }
 }
 

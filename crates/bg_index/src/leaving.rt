@@ -10,7 +10,7 @@ use crate::sets::is_none_of;
 
 /// In the time in which one item is looked at, so many are moved up: fewer than so many are best taken out one by one, wherever
 /// they stand.
-pub const FEW: usize = 16;
+const FEW: usize = 16;
 
 /// Whether it costs less to take so many items out one by one, each by moving up what stands behind it, at most so many items,
 /// than to look at all items of the list once.

@@ -2,6 +2,7 @@
 //!
 //! - [`IndexedHost`]: a host whose nodes are found by number, with the nodes in each place, the points of each link and
 //!   the nodes of each control kept beside them, each list ascending.
+//! - [`IndexedEmbeddings`]: the occurrences of a pattern in such a host, one after the other.
 #![tactic(auto)]
 
 mod arrivals;
@@ -14,6 +15,7 @@ mod commit_links;
 mod commit_nodes;
 mod controls;
 mod edge_sets;
+mod embeddings;
 mod entries;
 mod going;
 mod growth;
@@ -34,11 +36,13 @@ mod point_arrivals;
 mod reading;
 mod room;
 mod sets;
+mod spans;
 mod tied_points;
 mod touched;
 mod used;
 
 pub use causes::{Causes, Relinked};
+pub use embeddings::IndexedEmbeddings;
 pub use indexed_host::IndexedHost;
 pub use laws::steps_leave_an_index;
 pub use touched::Touched;

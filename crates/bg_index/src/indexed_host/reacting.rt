@@ -25,9 +25,10 @@ impl IndexedHost {
     ///
     /// It refuses with `Full` where the host would pass one of its limits: more than 65,536 nodes or edges, or a counter
     /// above 2,147,483,648. All that may fail is done before anything is changed, so at a refusal the host stays as it was.
-    /// Costs time n log n in the size of the rule, the copies that are made or dropped, the children of the places in which
-    /// an image lies, and the points of the links that lose or get one; besides, nodes and edges that go are taken out of
-    /// lists whose other items move up. A part for which one entry asks is not walked. Memory in proportion to the first.
+    /// Costs time n log n in the size of the rule, the copies that are made or dropped, the nodes that move, and the points of
+    /// the links that lose or get one; besides, the numbers of the children of the places in which an image lies are copied,
+    /// and nodes and edges that go are taken out of lists whose other items move up. A part for which one entry asks is not
+    /// walked. Memory in proportion to the first, and to those children.
     pub fn react_in_place(
         &mut self,
         alloc: Global,

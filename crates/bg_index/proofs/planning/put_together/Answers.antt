@@ -1,11 +1,20 @@
-use Rattle.std.proofs.Common.{◌≡◌, List, refl, subst}
+use Rattle.std.proofs.Common.{◌≡◌, List, nat_cmp, refl, sym, subst}
+use Rattle.std.specs.List.Sorted.{IsStrictlySortedBy}
 use Rattle.bg_base.specs.declared.names.Place.TheVariants.{Node}
 use Rattle.bg_place.specs.Places.{numbers_in}
 use Rattle.bg_index.specs.declared.plans.Move.{Move}
 use Rattle.bg_index.specs.Arriving.{AreNestedIn, arriving, places_in}
-use Rattle.bg_index.proofs.ChildLaws.{all_filled, are_nests}
+use Rattle.bg_index.proofs.ChildLaws.{all_filled, are_nests, arrivals_up}
 use Rattle.bg_index.proofs.PlanningLaws.{put_plan}
 use Rattle.bg_index.proofs.planning.put_together.Goals as goal
+
+pub filling_of-requires-clause-arrivals_ascend : goal.filling_of-requires-clause-arrivals_ascend
+filling_of-requires-clause-arrivals_ascend c =
+    let new = c.args.nodes.new.items in
+    let are = c.requires.nodes_are in
+    λ place. subst (λ (moves : List Move). IsStrictlySortedBy nat_cmp (numbers_in place (arriving moves new))) (sym c.deref.ensures.value)
+    (arrivals_up c.args.host.now c.args.rule.now c.args.map.now c.args.reading.now c.args.nodes.gone.items c.args.nodes.moves.items new c.requires.read
+    are.gone_are are.moves_are are.rows_are place)
 
 pub returns : goal.returns
 returns c =
