@@ -6,10 +6,10 @@ use Rattle.bg_base.specs.declared.history.Step.{Step}
 use Rattle.bg_cond.specs.Steps.{IsRun, IsTooLarge, step_of}
 use Rattle.bg_cond.specs.Verdicts.{IsJudged}
 use Rattle.bg_cond.specs.declared.verdict.Verdict.TheVariants.{Legal as LegalStep}
-use Rattle.bg_journal.specs.declared.replaying.Replay.{Replay}
-use Rattle.bg_journal.specs.declared.replaying.Replay.TheVariants.{Legal, Illegal}
-use Rattle.bg_journal.specs.declared.replaying.Why.{Why}
-use Rattle.bg_journal.specs.declared.replaying.Why.TheVariants.{Judged, TooLarge}
+use Rattle.bg_journal.specs.declared.outcome.Replay.{Replay}
+use Rattle.bg_journal.specs.declared.outcome.Replay.TheVariants.{Legal, Illegal}
+use Rattle.bg_journal.specs.declared.outcome.Why.{Why}
+use Rattle.bg_journal.specs.declared.outcome.Why.TheVariants.{Judged, TooLarge}
 use Rattle.bg_rules.specs.Reaction.{HostState}
 use Rattle.bg_rules.specs.Rules.{RuleParts}
 use Rattle.bg_rules.specs.Systems.{SystemParts}
