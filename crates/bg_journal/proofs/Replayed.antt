@@ -23,6 +23,10 @@ use Rattle.bg_rules.specs.Systems.{SystemParts, IsSystem}
 
 -- ---- one entry more
 
+-- no entry is taken yet
+pub none_taken : (rules : List RuleParts) (init : HostState) (entries : List Entry) (host : HostState) → host ≡ init → IsRun rules init (take 0 entries) host
+none_taken rules init entries host same = ended same
+
 module _ (rules : List RuleParts) (init : HostState) (entries : List Entry) (number : ℕ) (entry : Entry) (host : HostState)
     (less : number < length entries) (at : entry ≡ get_or entries number entry) (run : IsRun rules init (take number entries) host) where
   -- the next entry is taken
@@ -121,7 +125,7 @@ module _ (rules : List RuleParts) (are : All IsRule rules) (init : HostState) (i
   one_why : (number : ℕ) (why other : Why) → StopsAt rules init entries number why → StopsAt rules init entries number other → why ≡ other
   one_why number why other one two =
       let host : two.before ≡ one.before = run_one_end rules are is two.run one.run in
-      let entry : two.entry ≡ one.entry = At-one one.there two.there in
+      let entry : two.entry ≡ one.entry = At-one two.there one.there in
       one_reason one.before (step_of one.entry) why other (run_end_is_host rules are is one.run) one.reason
       (subst (λ (h : HostState). IsReason h rules (step_of one.entry) other) host
       (subst (λ (e : Entry). IsReason two.before rules (step_of e) other) entry two.reason))
