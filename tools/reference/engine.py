@@ -6,6 +6,7 @@ from .judging import judge_run
 from .listings import Lines, read_bigraph, read_signature
 from .occurrences import decompose, occurrences, occurrences_by_decomposition
 from .refusals import LISTING_CODES, MODEL_CODES, BadListing, Fault, Refusal
+from .replays import NoRun, journal_of, replay_lines
 from .runs import drawn_run, run_lines
 from .spelling import bigraph_lines, numbers_line, system_lines
 from .statements import system_of
@@ -36,6 +37,9 @@ def engine(words, data, checks_itself=False):
             written = trial_lines(request.size)
         elif request.command == 'compose':
             written = composed(data)
+        elif request.command == 'replay':
+            entries, data = journal_of(data)
+            written = replay_lines(system_of(data), entries)
         else:
             written = of_system(request, system_of(data), checks_itself)
     except BadListing as bad:
@@ -46,6 +50,8 @@ def engine(words, data, checks_itself=False):
         return 1, refusal.line(data).encode()
     except TooMany as many:
         return 6, f'{many}\n'.encode('latin1')
+    except NoRun as none:
+        return 7, f'{none}\n'.encode()
     return 0, ''.join(line + '\n' for line in written).encode('latin1')
 
 

@@ -1,7 +1,7 @@
 """The words of the command line, by docs/USAGE.md."""
 from typing import NamedTuple
 
-COMMANDS = ('compose', 'check', 'show', 'match', 'run', 'trial')
+COMMANDS = ('compose', 'check', 'show', 'match', 'run', 'replay', 'trial')
 RANGES = {'most': (1, 1000000), 'workers': (1, 64), 'steps': (0, 100000), 'seed': (0, 18446744073709551615),
           'size': (1, 300)}
 DEFAULTS = {'most': 100000, 'workers': 1, 'steps': 1000, 'seed': 0, 'size': 10, 'explain': False}

@@ -1,3 +1,4 @@
 pub mod EntryLines
 pub mod Journals
 pub mod BadLines
+pub mod Replayed

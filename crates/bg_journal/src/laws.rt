@@ -1,9 +1,16 @@
-//! What acceptance and refusal of a journal mean of the whole text. A call does nothing.
-ghost use Rattle.std.specs.Prelude.{◌≡◌, ◌++◌, List, ℕ};
+//! What acceptance and refusal of a journal mean of the whole text, and that a journal comes to one thing. A call does
+//! nothing.
+ghost use Rattle.std.specs.Prelude.{◌≡◌, ◌↔◌, ◌++◌, List, ℕ};
 ghost use Rattle.bg_base.specs.declared.history.Entry.{Entry};
 ghost use Rattle.bg_listing.specs.Stops.{HasText, StopsAtLine};
 ghost use Rattle.bg_journal.specs.JournalText.{journal_text};
 ghost use Rattle.bg_journal.specs.JournalReading.{IsJournal, IsBadAt, beginning};
+ghost use Rattle.bg_journal.specs.Replays.{IsReplayOf};
+ghost use Rattle.bg_journal.specs.declared.outcome.Replay.{Replay as ReplayValue};
+ghost use Rattle.bg_journal.specs.declared.outcome.Replay.TheVariants.{Legal};
+ghost use Rattle.bg_cond.specs.Steps.{IsRun};
+ghost use Rattle.bg_rules.specs.Reaction.{HostState};
+ghost use Rattle.bg_rules.specs.Systems.{SystemParts, IsSystem};
 
 /// No text is that of two journals, whatever follows.
 pub fn journals_have_one_text()
@@ -25,4 +32,13 @@ pub fn a_text_is_bad_at_one_line()
 /// begin the text of some journal, and none begins with these lines and the bad one, whatever follows them.
 pub fn a_text_stops_being_a_journal_at_its_bad_line()
     ensures { (bytes : List ℕ) (line : ℕ) → IsBadAt bytes line → StopsAtLine journal_text IsJournal bytes beginning line }
+{}
+
+/// A journal comes to one thing: no two replays of it by one system are right. So it is `Legal` exactly of runs, with the
+/// host after them.
+pub fn journals_come_to_one_thing()
+    ensures one { (system : SystemParts) (entries : List Entry) (one other : ReplayValue) → IsSystem system → IsReplayOf system entries one
+        → IsReplayOf system entries other → one ≡ other }
+    ensures runs { (system : SystemParts) (entries : List Entry) (replay : ReplayValue) (host : HostState) → IsSystem system → IsReplayOf system entries replay
+        → (replay ≡ Legal host ↔ IsRun system.rules system.init entries host) }
 {}

@@ -12,11 +12,11 @@ use Rattle.bg_answers.specs.declared.status.Status.{Status}
 use Rattle.bg_answers.specs.declared.status.Status.TheVariants.{Done, Refused, WrongWords, TooMany, NoRun, TooLong, Unsorted}
 use Rattle.bg_top.specs.Ended.{CallEnded, SomeAnswer, IsStopped, ComesWhere}
 use Rattle.bg_top.specs.Numbers.{failed_read, failed_write, out_of_memory}
-use Rattle.bg_top.specs.Right.{promise_of, input_of, is_long, IsReply, IsTaken, IsRefused, IsTooMuch, EndsWith, IsRight, IsAnsweredWith, AsksOf, Answers}
+use Rattle.bg_top.specs.Right.{promise_of, input_of, is_long, IsReply, IsTaken, IsRefused, IsTooMuch, IsNoRun, EndsWith, IsRight, IsAnsweredWith, AsksOf, Answers}
 use Rattle.bg_top.specs.Staying.{Stay, IsRightWith}
 use Rattle.bg_top.proofs.Right.{over, the_input, input_is, long_input}
 use Rattle.bg_watch.specs.Watching.{Watched}
-use Rattle.bg_top.proofs.Settled.{settled}
+use Rattle.bg_top.proofs.Settled.{settled, no_run_with, told_with}
 use Rattle.bg_words.specs.declared.asking.Request.{Request}
 use Rattle.bg_words.specs.declared.command.Command.TheVariants.{Run}
 
@@ -269,6 +269,38 @@ module _ (most : ℕ) (watchers : List Watched) (result : ℕ) (reads writes flu
       → IfSome left (λ input. ComesWhere result TooMany (AsksOf most asked input (IsTooMuch watchers)))
   much_from asked None ended = tt
   much_from asked (Some input) ended = comes_by asked input ended TooMany (much_there asked input) (there_much asked input)
+
+  -- journals that are none, or no run
+  no_run_there : (asked : Option Request) (bytes : List ℕ) → IsAnsweredWith most asked watchers (Some bytes) NoRun → AsksOf most asked bytes IsNoRun
+  no_run_there None bytes answered = let both = sym answered.2 ∙ ap (λ (a : Answer). a.status) answered.1 in absurd cc
+  no_run_there (Some request) bytes answered = of answered.0 (judged_at watchers most request bytes answered.0 answered.1) answered.2
+    where
+      of : (answer : Answer) → Judged watchers most request (input_of request bytes) answer → answer.status ≡ NoRun
+          → (is_long most request bytes ≡ false) × IsNoRun request (input_of request bytes)
+      of answer (long same past) e = let both = sym e ∙ ap (λ (a : Answer). a.status) same in absurd cc
+      of answer (short few right) e =
+          let m = made_of (promise_of request watchers) (input_of request bytes) right (λ r. let both = sym e ∙ r in absurd cc) in
+          (sym (long_input most request bytes) ∙ few, no_run_with request watchers request.command (input_of request bytes) answer m e)
+
+  there_no_run : (asked : Option Request) (bytes : List ℕ) → AsksOf most asked bytes IsNoRun → (answer : Answer) → IsRight most asked watchers (Some bytes) answer
+      → answer.status ≡ NoRun
+  there_no_run None bytes asks answer right = absurd asks
+  there_no_run (Some request) bytes asks answer right = of answer (judged_at watchers most request bytes answer right)
+    where
+      of : (answer : Answer) → Judged watchers most request (input_of request bytes) answer → answer.status ≡ NoRun
+      of answer (long same past) = let both = sym past ∙ long_input most request bytes ∙ asks.0 in absurd cc
+      of answer (short few right) = told_with request watchers request.command (input_of request bytes) answer asks.1.0 asks.1.1 right
+
+  pub no_run_from : (asked : Option Request) (left : Option (List ℕ)) → Ends asked left
+      → IfSome left (λ input. ComesWhere result NoRun (AsksOf most asked input IsNoRun))
+  no_run_from asked None ended = tt
+  no_run_from asked (Some input) ended =
+      record {
+        only = λ is. no_run_there asked input ((comes asked input ended NoRun).only is);
+        always = λ asks. ⊎_elim (λ stopped. inl stopped) (λ goes.
+            let some = answer_of asked (Some input) ended goes in
+            inr (some.2 ∙ ap number (there_no_run asked input asks some.0 some.1))) (stops result);
+      }
 
   -- what is written at status 0
   pub written_from : (asked : Option Request) (left : Option (List ℕ)) → Ends asked left → result ≡ number Done

@@ -12,10 +12,11 @@ use Rattle.bg_watch.specs.Watching.{Watched}
 use Rattle.bg_words.specs.Commands.{is_reading}
 use Rattle.bg_words.specs.declared.asking.Request.{Request}
 use Rattle.bg_words.specs.declared.command.Command.{Command}
-use Rattle.bg_words.specs.declared.command.Command.TheVariants.{Compose, Check, Show, Match, Run, Trial}
+use Rattle.bg_words.specs.declared.command.Command.TheVariants.{Compose, Check, Show, Match, Run, Replay, Trial}
 use Rattle.command_compose.specs.Compose.{compose_promise}
 use Rattle.command_match.specs.Match.{match_promise}
 use Rattle.command_models.specs.Models.{check_promise, show_promise}
+use Rattle.command_replay.specs.Replay.{replay_promise, IsNoRun as IsNoRunInput}
 use Rattle.command_run.specs.Run.{run_promise}
 use Rattle.command_trial.specs.Model.{trial_model}
 use Rattle.command_trial.specs.Trial.{trial_promise}
@@ -27,6 +28,7 @@ promise_with request watchers Check = check_promise
 promise_with request watchers Show = show_promise
 promise_with request watchers Match = match_promise request.most request.explain
 promise_with request watchers Run = run_promise request.steps request.workers request.seed watchers
+promise_with request watchers Replay = replay_promise
 promise_with request watchers Trial = trial_promise request.size
 
 -- what the command of the request promises
@@ -72,6 +74,11 @@ Makes watchers request input P = (answer : Answer) × (promise_of request watche
 -- what the command makes of the input tells that there would be too much to list
 abbrev pub IsTooMuch : List Watched → Request → List ℕ → Type 0
 IsTooMuch watchers request input = Makes watchers request input (λ answer. answer.status ≡ TooMany)
+
+-- a journal is to be judged, and the input has no text of a journal in front, or its journal is no run of the system that the
+-- model behind it describes
+abbrev pub IsNoRun : Request → List ℕ → Type 0
+IsNoRun request input = (request.command ≡ Replay) × IsNoRunInput input
 
 -- the result is the status of what the command makes of the input
 abbrev pub EndsWith : ℕ → List Watched → Request → List ℕ → Type 0

@@ -5,7 +5,7 @@ ghost use Rattle.bg_answers.specs.Answer.{number, answer_of};
 ghost use Rattle.bg_io.specs.Faults.{Rose};
 ghost use Rattle.bg_top.specs.Ended.{CallEnded, ComesWhere};
 ghost use Rattle.bg_top.specs.Numbers.{failed_read, failed_write, out_of_memory, most_bytes};
-ghost use Rattle.bg_top.specs.Right.{IsReply, IsAnsweredWith, AsksOf, Answers, IsRefused, IsTooMuch, IsTaken, EndsWith, input_of, is_long};
+ghost use Rattle.bg_top.specs.Right.{IsReply, IsAnsweredWith, AsksOf, Answers, IsRefused, IsTooMuch, IsNoRun, IsTaken, EndsWith, input_of, is_long};
 ghost use Rattle.bg_top.specs.Staying.{IsRightWith, StayFor};
 ghost use Rattle.bg_top.specs.Words.{asked, IsReadless};
 ghost use Rattle.bg_words.specs.Words.{IsInRange};
@@ -19,6 +19,7 @@ use bg_words::{Command, Request, WordsFault, request};
 use command_compose::answer_compose;
 use command_match::answer_match;
 use command_models::{answer_check, answer_show};
+use command_replay::answer_replay;
 use command_run::answer_run;
 use command_trial::answer_trial;
 use std::alloc::Global;
@@ -54,6 +55,7 @@ pub const NO_MEMORY: u8 = 5;
 /// | 4 | a prefix of the text | exactly where the sink's count of faults rose |
 /// | 5 | a prefix of the text | want of memory |
 /// | 6 | a line `too many ..` | exactly where a rule has more occurrences than are asked for |
+/// | 7 | `journal at LINE` or a line `illegal ..` | exactly where the text of the journal is refused, or the model is read and the journal is no run of its system |
 /// | 8 | `too long` | exactly where the source gave `MOST_BYTES + 1` bytes |
 ///
 /// 3, 4 and 5 come before the others: "exactly where" is said of the calls that end with none of them. The watchers are told
@@ -85,14 +87,16 @@ pub fn engine<S: Source, K: Sink, G: Gate + Sync, R: Threads + Wait + Sync>(
     // the source is read until its end, or just past the most
     ensures few_reads { S.reads source.new ≤ S.reads source.old + most_bytes + 1 }
 
-    // inputs that are too long, that are refused, of which a rule has too many occurrences: each status of an answer
-    // comes exactly where some right answer has it
+    // inputs that are too long, that are refused, of which a rule has too many occurrences, whose journal is no run: each
+    // status of an answer comes exactly where some right answer has it
     ensures too_long { IfSome (S.left source.old) (λ input.
         ComesWhere result Status.TooLong (IsSomeAnd (asked words.now) (λ request. IsTrue (is_long most_bytes request input)))) }
     ensures refused { IfSome (S.left source.old) (λ input.
         ComesWhere result Status.Refused (AsksOf most_bytes (asked words.now) input (IsRefused (map (λ w. state w) watchers.old.items)))) }
     ensures too_many { IfSome (S.left source.old) (λ input.
         ComesWhere result Status.TooMany (AsksOf most_bytes (asked words.now) input (IsTooMuch (map (λ w. state w) watchers.old.items)))) }
+    ensures no_run { IfSome (S.left source.old) (λ input.
+        ComesWhere result Status.NoRun (AsksOf most_bytes (asked words.now) input IsNoRun)) }
     ensures statuses { IfSome (S.left source.old) (λ input. (status : Status) →
         ComesWhere result status (IsAnsweredWith most_bytes (asked words.now) (map (λ w. state w) watchers.old.items) (Some input) status)) }
 
@@ -210,6 +214,7 @@ fn reply_to<G: Gate + Sync, R: Threads + Wait + Sync>(
             watchers,
             gate,
         ),
+        Command::Replay => answer_replay(alloc, input),
         Command::Trial => answer_trial(rt, alloc, request.size),
     }
 }

@@ -1,5 +1,5 @@
 use Rattle.std.proofs.Common.{rules}
-use Rattle.bg_top.proofs.Ends.{words_from, long_from, refused_from, much_from, statuses_from, written_from, complete_from, untold_from}
+use Rattle.bg_top.proofs.Ends.{words_from, long_from, refused_from, much_from, no_run_from, statuses_from, written_from, complete_from, untold_from}
 use Rattle.bg_top.proofs.Right.{ended_right}
 use Rattle.bg_top.proofs.top.engine.Goals as goal
 
@@ -14,6 +14,9 @@ returns-clause-refused g c = refused_from _ _ _ _ _ _ _ _ _ _ _ (ended_right _ _
 
 pub returns-clause-too_many : goal.returns-clause-too_many
 returns-clause-too_many g c = much_from _ _ _ _ _ _ _ _ _ _ _ (ended_right _ _ _ _ _ _ _ _ _ _ _ _ c.run.ensures.ended)
+
+pub returns-clause-no_run : goal.returns-clause-no_run
+returns-clause-no_run g c = no_run_from _ _ _ _ _ _ _ _ _ _ _ (ended_right _ _ _ _ _ _ _ _ _ _ _ _ c.run.ensures.ended)
 
 pub returns-clause-statuses : goal.returns-clause-statuses
 returns-clause-statuses g c = statuses_from _ _ _ _ _ _ _ _ _ _ _ (ended_right _ _ _ _ _ _ _ _ _ _ _ _ c.run.ensures.ended)

@@ -1,0 +1,3 @@
+pub mod ReplayText
+pub mod Replay
+pub mod Judging
