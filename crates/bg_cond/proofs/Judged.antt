@@ -79,10 +79,10 @@ module _ (host : HostState) (rules : List RuleParts) (step : Step) where
       other_there = At-below legal.enabled.there
 
       own_class : (class : ℕ) → HasClass rules step.rule class → class ≡ enabled.0
-      own_class class has = has.2.1 ∙ ap (λ (r : RuleParts). r.class) (At-one has.2.0 enabled.1.there) ∙ enabled.1.of_class
+      own_class class has = has.2 ∙ ap (λ (r : RuleParts). r.class) (At-one has.1 enabled.1.there) ∙ enabled.1.of_class
 
       first_class : (class : ℕ) → HasClass rules other.rule class → class ≡ legal.class
-      first_class class has = has.2.1 ∙ ap (λ (r : RuleParts). r.class) (At-one has.2.0 legal.enabled.there) ∙ legal.enabled.of_class
+      first_class class has = has.2 ∙ ap (λ (r : RuleParts). r.class) (At-one has.1 legal.enabled.there) ∙ legal.enabled.of_class
 
       pub judged_higher : (class higher : ℕ) → HasClass rules step.rule class → HasClass rules other.rule higher → higher < class → IsHigher host rules step other
       judged_higher class higher own its less =
