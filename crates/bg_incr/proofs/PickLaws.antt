@@ -43,6 +43,15 @@ At_take (suc n) [] below a = elim a [ ]
 At_take (suc n) (y ∷ ys) below (at_here e) = at_here e
 At_take (suc n) (y ∷ ys) below (at_there a) = at_there (At_take n ys (omega (arith, below)) a)
 
+pub nil_of : {X : Type 0} (xs : List X) → length xs ≡ 0 → xs ≡ []
+nil_of [] none = refl
+nil_of (x ∷ xs) none = absurd (omega (arith, none))
+
+pub take_within : {X : Type 0} (n : ℕ) (xs : List X) → length (take n xs) ≤ length xs
+take_within zero xs = omega arith
+take_within (suc n) [] = omega arith
+take_within (suc n) (x ∷ xs) = let rest = take_within n xs in omega (arith, rest)
+
 -- ---- what is kept of the rules from a number on
 
 abbrev pub kept_from : ℕ → List RuleParts → List KeptList → ℕ → List Step
@@ -167,7 +176,7 @@ module _ (class : ℕ) (rules : List RuleParts) (lists : List KeptList) where
     own_long =
         ap (λ (ss : List Step). length ss) (kept_next class rules lists number rule list a b)
         ∙ (length-append (steps_at number (kept_maps class rule list)) (kept_from class rules lists (number + 1))
-        ∙ ap (λ n. n + length (kept_from class rules lists (number + 1))) (length-map (λ (nodes : List ℕ). record { rule = number; map = nodes }) (kept_maps class rule list)))
+        ∙ ap (λ n. n + length (kept_from class rules lists (number + 1))) (length-map (kept_maps class rule list) (λ (nodes : List ℕ). record { rule = number; map = nodes })))
 
     pub counted_next : (more : ℕ) → more ≡ length (kept_maps class rule list) → more < most_candidates - count → IsCounted (number + 1) (count + more)
     counted_next more e room =
@@ -209,11 +218,11 @@ module _ (class : ℕ) (rules : List RuleParts) (lists : List KeptList) where
       omega (arith, none, below)
 
   module _ (place number left : ℕ) (rule : RuleParts) (list : KeptList) (a : At rule number rules) (b : At list number lists) (is : IsLeft place number left) where
-    own : List Step
+    abbrev own : List Step
     own = steps_at number (kept_maps class rule list)
 
     as_long : length own ≡ length (kept_maps class rule list)
-    as_long = length-map (λ (nodes : List ℕ). record { rule = number; map = nodes }) (kept_maps class rule list)
+    as_long = length-map (kept_maps class rule list) (λ (nodes : List ℕ). record { rule = number; map = nodes })
 
     pub left_here : (nodes : List ℕ) → At nodes left (kept_maps class rule list) → At (record { rule = number; map = nodes }) place (kept_steps class 0 rules lists)
     left_here nodes at =

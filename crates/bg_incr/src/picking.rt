@@ -102,7 +102,8 @@ fn step_at(alloc: Global, rules: &[Rule], lists: &[KeptList], class: u32, place:
     for (number, rule) in rules.iter().enumerate() {
         let maps = maps_of(rule, &lists[number], class);
         if left < maps.len() {
-            return step_of(alloc, number as u32, &maps[left]);
+            let step = step_of(alloc, number as u32, &maps[left])?;
+            return Ok(step);
         }
         left -= maps.len();
     }

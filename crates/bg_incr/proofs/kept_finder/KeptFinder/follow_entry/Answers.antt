@@ -14,8 +14,8 @@ returns-in_err-causes-clause-no_memory c =
     let some = subst (λ (f : FinderState). HasFollowedSome c.args.system.now.rules f.version f.host entries c.take.new.self.version c.take.new.self.host) c.self.view_is none in
     search (rules, some)
 
-pub returns-in_err-lists-clause-no_memory : goal.returns-in_err-lists-clause-no_memory
-returns-in_err-lists-clause-no_memory c =
+pub returns-in_err-self-inside-clause-no_memory : goal.returns-in_err-self-inside-clause-no_memory
+returns-in_err-self-inside-clause-no_memory c =
     let entries = c.args.entry.now ∷ [] in
     let all = followed_all c.args.system.now.rules c.self.inside.replica.version c.self.inside.replica.host entries c.in_ok-causes.ensures.followed in
     let some = subst (λ (f : FinderState). HasFollowedSome c.args.system.now.rules f.version f.host entries c.take.new.self.version c.take.new.self.host) c.self.view_is all in
