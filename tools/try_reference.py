@@ -4,7 +4,7 @@
     python3 tools/try_reference.py PROGRAM [COUNT] [SEED]
 
 PROGRAM is the built program. The cases are those made by hand (tools/reference/cases.py) and COUNT at random (1,000 where
-it is not given): models, hosts with redexes, runs of one worker, listings and words, many of them damaged. The same SEED (1
+it is not given): models, hosts with redexes, runs of one worker, journals in front of models, listings and words, many of them damaged. The same SEED (1
 where it is not given) makes the same cases. Exit status and standard output have to be the same, and nothing may stand on
 standard error. Each difference is told with its words and its input. The last line is `N cases, M different`, also after
 Ctrl-C; the status is 1 where M > 0.

@@ -1,6 +1,7 @@
 """The cases made by hand: models, runs, listings and words."""
 from .model_cases import EMPTY_BLOCK, entries, model_cases
 from .mutations import listing_bytes
+from .replay_cases import replay_cases
 from .rows import EMPTY, listing
 from .run_cases import run_cases
 
@@ -79,7 +80,7 @@ def listing_cases():
 
 def cases():
     """Each case: its words and its input."""
-    found = model_cases() + run_cases()
+    found = model_cases() + run_cases() + replay_cases()
     found += [(['compose'], listing_bytes(lines)) for lines in listing_cases()]
     found += [(words.split(), f'big s = 1; {EMPTY_BLOCK}'.encode()) for words in WORDS]
     found += [(words, b'') for words in (['check', ''], ['', 'check'], ['check', '--most', ''], ['check', '--most', '\u0665'])]

@@ -4,6 +4,7 @@ from .faults import arithmetic, beginning, pair_of_faults
 from .hosts import host_model
 from .models import ModelMaker
 from .mutations import damaged, damaged_listing, laid_out, listing_bytes, words_of
+from .replay_cases import replay_case
 from .rows import EMPTY, faulty_pair, valid_pair
 from .run_models import run_model
 from .runs import drawn_run
@@ -53,6 +54,8 @@ def words_case(random):
     words = random_words(random)
     if 'compose' in words:
         return words, listing_bytes(['signature 0'] + EMPTY * 2)
+    if 'replay' in words:
+        return words, b'journal 1\nend\n' + QUIET_ATOMS
     return words, QUIET_ATOMS if 'run' in words else THREE_ATOMS
 
 
@@ -75,8 +78,10 @@ def draw(random):
         return model_case(random, [0.15, 0.25], [0, 0, 0, 1])
     if chance < 0.56:
         return host_case(random)
-    if chance < 0.72:
+    if chance < 0.66:
         return run_case(random)
+    if chance < 0.72:
+        return replay_case(random)
     if chance < 0.83:
         return listing_case(random)
     if chance < 0.88:

@@ -54,6 +54,9 @@ def host_lines(system, host):
     return [f'host {host.next_node} {host.next_edge}'] + bigraph_lines(system.labels, host.big)
 
 
+def journal_lines(entries):
+    return ['journal 1'] + [f'step {worker} {step_words(rule, nodes)}' for worker, rule, nodes in entries] + ['end']
+
+
 def run_lines(system, run):
-    lines = ['journal 1'] + [f'step {worker} {step_words(rule, nodes)}' for worker, rule, nodes in run.entries] + ['end']
-    return lines + [run.end] + predicate_lines(system, run.host) + watch_lines(run) + host_lines(system, run.host)
+    return journal_lines(run.entries) + [run.end] + predicate_lines(system, run.host) + watch_lines(run) + host_lines(system, run.host)

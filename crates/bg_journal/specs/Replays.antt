@@ -1,5 +1,5 @@
 -- What a journal is of a system: a run from its first host, or one up to an entry that is not taken.
-use Rattle.std.specs.Prelude.{◌≡◌, ◌≢◌, ℕ, List, take}
+use Rattle.std.specs.Prelude.{◌≢◌, ℕ, List, take}
 use Rattle.bg_lists.specs.Lists.{At}
 use Rattle.bg_base.specs.declared.history.Entry.{Entry}
 use Rattle.bg_base.specs.declared.history.Step.{Step}

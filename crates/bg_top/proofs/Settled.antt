@@ -50,13 +50,13 @@ match_is_run (too_many first) no_run = absurd cc
 -- a command whose answer tells of no run is `replay`, and there is none
 pub no_run_with : (request : Request) (watchers : List Watched) (command : Command) (input : List ℕ) (answer : Answer)
     → (promise_with request watchers command).makes input answer → answer.status ≡ NoRun → (command ≡ Replay) × IsNoRunInput input
-no_run_with request watchers Compose input answer made is = absurd (done_is_run made.0 is)
-no_run_with request watchers Check input answer made is = absurd (done_is_run made.0 is)
-no_run_with request watchers Show input answer made is = absurd (done_is_run made.0 is)
-no_run_with request watchers Match input answer made is = absurd (match_is_run made.answers is)
-no_run_with request watchers Run input answer made is = absurd (done_is_run made.0 is)
-no_run_with request watchers Replay input answer made is = (refl, (told_no_run input answer made).0 is)
-no_run_with request watchers Trial input answer made is = absurd (done_is_run made.0 is)
+no_run_with request watchers Compose input answer m is = absurd (done_is_run m.0 is)
+no_run_with request watchers Check input answer m is = absurd (done_is_run m.0 is)
+no_run_with request watchers Show input answer m is = absurd (done_is_run m.0 is)
+no_run_with request watchers Match input answer m is = absurd (match_is_run m.answers is)
+no_run_with request watchers Run input answer m is = absurd (done_is_run m.0 is)
+no_run_with request watchers Replay input answer m is = (refl, (told_no_run input answer m).0 is)
+no_run_with request watchers Trial input answer m is = absurd (done_is_run m.0 is)
 
 -- where there is none, what `replay` makes of the input tells it, and it is not refused
 pub told_with : (request : Request) (watchers : List Watched) (command : Command) (input : List ℕ) (answer : Answer) → command ≡ Replay

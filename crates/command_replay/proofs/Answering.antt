@@ -17,7 +17,7 @@ use Rattle.bg_journal.specs.declared.outcome.Replay.TheVariants.{Legal}
 use Rattle.bg_rules.specs.Reaction.{HostState}
 use Rattle.bg_rules.specs.Systems.{SystemParts, IsSystem}
 use Rattle.command_replay.specs.Judging.{Judges}
-use Rattle.command_replay.specs.Replay.{IsReplayAnswer, stopped, replayed, replay_promise}
+use Rattle.command_replay.specs.Replay.{IsJournalAndModel, IsReplayAnswer, stopped, replayed, replay_promise}
 use Rattle.command_replay.specs.ReplayText.{bad_at}
 
 -- the text of the journal is no longer than the bytes
@@ -27,17 +27,24 @@ used_within {bytes} {entries} {used} begins =
     = ap length begins.text_there ∙ length-append (journal_text entries) (drop used bytes) in
     omega (arith, long, begins.text_length)
 
+-- the bytes are the text of the journal and the model behind it
+parts_of : {bytes : List ℕ} {entries : List Entry} {used : ℕ} (model : List ℕ) → BeginsWith bytes entries used → model ≡ drop used bytes
+    → IsJournalAndModel bytes entries model
+parts_of {bytes} {entries} {used} model begins behind = record {
+  journal = begins.journal;
+  input_is = begins.text_there ∙ ap (λ (m : List ℕ). journal_text entries ++ m) (sym behind);
+}
+
 -- what is told of the model behind the journal is told of the input
 pub told_behind : {bytes : List ℕ} {entries : List Entry} {used : ℕ} (model : List ℕ) (result : Result Reply Failure) → BeginsWith bytes entries used
     → model ≡ drop used bytes → Judges entries model result → Keeps replay_promise result bytes
 told_behind {bytes} {entries} {used} model (Ok reply) begins behind judged =
     subst (IsReplayAnswer bytes) (sym judged.told)
-    (replayed (record { journal = begins.journal; input_is = begins.text_there ∙ ap (λ m. journal_text entries ++ m) (sym behind) })
-    judged.described judged.right)
+    (replayed {entries = entries} {model = model} {system = judged.system} judged.replay (parts_of model begins behind) judged.described judged.right)
 told_behind {bytes} {entries} model (Err (Refused refusal)) begins behind judged = record {
   entries = entries;
   model = model;
-  parts = record { journal = begins.journal; input_is = begins.text_there ∙ ap (λ m. journal_text entries ++ m) (sym behind) };
+  parts = parts_of model begins behind;
   refused = judged;
 }
 told_behind model (Err OutOfMemory) begins behind judged = tt

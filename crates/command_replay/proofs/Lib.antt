@@ -1,2 +1,3 @@
 mod Answering
 pub mod Settled
+mod Texts

@@ -45,11 +45,11 @@ module _ (input : List ℕ) where
   no_text {line} bad = λ has. journals.no_journal input line bad has.value has.rest has.fits has.there
 
   -- two replays of one input are of one system
-  one_told : {entries others : List Entry} {model other : List ℕ} {system twin : SystemParts} {replay second : Replay}
+  one_told : {entries others : List Entry} {model other : List ℕ} {system twin : SystemParts} (replay second : Replay)
       → IsJournalAndModel input entries model → IsReading model (Ok system) → IsReplayOf system entries replay
       → IsJournalAndModel input others other → IsReading other (Ok twin) → IsReplayOf twin others second
       → (system ≡ twin) × (replay ≡ second)
-  one_told {entries} {others} {model} {other} {system} {twin} {replay} {second} parts described right parts2 described2 right2 =
+  one_told {entries} {others} {model} {other} {system} {twin} replay second parts described right parts2 described2 right2 =
       let same = one_pair parts2 parts in
       let read : IsReading model (Ok twin) = subst (λ (m : List ℕ). IsReading m (Ok twin)) same.1 described2 in
       let one : twin ≡ system = one_system model read described in
@@ -60,17 +60,17 @@ module _ (input : List ℕ) where
   pub one_answer : (one other : Answer) → IsReplayAnswer input one → IsReplayAnswer input other → one ≡ other
   one_answer one other (stopped {line = line} bad) (stopped {line = second} also) =
       ap (λ n. bad_at n) (journals.one_bad_line input line second bad also)
-  one_answer one other (stopped bad) (replayed parts described right) = absurd (not_bad bad parts)
-  one_answer one other (replayed parts described right) (stopped bad) = absurd (not_bad bad parts)
-  one_answer one other (replayed {system = system} {replay = replay} parts described right) (replayed {system = twin} {replay = second} parts2 described2 right2) =
-      let same = one_told parts described right parts2 described2 right2 in
+  one_answer one other (stopped bad) (replayed replay parts described right) = absurd (not_bad bad parts)
+  one_answer one other (replayed replay parts described right) (stopped bad) = absurd (not_bad bad parts)
+  one_answer one other (replayed {system = system} replay parts described right) (replayed {system = twin} second parts2 described2 right2) =
+      let same = one_told replay second parts described right parts2 described2 right2 in
       ap (λ (s : SystemParts). telling s.signature replay) same.0 ∙ ap (λ (r : Replay). telling twin.signature r) same.1
 
   -- what is made of an input is not refused
   unrefused : (answer : Answer) (refusal : Refusal) → IsReplayAnswer input answer → IsRefusedBehind input refusal → ⊥
-  unrefused answer refusal (stopped bad) refused = not_bad bad refused.parts
-  unrefused answer refusal (replayed {model = model} parts described right) refused =
-      no_system model described (subst (λ (m : List ℕ). IsRefusedModel m refusal) (one_pair refused.parts parts).1 refused.refused)
+  unrefused answer refusal (stopped bad) away = not_bad bad away.parts
+  unrefused answer refusal (replayed {model = model} replay parts described right) away =
+      no_system model described (subst (λ (m : List ℕ). IsRefusedModel m refusal) (one_pair away.parts parts).1 away.refused)
 
   one_refused : (one other : Refusal) → IsRefusedBehind input one → IsRefusedBehind input other → one ≡ other
   one_refused one other first second =
@@ -95,24 +95,24 @@ module _ (input : List ℕ) where
       none host (subst (λ (s : SystemParts). IsRun s.rules s.init others host) one
       (subst (λ (es : List Entry). IsRun system.rules system.init es host) same.0 run))
 
-  illegal_is_no_run : {entries : List Entry} {model : List ℕ} {system : SystemParts} {replay : Replay} → IsJournalAndModel input entries model
+  illegal_is_no_run : {entries : List Entry} {model : List ℕ} {system : SystemParts} (replay : Replay) → IsJournalAndModel input entries model
       → IsReading model (Ok system) → IsReplayOf system entries replay → ((host : HostState) → replay ≢ Legal host) → IsNoRun input
-  illegal_is_no_run {entries} {model} {system} {replay} parts described right illegal =
+  illegal_is_no_run {entries} {model} {system} replay parts described right illegal =
       no_run parts described (λ host run. illegal host (one_replay system entries replay (Legal host) (described_is_system model system described) right run))
 
   told_of : {entries : List Entry} {model : List ℕ} {system : SystemParts} (replay : Replay) → IsJournalAndModel input entries model
       → IsReading model (Ok system) → IsReplayOf system entries replay → ((telling system.signature replay).status ≡ NoRun ↔ IsNoRun input)
   told_of (Legal host) parts described right = ((λ same. absurd cc), (λ none. absurd (legal_is_run parts described right none)))
-  told_of (Illegal step why) parts described right = ((λ same. illegal_is_no_run parts described right (λ host same. absurd cc)), (λ none. refl))
+  told_of (Illegal step why) parts described right = ((λ same. illegal_is_no_run (Illegal step why) parts described right (λ host other. absurd cc)), (λ none. refl))
 
   pub told_no_run : (answer : Answer) → IsReplayAnswer input answer → (answer.status ≡ NoRun ↔ IsNoRun input)
   told_no_run answer (stopped bad) = ((λ same. no_journal (no_text bad)), (λ none. refl))
-  told_no_run answer (replayed {replay = replay} parts described right) = told_of replay parts described right
+  told_no_run answer (replayed replay parts described right) = told_of replay parts described right
 
   pub no_run_unrefused : (refusal : Refusal) → IsNoRun input → IsRefusedBehind input refusal → ⊥
-  no_run_unrefused refusal (no_journal none) refused = none (has_text refused.parts)
-  no_run_unrefused refusal (no_run {model = model} parts described none) refused =
-      no_system model described (subst (λ (m : List ℕ). IsRefusedModel m refusal) (one_pair refused.parts parts).1 refused.refused)
+  no_run_unrefused refusal (no_journal none) away = none (has_text away.parts)
+  no_run_unrefused refusal (no_run {model = model} parts described none) away =
+      no_system model described (subst (λ (m : List ℕ). IsRefusedModel m refusal) (one_pair away.parts parts).1 away.refused)
 
 -- ---- the law
 
@@ -124,15 +124,15 @@ replay_is_no_refusal signature (Illegal step why) = ((λ e. absurd cc), (λ e. a
 no_refusal : {input : List ℕ} (answer : Answer) → IsReplayAnswer input answer
     → (answer.status ≢ Refused) × (answer.status ≢ WrongWords) × (answer.status ≢ TooLong)
 no_refusal answer (stopped bad) = ((λ e. absurd cc), (λ e. absurd cc), (λ e. absurd cc))
-no_refusal answer (replayed {system = system} {replay = replay} parts described right) = replay_is_no_refusal system.signature replay
+no_refusal answer (replayed {system = system} replay parts described right) = replay_is_no_refusal system.signature replay
 
 pub replay_settled : IsSettled replay_promise
 replay_settled =
     record {
       one_status = λ input one other first second. ap (λ (a : Answer). a.status) (one_answer input one other first second);
-      no_refusal = λ input answer made. no_refusal answer made;
-      refused_unmade = λ input answer refusal made refused. unrefused input answer refusal made refused;
-      refused_unaccepted = λ input refusal accepted refused.
-          no_system accepted.model accepted.accepted.described
-          (subst (λ (m : List ℕ). IsRefusedModel m refusal) (one_pair input refused.parts accepted.parts).1 refused.refused);
+      no_refusal = λ input answer m. no_refusal answer m;
+      refused_unmade = λ input answer refusal m away. unrefused input answer refusal m away;
+      refused_unaccepted = λ input refusal taken away.
+          no_system taken.model taken.accepted.described
+          (subst (λ (m : List ℕ). IsRefusedModel m refusal) (one_pair input away.parts taken.parts).1 away.refused);
     }

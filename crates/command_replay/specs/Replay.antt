@@ -38,7 +38,7 @@ pub record IsRefusedBehind (input : List ℕ) (refusal : Refusal) : Type 0 where
 -- the line at which the input stops being the text of a journal; or what the journal is of the system that the model describes
 pub data IsReplayAnswer (input : List ℕ) : Answer → Type 0 where
   stopped : {line : ℕ} → IsBadAt input line → IsReplayAnswer input (bad_at line)
-  replayed : {entries : List Entry} {model : List ℕ} {system : SystemParts} {replay : Replay} → IsJournalAndModel input entries model
+  replayed : {entries : List Entry} {model : List ℕ} {system : SystemParts} (replay : Replay) → IsJournalAndModel input entries model
       → IsReading model (Ok system) → IsReplayOf system entries replay → IsReplayAnswer input (telling system.signature replay)
 
 abbrev pub replay_promise : Promise

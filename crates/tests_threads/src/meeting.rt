@@ -3,11 +3,11 @@ ghost use Rattle.std.specs.Prelude.{◌≤◌};
 ghost use Rattle.bg_base.specs.Limits.{most_steps};
 
 use crate::models::{Model, system_of};
-use bg_base::{Entry, Step};
-use bg_cond::{End, Gate, Moment, OpenGate, Verdict, judge, steps, take_step};
+use bg_base::Entry;
+use bg_cond::{End, Gate, Moment, OpenGate, steps};
 use bg_io::{MemorySink, MemorySource};
-use bg_lists::{Duplicate, Mem, OutOfMemory};
-use bg_rules::{Host, ReactFault, System};
+use bg_journal::{Replay, replay};
+use bg_lists::Mem;
 use bg_runs::{FinishedRun, run};
 use bg_top::engine;
 use std::alloc::{AllocError, Global};
@@ -96,33 +96,6 @@ pub(crate) fn office(alloc: Global, size: u32) -> Mem<String> {
     Ok(text)
 }
 
-/// The step is legal at the host, and is taken.
-fn is_taken(alloc: Global, system: &System, host: &mut Host, step: &Step) -> Mem<bool> {
-    match judge(alloc, host, system, step)? {
-        Verdict::Legal => match take_step(alloc, host, system, step) {
-            Ok(()) => Ok(true),
-            Err(ReactFault::Full) => Ok(false),
-            Err(ReactFault::OutOfMemory) => Err(OutOfMemory),
-        },
-        _ => Ok(false),
-    }
-}
-
-/// The host after these entries; nothing where one of them is not legal.
-fn replayed(alloc: Global, system: &System, entries: &[Entry]) -> Mem<Option<Host>> {
-    let mut host = system.init().copy(alloc)?;
-    for entry in entries {
-        let step = Step {
-            rule: entry.rule,
-            map: entry.map.copy(alloc)?,
-        };
-        if !is_taken(alloc, system, &mut host, &step)? {
-            return Ok(None);
-        }
-    }
-    Ok(Some(host))
-}
-
 /// Each worker has a number below that.
 fn are_below(entries: &[Entry], workers: u32) -> bool {
     entries.iter().all(|entry| entry.worker < workers)
@@ -145,9 +118,9 @@ fn is_right(alloc: Global, run: &FinishedRun, limit: u32, workers: u32) -> Mem<b
     if !are_below(entries, workers) || !is_right_end(alloc, run, limit)? {
         return Ok(false);
     }
-    match replayed(alloc, &run.system, entries)? {
-        Some(host) => Ok(host.big() == run.host.big()),
-        None => Ok(false),
+    match replay(alloc, &run.system, &run.journal)? {
+        Replay::Legal { host } => Ok(host.big() == run.host.big()),
+        Replay::Illegal { .. } => Ok(false),
     }
 }
 
