@@ -1,13 +1,13 @@
 #!/usr/bin/env python3
 """Runs every command of the program on inputs that a hostile author would write, with a clock and a bound on memory.
 
-    python3 tools/try_hostile.py [--peer PATH] [--only PART] [--command NAME ..] [--all] PROGRAM
+    python3 tools/try_hostile.py [--peer PATH] [--only PART ..] [--command NAME ..] [--all] PROGRAM
 
 The cases stand in tools/hostile: models and listings at each limit and one past it (limits, listings), hosts and redexes of
 shapes that hurt (shapes), many and large rules (rules), texts that are no models (damaged). Of each run is told its status,
 its seconds and the most memory of the process; with --peer also the seconds of another program of the same commands, and
 whether both wrote the same (of several workers only the statuses have to agree). Each run is one of `check`, `show`, `match`,
-`explain` (`match --explain`), `run`, `workers` (`run --workers 8`), `compose`. --only takes the cases with PART in their
+`explain` (`match --explain`), `run`, `workers` (`run --workers 8`), `compose`. --only takes the cases with a PART in their
 names, --command these commands. Without --all a run is told where it is wrong, or takes more than a second.
 
 A run is wrong where its status is another than its case expects, where the answer does not begin as it says, where anything
@@ -32,7 +32,7 @@ from hostile.case import COMMANDS, SECONDS
 
 CASES = [*limits.CASES, *listings.CASES, *shapes.CASES, *rules.CASES, *damaged.CASES]
 # the address space of a run, in which each thread has room for its stack, and the most that it may write
-ADDRESSES = 8 * 2**30
+ADDRESSES = 4 * 2**30
 WRITTEN = 2 * 2**30
 PATIENCE = 3
 # from here on a status tells of a signal
@@ -140,7 +140,7 @@ def parsed():
     parser = argparse.ArgumentParser(description=__doc__, formatter_class=argparse.RawDescriptionHelpFormatter)
     parser.add_argument('program')
     parser.add_argument('--peer')
-    parser.add_argument('--only', default='', metavar='PART')
+    parser.add_argument('--only', nargs='+', default=[''], metavar='PART')
     parser.add_argument('--command', nargs='+', default=COMMANDS, choices=COMMANDS, metavar='NAME')
     parser.add_argument('--all', action='store_true')
     return parser.parse_args()
@@ -153,7 +153,7 @@ def main():
         with tempfile.TemporaryDirectory() as folder:
             room = pathlib.Path(folder)
             for case in CASES:
-                if options.only not in case.name:
+                if not any(part in case.name for part in options.only):
                     continue
                 (room / 'input').write_bytes(case.input())
                 for command in options.command:

@@ -1,16 +1,11 @@
 """Many rules, predicates and conditions, and large ones."""
 from .case import accepted, refused
-from .texts import BYTES, CONTROLS, POWER, block, doubled, joined, model, powers, up_to
+from .texts import BYTES, CONTROLS, MANY, POWER, block, doubled, joined, model, powers, times, up_to
 
 CHOICES = ' int n = [0:1:63]; int m = [0:1:63];'
 LARGE = 1024
 # a text that is written 4,096 times
 LABEL = 20_000
-
-
-def times(operand, count, operator=' | '):
-    """So many of one operand."""
-    return operator.join([operand] * count)
 
 
 def many(rule, host, statements=''):
@@ -51,6 +46,24 @@ def copies():
     return model(f'big s = N.({times("A", 16)});\n{doubled("M.id", "|", 12)}react r = N.id --> p12 @ [{entries}];\n', 'r')
 
 
+def names():
+    """A redex as large as the host, each node on a name of its own."""
+    nodes = joined('|', lambda n: f'P{{x{n}}}', 2**15)
+    return model(f'big s = {nodes};\nreact r = s --> s;\n', 'r')
+
+
+def brackets():
+    """4,096 operands, each in 250 brackets."""
+    operand = '(' * 250 + 'A' + ')' * 250
+    return model(f'big s = {times(operand, 4096)};\n')
+
+
+def shared():
+    """8 MB of references to a rule, each with the same list of 4,096 values."""
+    values = f'int n = {{{joined(",", str, 4096)}}};\n'
+    return f'{CONTROLS}big s = A;\nfun react r(n) = A --> A;\n{values}' + block(times('r(n)', 1_600_000, ','))
+
+
 STAR = doubled('A', '|', POWER)
 CHAIN = doubled('N.id', '*', POWER)
 
@@ -79,7 +92,7 @@ CASES = [
     accepted('definitions', each(lambda n: f'big room{n} = N.(A | P{{x}} | /y D{{x,y}});\n')),
     accepted('statements', each(lambda n: f'react move{n} = A | N.(P{{x}} | id) --> N.(A | P{{x}} | id) if !D{{x,y}} in ctx;\n'), mebibytes=2048),
     accepted('values', each(lambda n: f'int n{n} = [0:1:4095];\n')),
-    accepted('redex_names', lambda: model('big s = ' + joined('|', lambda n: f'P{{x{n}}}', 2**15) + ';\nreact r = s --> s;\n', 'r'), count=float('inf'), most=1),
-    accepted('brackets_many', lambda: model('big s = ' + joined('|', lambda n: 250 * '(' + 'A' + 250 * ')', 4096) + ';\n')),
-    refused('choices_shared', lambda: CONTROLS + f'big s = A;\nfun react r(n) = A --> A;\nint n = {{{joined(",", str, 4096)}}};\n' + block(','.join(['r(n)'] * 1_600_000)), '52 TooLarge rules', mebibytes=2048),
+    accepted('redex_names', names, count=MANY, most=1),
+    accepted('brackets_many', brackets),
+    refused('choices_shared', shared, '52 TooLarge rules', mebibytes=2048),
 ]

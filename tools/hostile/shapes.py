@@ -1,12 +1,11 @@
 """Hosts and redexes of shapes that hurt, each at the limit of nodes or of what its rule's occurrences come to."""
 from .case import accepted
-from .texts import POWER, ROWS, doubled, joined, mixed, model, one_rule, powers
+from .texts import MANY, POWER, ROWS, doubled, joined, mixed, model, one_rule, powers, times
 
 CHAIN = doubled('N.id', '*', POWER)
 STAR = doubled('A', '|', POWER)
 LINK = doubled('P{x}', '|', POWER)
 REGIONS = doubled('A', '||', POWER)
-MANY = ROWS * ROWS
 
 
 def chain(redex, host='p16 * 1', **more):
@@ -27,11 +26,6 @@ def link(redex, host='p16', **more):
 def regions(redex, host='p16', **more):
     """65,536 regions with a node each."""
     return lambda: one_rule(host, redex, REGIONS, **more)
-
-
-def times(operand, count, operator=' | '):
-    """So many of one operand."""
-    return operator.join([operand] * count)
 
 
 def named_nodes():
@@ -80,7 +74,8 @@ CASES = [
     accepted('chain_of_ten', chain('N.' * 10 + 'id'), count=ROWS - 9),
     accepted('chain_end', chain('N.1'), count=1),
     accepted('chain_dropped', chain('N.id', reactum='1', behind=' @ []'), count=ROWS),
-    accepted('chain_apart', chain('N.id || A', 'p15 * (N.1 | A)'), count=2**15),
+    accepted('chain_beside', chain('N.id || A', 'p15 * 1 | A'), count=2**15),
+    accepted('chain_apart', chain('N.id || A', 'p15 * (N.1 | A)'), count=1),
     accepted('chain_nested', chain('N.id || N.id', 'p11 * 1')),
     accepted('chain_copied', chain('M.id', 'M.p14 * 1', reactum='M.id | M.id', behind=' @ [0, 0]'), count=1),
     accepted('tree', trees, count=2 * (2**14 - 1)),
@@ -88,8 +83,8 @@ CASES = [
     accepted('star_pairs', star('A | A'), count=MANY),
     accepted('star_ten', star(times('A', 10)), count=MANY),
     accepted('star_without', star('N.(A | B | id)')),
-    accepted('three_apart', star('A | A | A | B', f'M.({powers(2000)}) | M.B')),
-    accepted('three_in_two', star('N.(A | A | A | id) || M.(A | B | id)', f'N.({powers(2000)}) | M.({powers(2000)}) | M.B')),
+    accepted('three_apart', star('A | A | A | B', f'M.({powers(400)}) | M.B')),
+    accepted('three_in_two', star('N.(A | A | A | id) || M.(A | B | id)', f'N.({powers(200)}) | M.({powers(200)}) | M.B')),
     accepted('link', link('P{x} | Q{x}', 'p15 | Q{x}'), count=2**15),
     accepted('link_pairs', link('P{x} || P{x}'), count=MANY),
     accepted('link_closed', link('/x (P{x} | P{x})', '/x p16')),

@@ -12,6 +12,8 @@ ctrl M = 0;
 BYTES = 8_388_608
 ROWS = 65_536
 POWER = 16
+# occurrences that are more than `match` may be asked for
+MANY = ROWS * ROWS
 
 
 def block(rules='', preds='', params='', init='s'):
@@ -38,6 +40,11 @@ def doubled(first, operator, count, name='p'):
 def powers(number, operator='|', name='p'):
     """So many of p0, of the bigraphs of `doubled`."""
     return f' {operator} '.join(f'{name}{k}' for k in range(number.bit_length()) if number >> k & 1)
+
+
+def times(operand, count, operator=' | '):
+    """So many of one operand."""
+    return operator.join([operand] * count)
 
 
 def joined(operator, operand, count):
