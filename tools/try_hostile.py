@@ -31,7 +31,8 @@ from hostile import damaged, limits, listings, rules, shapes
 from hostile.case import COMMANDS, SECONDS
 
 CASES = [*limits.CASES, *listings.CASES, *shapes.CASES, *rules.CASES, *damaged.CASES]
-# the address space of a run, in which each thread has room for its stack, and the most that it may write
+# the stack of a run, its address space, in which each thread has room for its own, and the most that it may write
+STACK = 8 * 2**20
 ADDRESSES = 4 * 2**30
 WRITTEN = 2 * 2**30
 PATIENCE = 3
@@ -53,6 +54,7 @@ class Run:
 
 def limited():
     """The bounds of a child, which has no terminal and writes no core."""
+    resource.setrlimit(resource.RLIMIT_STACK, (STACK, STACK))
     resource.setrlimit(resource.RLIMIT_AS, (ADDRESSES, ADDRESSES))
     resource.setrlimit(resource.RLIMIT_FSIZE, (WRITTEN, WRITTEN))
     resource.setrlimit(resource.RLIMIT_CORE, (0, 0))
