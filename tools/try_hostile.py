@@ -5,13 +5,14 @@
 
 The cases stand in tools/hostile: models and listings at each limit and one past it (limits, listings), hosts and redexes of
 shapes that hurt (shapes), many and large rules (rules), texts that are no models (damaged). Of each run is told its status,
-its seconds and the most memory of the process; with --peer also the seconds of another program of the same commands, and
+its seconds of processor time and the most memory of the process; with --peer also the seconds of another program of the same commands, and
 whether both wrote the same (of several workers only the statuses have to agree). Each run is one of `check`, `show`, `match`,
 `explain` (`match --explain`), `run`, `workers` (`run --workers 8`), `compose`. --only takes the cases with a PART in their
 names, --command these commands. Without --all a run is told where it is wrong, or takes more than a second.
 
 A run is wrong where its status is another than its case expects, where the answer does not begin as it says, where anything
-is written on standard error, where it takes more seconds or memory than its case allows, and where the peer wrote something
+is written on standard error, where it takes more seconds or memory than its case allows (of several workers as many seconds
+each), where it has not ended after six times as long by the clock, and where the peer wrote something
 else. The last line is `N runs, M wrong`, also after Ctrl-C; the status is 1 where M > 0.
 """
 import argparse
@@ -25,17 +26,16 @@ import subprocess
 import sys
 import tempfile
 import threading
-import time
 
 from hostile import damaged, limits, listings, rules, shapes
-from hostile.case import COMMANDS, SECONDS
+from hostile.case import COMMANDS, SECONDS, WORKERS
 
 CASES = [*limits.CASES, *listings.CASES, *shapes.CASES, *rules.CASES, *damaged.CASES]
 # the stack of a run, its address space, in which each thread has room for its own, and the most that it may write
 STACK = 8 * 2**20
 ADDRESSES = 4 * 2**30
 WRITTEN = 2 * 2**30
-PATIENCE = 3
+PATIENCE = 6
 # from here on a status tells of a signal
 KILLED = 128
 TOLD_FROM = 1.0
@@ -43,7 +43,7 @@ TOLD_FROM = 1.0
 
 @dataclasses.dataclass
 class Run:
-    """How a run ended: its status, none where it was ended; seconds, mebibytes, the bytes that it wrote, and errors."""
+    """How a run ended: its status, none where it was ended; its seconds of processor time; what it took and wrote."""
 
     status: int | None
     seconds: float
@@ -61,11 +61,10 @@ def limited():
 
 
 def run(program, words, source, written, seconds):
-    """Runs a program on a file, into a file; ends it after so many seconds. /usr/bin/time tells its memory."""
+    """Runs a program on a file, into a file; ends it after so many seconds. /usr/bin/time tells its time and memory."""
     figures, errors = f'{written}.figures', f'{written}.errors'
-    told = ['/usr/bin/time', '-q', '-f', '%M', '-o', figures]
+    told = ['/usr/bin/time', '-q', '-f', '%U %S %M', '-o', figures]
     with open(source, 'rb') as given, open(written, 'wb') as taken, open(errors, 'wb') as wrong:
-        begun = time.perf_counter()
         child = subprocess.Popen([*told, program, *words], stdin=given, stdout=taken, stderr=wrong, preexec_fn=limited, start_new_session=True)
         ended = []
         timer = threading.Timer(seconds, lambda: (ended.append(True), os.killpg(child.pid, signal.SIGKILL)))
@@ -74,12 +73,11 @@ def run(program, words, source, written, seconds):
             status = child.wait()
         finally:
             timer.cancel()
-        passed = time.perf_counter() - begun
-    memory = pathlib.Path(figures).read_text().split()
+    user, system, memory = (0, 0, 0) if ended else pathlib.Path(figures).read_text().split()[-3:]
     return Run(
         status=None if ended else status,
-        seconds=passed,
-        mebibytes=int(memory[-1]) / 1024 if memory and not ended else 0,
+        seconds=float(user) + float(system),
+        mebibytes=int(memory) / 1024,
         size=os.path.getsize(written),
         errors=pathlib.Path(errors).read_text('latin1')[:200],
     )
@@ -91,11 +89,16 @@ def begins(written, text):
         return read.read(len(text)) == text.encode()
 
 
+def allowed(case, command):
+    """How many seconds of processor time a run may take."""
+    return case.seconds.get(command, SECONDS) * (WORKERS if command == 'workers' else 1)
+
+
 def wrongs(case, command, answer, written):
     """What is wrong with a run, in words."""
-    seconds = case.seconds.get(command, SECONDS)
+    seconds = allowed(case, command)
     if answer.status is None:
-        yield f'not ended in {PATIENCE * seconds:.0f} s'
+        yield 'not ended'
         return
     if answer.status not in case.statuses[command]:
         yield f'status {answer.status}, wanted {" or ".join(map(str, sorted(case.statuses[command])))}'
