@@ -91,7 +91,7 @@ CASES = [
     accepted('labels', labels, count=1),
     accepted('definitions', each(lambda n: f'big room{n} = N.(A | P{{x}} | /y D{{x,y}});\n')),
     accepted('statements', each(lambda n: f'react move{n} = A | N.(P{{x}} | id) --> N.(A | P{{x}} | id) if !D{{x,y}} in ctx;\n'), mebibytes=2048),
-    accepted('values', each(lambda n: f'int n{n} = [0:1:4095];\n')),
+    accepted('ranges', each(lambda n: f'int n{n} = [0:1:4095];\n')),
     accepted('redex_names', names, count=MANY, most=1),
     accepted('brackets_many', brackets),
     refused('choices_shared', shared, '52 TooLarge rules', mebibytes=2048),

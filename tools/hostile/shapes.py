@@ -90,7 +90,7 @@ CASES = [
     accepted('link_closed', link('/x (P{x} | P{x})', '/x p16')),
     accepted('link_others', link('P{x} | Q{x}', 'p15 | Q{y}')),
     accepted('links_crossed', link('D{x,y} | P{x} | Q{y}', 'p14 | D{x,y} | D{y,x} | Q{y}'), count=2**14),
-    accepted('regions', regions('A'), count=ROWS),
+    accepted('regions_each', regions('A'), count=ROWS),
     accepted('regions_pairs', regions('A || A'), count=MANY),
     accepted('regions_beside', regions('A | A')),
     accepted('regions_apart', regions('A || B', 'p15 || B'), count=2**15),
