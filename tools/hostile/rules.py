@@ -89,7 +89,7 @@ CASES = [
     accepted('conditions', conditioned(','.join(['!B in ctx'] * 4096), times('N.A', 64)), count=64),
     accepted('copies', copies, count=1),
     accepted('labels', labels, count=1),
-    accepted('definitions', each(lambda n: f'big room{n} = N.(A | P{{x}} | /y D{{x,y}});\n')),
+    accepted('definitions', each(lambda n: f'big room{n} = N.(A | P{{x}} | /y D{{x,y}});\n'), mebibytes=2048),
     accepted('statements', each(lambda n: f'react move{n} = A | N.(P{{x}} | id) --> N.(A | P{{x}} | id) if !D{{x,y}} in ctx;\n'), mebibytes=2048),
     accepted('ranges', each(lambda n: f'int n{n} = [0:1:4095];\n')),
     accepted('redex_names', names, count=MANY, most=1),
