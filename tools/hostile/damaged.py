@@ -103,7 +103,7 @@ CASES = [
         ('ends', 'end ', '31 Unexpected at 1:1'),
         ('lines', '\n', '53 NoBlock at 8388609:1'),
     ]),
-    *(refused(f'opened_{name}', before(front, word), said) for name, front, word, said in [
+    *(refused(f'opened_{name}', before(front, word), said, mebibytes=2048) for name, front, word, said in [
         ('brackets', 'big s = ', '(', '32 TooDeep at 1:265'),
         ('closures', 'big s = ', '/x ', '32 TooDeep'),
         ('signs', 'int n = ', '-', '32 TooDeep'),
@@ -112,8 +112,8 @@ CASES = [
         ('terms', 'big s = 1', '|1', '31 Unexpected'),
         ('controls', '', 'atomic ', '31 Unexpected at 1:8'),
     ]),
-    refused('operands', before('atomic ctrl A = 0; big s = A', '|A', ';'), '52 TooLarge nodes', mebibytes=2048),
-    refused('terms_in_one', before('big s = 1', '|1', ';'), '52 TooLarge terms', mebibytes=2048),
+    refused('operands', before('atomic ctrl A = 0; big s = A', '|A', ';'), '52 TooLarge nodes', mebibytes=3072),
+    refused('terms_in_one', before('big s = 1', '|1', ';'), '52 TooLarge terms', mebibytes=3072),
     refused('sums', before('int n = 1', '+1', ';'), '53 NoBlock', mebibytes=2048),
     refused('values_in_one', before('int n = {1', ',1', '};'), '52 TooLarge values', mebibytes=2048),
     refused('empty_classes', before('big s = 1; begin brs init s; rules = [{}', ',{}'), '31 Unexpected'),
