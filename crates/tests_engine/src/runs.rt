@@ -49,13 +49,13 @@ const TRIAL: &str = "trial 1\nnodes 4 edges 2\nrule 0 sit count 1\nrule 1 shut c
 steps 2 quiet\nhost nodes 3 edges 2\n";
 
 /// A building with three rooms and two agents beside them.
-const BUILDING: &str = "ctrl Building = 0;\nctrl Room = 0;\natomic ctrl Agent = 1;\n\
+pub const BUILDING: &str = "ctrl Building = 0;\nctrl Room = 0;\natomic ctrl Agent = 1;\n\
 big hall = Building.(Room.1 | Room.1 | Room.1 | Agent{a} | Agent{b});\n\
 react enter = Agent{x} | Room.id --> Room.(Agent{x} | id);\n\
 begin brs init hall; rules = [ {enter} ]; end\n";
 
 /// Where its rule occurs: at six maps.
-const ENTRANCES: &str = "rule 0 enter class 0 count 6\n4 1\n4 2\n4 3\n5 1\n5 2\n5 3\n";
+pub const ENTRANCES: &str = "rule 0 enter class 0 count 6\n4 1\n4 2\n4 3\n5 1\n5 2\n5 3\n";
 
 /// The lines of these maps.
 const MAPS: [&str; 6] = ["4 1\n", "4 2\n", "4 3\n", "5 1\n", "5 2\n", "5 3\n"];
@@ -74,13 +74,13 @@ struct Run {
 
 /// How a call ended: the status, and the bytes that the sink then held.
 #[derive(Drop)]
-struct End {
-    status: u8,
-    written: Vec<u8>,
+pub struct End {
+    pub status: u8,
+    pub written: Vec<u8>,
 }
 
 /// The words of a command line.
-fn words_of(alloc: Global, texts: &[&str]) -> Result<Vec<String>, AllocError> {
+pub fn words_of(alloc: Global, texts: &[&str]) -> Result<Vec<String>, AllocError> {
     let mut words = Vec::new(alloc);
     for text in texts {
         words.push(String::from_str(alloc, text)?)?;
