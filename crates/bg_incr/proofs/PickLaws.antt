@@ -1,7 +1,7 @@
 -- Of the steps that are kept of the first class the first so many are the first legal ones.
-use Rattle.std.proofs.Common.{◌≡◌, ℕ, zero, suc, ◌+◌, ◌-◌, ◌<◌, ◌≤◌, ◌⊎◌, ◌==◌, Bool, true, false, Option, None, Some, List, [], ◌∷◌, ◌++◌, length, take, drop, inl, inr, refl, sym, ap, subst, ◌∙◌, arith, All, cond, cond-true, cond-false, eqb-true, eq-eqb, append_assoc, take_all, length-take-le}
+use Rattle.std.proofs.Common.{◌≡◌, ℕ, zero, suc, ◌+◌, ◌-◌, ◌<◌, ◌≤◌, ◌⊎◌, ◌==◌, Bool, true, false, Option, None, Some, List, [], ◌∷◌, ◌++◌, length, take, drop, inl, inr, refl, sym, ap, subst, ◌∙◌, arith, All, cond, eqb-true, eq-eqb, append_assoc, take_all, length-take-le}
 use Rattle.std.specs.Prelude.{⊤, MatchOption}
-use Rattle.std.proofs.lemmas.Bool.{cases_Bool, cases_lt, false≢true}
+use Rattle.std.proofs.lemmas.Bool.{cases_Bool, cond-true, cond-false, false≢true}
 use Rattle.std.proofs.lemmas.List.{append-nil, length-map, length-append}
 use Rattle.bg_lists.specs.Lists.{Mem, At, at_here, at_there}
 use Rattle.bg_lists.proofs.Places.{At-total, At-from_Mem, At-below, At-map, At-append_left, At-append_right, Mem-from_At}
@@ -112,7 +112,8 @@ module _ (host : HostState) (rules : List RuleParts) (lists : List KeptList) (ke
     first_next number rule list steps a b first =
         elim (cases_Bool (rule.class == class)) [
           | inl e ↦ (let same = eqb-true rule.class class e in
-              let enough = elim (enough_kept number rule list a b) [ inl whole ↦ inl whole | inr long ↦ inr (omega (arith, long)) ] in
+              let enough : (list.first.bound ≡ None) ⊎ (most_candidates ≤ length steps + length list.first.maps.items) =
+              elim (enough_kept number rule list a b) [ inl whole ↦ inl whole | inr long ↦ inr (omega (arith, long)) ] in
               subst (λ maps. AreFirst most_candidates (IsEnabledBelow host rules class (number + 1)) (take most_candidates (steps ++ steps_at number maps)))
               (sym (own_maps class number rule list same))
               (first_joined most_candidates host rules class number rule a same (All-member IsKeepable rules kept.keepable (Mem-from_At a)).bare
@@ -169,7 +170,7 @@ module _ (class : ℕ) (rules : List RuleParts) (lists : List KeptList) where
     pub few : count < most_candidates
 
   pub counted_none : IsCounted 0 0
-  counted_none = record { sum = refl; few = omega arith }
+  counted_none = record { sum = omega arith; few = omega arith }
 
   module _ (number count : ℕ) (rule : RuleParts) (list : KeptList) (a : At rule number rules) (b : At list number lists) (so_far : IsCounted number count) where
     own_long : length (kept_from class rules lists number) ≡ length (kept_maps class rule list) + length (kept_from class rules lists (number + 1))
