@@ -1,9 +1,9 @@
 -- Of the steps that are kept of the first class the first so many are the first legal ones.
-use Rattle.std.proofs.Common.{◌≡◌, ℕ, zero, suc, ◌+◌, ◌-◌, ◌<◌, ◌≤◌, ◌⊎◌, ◌==◌, Bool, true, false, Option, None, Some, List, [], ◌∷◌, ◌++◌, length, take, drop, inl, inr, refl, sym, ap, subst, ◌∙◌, arith, All, cond, eqb-true, eq-eqb, append_assoc, take_all, length-take-le}
+use Rattle.std.proofs.Common.{◌≡◌, ℕ, zero, suc, ◌+◌, ◌-◌, ◌<◌, ◌≤◌, ◌⊎◌, ◌==◌, Option, None, Some, List, [], ◌∷◌, ◌++◌, length, take, drop, inl, inr, refl, sym, ap, subst, ◌∙◌, arith, eqb-true, eq-eqb, append_assoc, take_all, length-take-le}
 use Rattle.std.specs.Prelude.{⊤, MatchOption}
 use Rattle.std.proofs.lemmas.Bool.{cases_Bool, cond-true, cond-false, false≢true}
 use Rattle.std.proofs.lemmas.List.{append-nil, length-map, length-append}
-use Rattle.bg_lists.specs.Lists.{Mem, At, at_here, at_there}
+use Rattle.bg_lists.specs.Lists.{At, at_here, at_there}
 use Rattle.bg_lists.proofs.Places.{At-total, At-from_Mem, At-below, At-map, At-append_left, At-append_right, Mem-from_At}
 use Rattle.bg_lists.proofs.Words.{All-from_members, All-member}
 use Rattle.bg_base.specs.declared.history.Step.{Step}
@@ -14,7 +14,6 @@ use Rattle.bg_cond.specs.Steps.{AreFirst, AreFirstLegal, IsFirstClass}
 use Rattle.bg_incr.proofs.KeptSteps.{first_joined}
 use Rattle.bg_incr.specs.Finders.{AreKeptFor, AreSettled, IsKeepable, IsSettled, steps_at}
 use Rattle.bg_incr.specs.Picking.{kept_maps, kept_steps}
-use Rattle.bg_kept.specs.Lists.{IsKept}
 use Rattle.bg_kept.specs.declared.kept_list.KeptList.{KeptList}
 use Rattle.bg_rules.specs.Reaction.{HostState}
 use Rattle.bg_rules.specs.Rules.{RuleParts}

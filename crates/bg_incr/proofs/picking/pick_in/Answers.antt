@@ -1,4 +1,4 @@
-use Rattle.std.proofs.Common.{◌<◌, ◌≤◌, ℕ, None, List, length, take, refl, sym, subst, arith, ◌∙◌}
+use Rattle.std.proofs.Common.{◌<◌, None, List, take, refl, sym, subst, arith, ◌∙◌}
 use Rattle.bg_lists.specs.Lists.{At}
 use Rattle.bg_base.specs.declared.history.Step.{Step}
 use Rattle.bg_cond.proofs.Picking.{picks}

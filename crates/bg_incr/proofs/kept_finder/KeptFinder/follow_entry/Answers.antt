@@ -1,5 +1,5 @@
-use Rattle.std.proofs.Common.{◌≡◌, ◌∷◌, [], Err, OnErr, rules, sym, ap, subst, ◌∙◌}
-use Rattle.bg_cond.specs.Followers.{HasFollowed, HasFollowedSome}
+use Rattle.std.proofs.Common.{◌≡◌, ◌∷◌, [], rules, sym, subst}
+use Rattle.bg_cond.specs.Followers.{HasFollowedSome}
 use Rattle.bg_incr.specs.Finders.{FinderState}
 use Rattle.bg_incr.specs.Replicas.{ReplicaState}
 use Rattle.bg_incr.proofs.Following.{followed_none, followed_all}

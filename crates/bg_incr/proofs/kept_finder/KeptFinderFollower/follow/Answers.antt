@@ -1,4 +1,4 @@
-use Rattle.std.proofs.Common.{◌≡◌, rules, sym, subst}
+use Rattle.std.proofs.Common.{rules, subst}
 use Rattle.bg_cond.proofs.DrawnRuns.{system_rules}
 use Rattle.bg_rules.specs.Hosts.{IsHost}
 use Rattle.bg_incr.specs.Finders.{FinderState}

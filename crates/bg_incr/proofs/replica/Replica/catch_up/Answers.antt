@@ -1,4 +1,4 @@
-use Rattle.std.proofs.Common.{sym, subst}
+use Rattle.std.proofs.Common.{subst}
 use Rattle.bg_rules.specs.Hosts.{IsHost}
 use Rattle.bg_cond.proofs.DrawnRuns.{system_rules}
 use Rattle.bg_incr.specs.Replicas.{ReplicaState}
