@@ -1,9 +1,11 @@
 -- Answers that are right, and ends of calls with them.
 use Rattle.std.proofs.Common.{◌≡◌, ◌<◌, ◌+◌, ◌≢◌, ◌&&◌, ℕ, List, [], Bool, None, Some, true, false, nat_lt, length, inl, inr, refl, sym, subst, ap, ◌∙◌, ⊎_elim, MatchBool, if◌then◌else◌, arith, length-append}
 use Rattle.std.proofs.lemmas.Bool.Decides.{nat_tests}
+use Rattle.std.specs.Prelude.{Result, Ok, Err, IfOk}
 use Rattle.std.specs.declared.option.Option.{Option}
 use Rattle.bg_io.specs.Transfers.{ConsumesExactly}
-use Rattle.bg_answers.specs.Answer.{Answer, too_long}
+use Rattle.bg_answers.specs.Answer.{Answer, answer_of, too_long}
+use Rattle.bg_answers.specs.declared.reply.Reply.{Reply}
 use Rattle.bg_answers.specs.declared.status.Status.TheVariants.{Done}
 use Rattle.bg_top.specs.Ended.{CallEnded, SomeAnswer}
 use Rattle.bg_top.specs.Right.{input_of, is_long, IsLeft, IsInput, IsReply, ReadsRight, IsRight}
@@ -11,6 +13,8 @@ use Rattle.bg_top.specs.Staying.{StayFor, IsRightWith}
 use Rattle.bg_watch.specs.Watching.{Watched}
 use Rattle.bg_words.specs.Commands.{is_reading}
 use Rattle.bg_words.specs.declared.asking.Request.{Request}
+use Rattle.bg_words.specs.declared.command.Command.TheVariants.{Run}
+use Rattle.command_run.specs.Run.{HaveStayed}
 use Rattle.command_trial.specs.Model.{trial_model}
 
 -- ---- inputs
@@ -145,3 +149,15 @@ right_unread most asked request watchers stay left answer is unread right stays 
         kept = stays.kept;
       },
     )
+
+-- ---- watchers
+
+-- where a run was asked for, those stay that were told of it
+pub run_stays : {E : Type 0} (request : Request) (watchers stay : List Watched) (input : List ℕ) (reply : Result Reply E) → request.command ≡ Run
+    → IfOk reply (λ reply. HaveStayed request.steps request.workers request.seed watchers stay input (answer_of reply))
+    → IfOk reply (λ reply. StayFor request (Some input) watchers stay (answer_of reply))
+run_stays request watchers stay input (Ok reply) is stayed = record {
+  told = λ run done. (input, refl, stayed.told done);
+  kept = λ why. ⊎_elim (λ not. absurd (not is)) (λ not. stayed.kept not) why;
+}
+run_stays request watchers stay input (Err fault) is stayed = tt
