@@ -16,8 +16,8 @@ use std::alloc::Global;
 /// the journal is a run of the system that the model describes; `NoRun` (7) with the first entry that is not taken, and why;
 /// `NoRun` (7) with the line at which the input stops being a journal text, where none stands in front; or `Refused` (1) with
 /// the line of the model's refusal, its place counted from the first byte behind the journal text. The journal text is read
-/// first, then the model, then the journal is judged. Costs what reading costs, and for each entry what `judge` and
-/// `take_step` of `bg_cond` cost. Holds the journal, the system and one host more. (Milner, chapter 8; the text of a journal is
+/// first, then the model, then the journal is judged. Costs what reading costs, and what
+/// [`replay`] costs. Holds the journal, the system and one host more, indexed. (Milner, chapter 8; the text of a journal is
 /// that of docs/FORMATS.md.)
 pub fn answer_replay(alloc: Global, input: &[u8]) -> Mem<Reply>
     requires { length input.now < 2 ^ 32 - 1 }
