@@ -6,10 +6,13 @@ use Rattle.bg_workers.proofs.drawing.draw_in.Goals as goal
 
 pub loop-room-init : goal.loop-room-init
 loop-room-init c =
-    let none = c.new-entries.ensures.items in (
+    let none = c.new-entries.ensures.items in
+    let first = c.requires.first in (
       subst (λ (xs : List Entry). Continues c.args.system.now.rules 0 c.args.most c.args.finder.now.host c.args.picker.now c.args.most c.args.finder.now.host c.args.picker.now xs) (sym none)
           (starts c.args.system.now.rules 0 c.args.most c.args.finder.now.host c.args.picker.now c.args.finder.now.host c.args.picker.now refl refl),
       ap (λ (xs : List Entry). after_words (length xs) c.args.picker.now) (sym none),
+      c.requires.stands,
+      omega (arith, first),
     )
 
 pub returns-in-Some-clause-drawn : goal.returns-in-Some-clause-drawn
@@ -30,12 +33,16 @@ returns-in-Some-clause-few c = few_drawn (returns-in-Some-clause-drawn c) c.requ
 pub loop-room-preserved : goal.loop-room-preserved
 loop-room-preserved c =
     let more = c.loop-room-test.true in
-    let next : c.loop-room.room ≡ suc (c.loop-room.room - 1) = omega (arith, more) in (
+    let next : c.loop-room.room ≡ suc (c.loop-room.room - 1) = omega (arith, more) in
+    let before = c.loop-room.invariant.3 in
+    let after = c.in_ok-end.ensures.version in (
       goes_on c.args.system.now.rules 0 c.args.most c.args.finder.now.host c.args.picker.now c.loop-room.room (c.loop-room.room - 1) c.loop-room.finder.host
           c.draw_one.new.finder.host c.loop-room.picker c.draw_one.new.picker c.loop-room.entries.items c.draw_one.new.entries.items next
           c.loop-room.invariant.0 (rw c.in_default.is at c.in_ok-end.ensures.turns),
       words_on c.args.system.now.rules 0 c.args.picker.now c.loop-room.finder.host c.draw_one.new.finder.host c.loop-room.picker c.draw_one.new.picker
           c.loop-room.entries.items c.draw_one.new.entries.items c.loop-room.invariant.1 (rw c.in_default.is at c.in_ok-end.ensures.turns),
+      c.draw_one.ensures.stands,
+      omega (arith, more, before, after),
     )
 
 pub returns-clause-drawn : goal.returns-clause-drawn

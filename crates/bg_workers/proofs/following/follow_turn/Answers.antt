@@ -1,7 +1,6 @@
-use Rattle.std.proofs.Common.{◌≡◌, ◌∙◌, arith, sym, subst, refl}
+use Rattle.std.proofs.Common.{arith}
 use Rattle.bg_cond.proofs.Committing.{found_at_view}
 use Rattle.bg_cond.proofs.DrawnRuns.{pick_legal}
-use Rattle.bg_workers.proofs.FollowLaws.{behind_longer}
 use Rattle.bg_workers.proofs.TurnLaws.{stops_limit, stops_quiet, goes_on_done, goes_on_again, stops_full}
 use Rattle.bg_workers.proofs.Turning.{no_word, one_word}
 use Rattle.bg_workers.proofs.following.follow_turn.Goals as goal

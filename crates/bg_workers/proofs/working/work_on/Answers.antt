@@ -1,6 +1,5 @@
-use Rattle.std.proofs.Common.{◌≡◌, ◌∙◌, sym, subst, refl, List, []}
-use Rattle.bg_base.specs.declared.history.Entry.{Entry}
-use Rattle.bg_workers.proofs.TurnLaws.{so_far_start, so_far_more, drawn_whole}
+use Rattle.std.proofs.Common.{◌∙◌, refl}
+use Rattle.bg_workers.proofs.TurnLaws.{so_far_start, so_far_more}
 use Rattle.bg_workers.proofs.Turning.{later_still}
 use Rattle.bg_workers.proofs.working.work_on.Goals as goal
 
