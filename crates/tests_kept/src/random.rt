@@ -81,10 +81,12 @@ fn turns<R: Threads + Sync>(
         let word = generator.next_word();
         let place = generator.next_word();
         match turn(alloc, system, &mut host, &mut kept, word, place)? {
-            Some(true) if are_found_alike(rt, alloc, system, &host)? => {
+            Some(fresh) => {
+                if !fresh || !are_found_alike(rt, alloc, system, &host)? {
+                    return Ok(0);
+                }
                 count = count.saturating_add(1);
             }
-            Some(_) => return Ok(0),
             None => {}
         }
     }

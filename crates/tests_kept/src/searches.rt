@@ -71,8 +71,12 @@ pub(crate) fn are_found_alike<R: Threads + Sync>(
     let plain = host.to_host(alloc)?;
     for rule in system.rules() {
         match is_found_alike(rt, alloc, &plain, host, rule.redex()) {
-            Ok(true) => {}
-            Ok(false) | Err(ListFault::TooMany) => return Ok(false),
+            Ok(alike) => {
+                if !alike {
+                    return Ok(false);
+                }
+            }
+            Err(ListFault::TooMany) => return Ok(false),
             Err(ListFault::OutOfMemory) => return Err(OutOfMemory),
         }
     }
