@@ -53,6 +53,12 @@ IsJudged host rules step (HigherClass other) = IsHigher host rules step other
 abbrev pub IsEnabledThere : HostState → List RuleParts → Step → Type 0
 IsEnabledThere host rules step = (class : ℕ) × IsEnabledStep host rules class step
 
+-- the step is enabled, and its class is not the first of all
+pub record IsEnabledLater (host : HostState) (rules : List RuleParts) (step : Step) : Type 0 where
+  pub class : ℕ
+  pub enabled : IsEnabledStep host rules class step
+  pub later : 0 < class
+
 -- the rule of that number is of the class
 abbrev pub HasClass : List RuleParts → ℕ → ℕ → Type 0
 HasClass rules number class = (rule : RuleParts) × At rule number rules × (class ≡ rule.class)

@@ -5,7 +5,7 @@ ghost use Rattle.bg_lists.specs.Lists.{At};
 ghost use Rattle.bg_rules.specs.Decomposition.{Occurs};
 ghost use Rattle.bg_cond.specs.Sides.{LooksForNodes};
 ghost use Rattle.bg_cond.specs.Steps.{AreFirstLegal, IsEnabledStep};
-ghost use Rattle.bg_cond.specs.Verdicts.{HasClass, IsEnabledThere, IsJudged};
+ghost use Rattle.bg_cond.specs.Verdicts.{HasClass, IsEnabledLater, IsEnabledThere, IsJudged};
 
 use crate::Verdict;
 use crate::holding::first_unmet;
@@ -45,7 +45,7 @@ pub fn judge_in<H: NumberedHost>(
     Ok(judge_beside(host, system, step, first))
 }
 
-/// The verdict, as far as the step alone tells it: `None` where it is enabled, and of another class than the first. Costs what
+/// The verdict, as far as the step alone tells it: `None` where it is enabled, and of a class behind class 0. Costs what
 /// [`occurs_in`] costs, and for each condition the walk over the occurrences of its pattern up to the first on its side.
 pub fn judge_alone<H: NumberedHost>(
     alloc: Global,
@@ -53,7 +53,7 @@ pub fn judge_alone<H: NumberedHost>(
     system: &System,
     step: &Step,
 ) -> Mem<Option<Verdict>>
-    ensures { IfOk result (λ found. MatchOption found (IsEnabledThere (H.state host.now) system.now.rules step.now)
+    ensures { IfOk result (λ found. MatchOption found (IsEnabledLater (H.state host.now) system.now.rules step.now)
         (λ verdict. IsJudged (H.state host.now) system.now.rules step.now verdict)) }
 {
     let _controls = system.signature().len();
@@ -74,7 +74,7 @@ fn judge_rule<H: NumberedHost>(
 ) -> Mem<Option<Verdict>>
     requires looks { All LooksForNodes rules.now }
     requires there { step.now.rule < length rules.now }
-    ensures { IfOk result (λ found. MatchOption found (IsEnabledThere (H.state host.now) rules.now step.now)
+    ensures { IfOk result (λ found. MatchOption found (IsEnabledLater (H.state host.now) rules.now step.now)
         (λ verdict. IsJudged (H.state host.now) rules.now step.now verdict)) }
 {
     host.keeps();
@@ -98,7 +98,7 @@ fn judge_conditions<H: NumberedHost>(
     requires looks { All LooksForNodes rules.now }
     requires there { At rule.now step.now.rule rules.now }
     requires occurs { Occurs (H.state host.now).big rule.now.redex step.now.map }
-    ensures { IfOk result (λ found. MatchOption found (IsEnabledThere (H.state host.now) rules.now step.now)
+    ensures { IfOk result (λ found. MatchOption found (IsEnabledLater (H.state host.now) rules.now step.now)
         (λ verdict. IsJudged (H.state host.now) rules.now step.now verdict)) }
 {
     host.keeps();
@@ -109,7 +109,7 @@ fn judge_conditions<H: NumberedHost>(
     }
 }
 
-/// The verdict where the step is enabled: no class comes before the first.
+/// The verdict where the step is enabled: no class comes before class 0.
 fn judge_class<H: NumberedHost>(
     _host: &H,
     _rules: &[Rule],
@@ -117,7 +117,7 @@ fn judge_class<H: NumberedHost>(
     _step: &Step,
 ) -> Option<Verdict>
     requires enabled { IsEnabledStep (H.state _host.now) _rules.now class _step.now }
-    ensures { MatchOption result (IsEnabledThere (H.state _host.now) _rules.now _step.now)
+    ensures { MatchOption result (IsEnabledLater (H.state _host.now) _rules.now _step.now)
         (λ verdict. IsJudged (H.state _host.now) _rules.now _step.now verdict) }
 {
     if class == 0 {

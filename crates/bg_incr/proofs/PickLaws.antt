@@ -2,7 +2,7 @@
 use Rattle.std.proofs.Common.{◌≡◌, ℕ, zero, suc, ◌+◌, ◌-◌, ◌<◌, ◌≤◌, ◌⊎◌, ◌==◌, Option, None, Some, List, [], ◌∷◌, ◌++◌, length, take, drop, inl, inr, refl, sym, ap, subst, ◌∙◌, arith, eqb-true, eq-eqb, append_assoc, take_all, length-take-le}
 use Rattle.std.specs.Prelude.{⊤, MatchOption}
 use Rattle.std.proofs.lemmas.Bool.{cases_Bool, cond-true, cond-false, false≢true}
-use Rattle.std.proofs.lemmas.List.{append-nil, length-map, length-append}
+use Rattle.std.proofs.lemmas.List.{append-nil, drop_all, length-map, length-append}
 use Rattle.bg_lists.specs.Lists.{At, at_here, at_there}
 use Rattle.bg_lists.proofs.Places.{At-total, At-from_Mem, At-below, At-map, At-append_left, At-append_right, Mem-from_At}
 use Rattle.bg_lists.proofs.Words.{All-from_members, All-member}
@@ -13,7 +13,7 @@ use Rattle.bg_cond.specs.Found.{IsEnabledBelow}
 use Rattle.bg_cond.specs.Steps.{AreFirst, AreFirstLegal, IsFirstClass}
 use Rattle.bg_incr.proofs.KeptSteps.{first_joined}
 use Rattle.bg_incr.specs.Finders.{AreKeptFor, AreSettled, IsKeepable, IsSettled, steps_at}
-use Rattle.bg_incr.specs.Picking.{kept_maps, kept_steps}
+use Rattle.bg_incr.specs.Picking.{kept_maps, steps_kept}
 use Rattle.bg_kept.specs.declared.kept_list.KeptList.{KeptList}
 use Rattle.bg_rules.specs.Reaction.{HostState}
 use Rattle.bg_rules.specs.Rules.{RuleParts}
@@ -24,12 +24,6 @@ drop_at : {X : Type 0} {x : X} {at : ℕ} (xs : List X) → At x at xs → drop 
 drop_at [] a = elim a [ ]
 drop_at (y ∷ ys) (at_here e) = ap (λ z. z ∷ ys) e
 drop_at (y ∷ ys) (at_there a) = drop_at ys a
-
-drop_past : {X : Type 0} (n : ℕ) (xs : List X) → length xs ≤ n → drop n xs ≡ []
-drop_past zero [] past = refl
-drop_past (suc n) [] past = refl
-drop_past zero (x ∷ xs) past = absurd (omega (arith, past))
-drop_past (suc n) (x ∷ xs) past = drop_past n xs (omega (arith, past))
 
 take_front : {X : Type 0} (n : ℕ) (xs ys : List X) → take n (take n xs ++ ys) ≡ take n (xs ++ ys)
 take_front zero xs ys = refl
@@ -54,19 +48,19 @@ take_within (suc n) (x ∷ xs) = let rest = take_within n xs in omega (arith, re
 -- ---- what is kept of the rules from a number on
 
 abbrev pub kept_from : ℕ → List RuleParts → List KeptList → ℕ → List Step
-kept_from class rules lists number = kept_steps class number (drop number rules) (drop number lists)
+kept_from class rules lists number = steps_kept class number (drop number rules) (drop number lists)
 
 module _ (class : ℕ) (rules : List RuleParts) (lists : List KeptList) (number : ℕ) where
   pub kept_next : (rule : RuleParts) (list : KeptList) → At rule number rules → At list number lists
       → kept_from class rules lists number ≡ steps_at number (kept_maps class rule list) ++ kept_from class rules lists (number + 1)
   kept_next rule list a b =
       let more : suc number ≡ number + 1 = omega arith in
-      ap (λ (rs : List RuleParts). kept_steps class number rs (drop number lists)) (drop_at rules a)
-      ∙ (ap (λ (ls : List KeptList). kept_steps class number (rule ∷ drop (suc number) rules) ls) (drop_at lists b)
-      ∙ ap (λ n. steps_at number (kept_maps class rule list) ++ kept_steps class (number + 1) (drop n rules) (drop n lists)) more)
+      ap (λ (rs : List RuleParts). steps_kept class number rs (drop number lists)) (drop_at rules a)
+      ∙ (ap (λ (ls : List KeptList). steps_kept class number (rule ∷ drop (suc number) rules) ls) (drop_at lists b)
+      ∙ ap (λ n. steps_at number (kept_maps class rule list) ++ steps_kept class (number + 1) (drop n rules) (drop n lists)) more)
 
   pub kept_ends : length rules ≤ number → kept_from class rules lists number ≡ []
-  kept_ends past = ap (λ (rs : List RuleParts). kept_steps class number rs (drop number lists)) (drop_past number rules past)
+  kept_ends past = ap (λ (rs : List RuleParts). steps_kept class number rs (drop number lists)) (drop_all number rules past)
 
 -- ---- one rule more
 
@@ -155,7 +149,7 @@ module _ (host : HostState) (rules : List RuleParts) (lists : List KeptList) (ke
         subst (λ (ss : List Step). AreFirst most_candidates (IsEnabledBelow host rules class (length rules)) ss) same later
 
     -- the first so many that are kept of the first class are the first legal steps
-    pub first_kept : IsFirstClass host rules class → AreFirstLegal most_candidates host rules (take most_candidates (kept_steps class 0 rules lists))
+    pub first_kept : IsFirstClass host rules class → AreFirstLegal most_candidates host rules (take most_candidates (steps_kept class 0 rules lists))
     first_kept is =
         found_legal most_candidates host rules class is
         (first_all (length rules) 0 (omega arith) [] (found_first most_candidates host rules class))
@@ -165,7 +159,7 @@ module _ (host : HostState) (rules : List RuleParts) (lists : List KeptList) (ke
 module _ (class : ℕ) (rules : List RuleParts) (lists : List KeptList) where
   -- so many were counted, and what is left
   pub record IsCounted (number count : ℕ) : Type 0 where
-    pub sum : count + length (kept_from class rules lists number) ≡ length (kept_steps class 0 rules lists)
+    pub sum : count + length (kept_from class rules lists number) ≡ length (steps_kept class 0 rules lists)
     pub few : count < most_candidates
 
   pub counted_none : IsCounted 0 0
@@ -186,29 +180,29 @@ module _ (class : ℕ) (rules : List RuleParts) (lists : List KeptList) where
         record { sum = omega (arith, long, sum, e); few = omega (arith, room, few) }
 
     pub counted_full : (more : ℕ) → more ≡ length (kept_maps class rule list) → most_candidates - count ≤ more
-        → most_candidates ≡ length (take most_candidates (kept_steps class 0 rules lists))
+        → most_candidates ≡ length (take most_candidates (steps_kept class 0 rules lists))
     counted_full more e full =
         let long = own_long in
         let sum = so_far.sum in
         let few = so_far.few in
-        sym (length-take-le most_candidates (kept_steps class 0 rules lists) (omega (arith, long, sum, few, e, full)))
+        sym (length-take-le most_candidates (steps_kept class 0 rules lists) (omega (arith, long, sum, few, e, full)))
 
-  pub counted_all : (number count : ℕ) → length rules ≤ number → IsCounted number count → count ≡ length (take most_candidates (kept_steps class 0 rules lists))
+  pub counted_all : (number count : ℕ) → length rules ≤ number → IsCounted number count → count ≡ length (take most_candidates (steps_kept class 0 rules lists))
   counted_all number count past so_far =
       let none = ap (λ (ss : List Step). length ss) (kept_ends class rules lists number past) in
       let sum = so_far.sum in
       let few = so_far.few in
-      let all : count ≡ length (kept_steps class 0 rules lists) = omega (arith, none, sum) in
-      all ∙ ap (λ (ss : List Step). length ss) (sym (take_all most_candidates (kept_steps class 0 rules lists) (omega (arith, all, few))))
+      let all : count ≡ length (steps_kept class 0 rules lists) = omega (arith, none, sum) in
+      all ∙ ap (λ (ss : List Step). length ss) (sym (take_all most_candidates (steps_kept class 0 rules lists) (omega (arith, all, few))))
 
   -- ---- the step at a place
 
   -- it stands so many behind the steps of the rules before that number
   pub record IsLeft (place number left : ℕ) : Type 0 where
-    pub at : (step : Step) → At step left (kept_from class rules lists number) → At step place (kept_steps class 0 rules lists)
+    pub at : (step : Step) → At step left (kept_from class rules lists number) → At step place (steps_kept class 0 rules lists)
     pub below : left < length (kept_from class rules lists number)
 
-  pub left_all : (place : ℕ) → place < length (kept_steps class 0 rules lists) → IsLeft place 0 place
+  pub left_all : (place : ℕ) → place < length (steps_kept class 0 rules lists) → IsLeft place 0 place
   left_all place inside = record { at = λ step a. a; below = inside }
 
   pub left_none : (place number left : ℕ) → length rules ≤ number → IsLeft place number left → ⊥
@@ -224,7 +218,7 @@ module _ (class : ℕ) (rules : List RuleParts) (lists : List KeptList) where
     as_long : length own ≡ length (kept_maps class rule list)
     as_long = length-map (kept_maps class rule list) (λ (nodes : List ℕ). record { rule = number; map = nodes })
 
-    pub left_here : (nodes : List ℕ) → At nodes left (kept_maps class rule list) → At (record { rule = number; map = nodes }) place (kept_steps class 0 rules lists)
+    pub left_here : (nodes : List ℕ) → At nodes left (kept_maps class rule list) → At (record { rule = number; map = nodes }) place (steps_kept class 0 rules lists)
     left_here nodes at =
         is.at (record { rule = number; map = nodes })
         (subst (λ (ss : List Step). At (record { rule = number; map = nodes }) left ss) (sym (kept_next class rules lists number rule list a b))

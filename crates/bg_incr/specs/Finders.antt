@@ -1,8 +1,9 @@
 -- Who lists the legal steps at a host that is kept, from lists of occurrences that are kept.
-use Rattle.std.specs.Prelude.{◌≡◌, ℕ, ⊤, ◌⊎◌, ◌<◌, Option, None, List, [], length, map, MatchOption, All}
+use Rattle.std.specs.Prelude.{◌≡◌, ℕ, ⊤, ◌⊎◌, ◌+◌, ◌<◌, Option, None, List, [], length, map, MatchOption, All}
 use Rattle.bg_base.specs.declared.big.Big.{Big}
 use Rattle.bg_base.specs.Bigraph.{IsGround}
 use Rattle.bg_base.specs.declared.history.Step.{Step}
+use Rattle.bg_cond.specs.Steps.{LeadsTo}
 use Rattle.bg_index.specs.Causes.{AreCauses}
 use Rattle.bg_index.specs.declared.causes.Causes.{Causes}
 use Rattle.bg_kept.specs.declared.kept_list.KeptList.{KeptList}
@@ -39,6 +40,14 @@ pub record AreKeptFor (host : Big) (rules : List RuleParts) (lists : List KeptLi
 -- the lists, where they are kept, are those of the host for the rules of the system
 pub record StandsFor (finder : FinderState) (system : SystemParts) : Type 0 where
   pub lists : MatchOption finder.lists ⊤ (AreKeptFor finder.host.big system.rules)
+
+-- version and host are as they were
+abbrev pub Stays : FinderState → FinderState → Type 0
+Stays old new = (new.version ≡ old.version) × (new.host ≡ old.host)
+
+-- the step is taken: the host is what it leads to, at the version behind
+abbrev pub HasTaken : List RuleParts → Step → FinderState → FinderState → Type 0
+HasTaken rules step old new = (new.version ≡ old.version + 1) × LeadsTo old.host rules step new.host
 
 -- the lists were those of the host before what the causes tell
 pub record WereKeptFor (after : Big) (causes : Causes) (rules : List RuleParts) (lists : List KeptList) : Type 0 where

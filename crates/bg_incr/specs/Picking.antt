@@ -10,8 +10,8 @@ abbrev pub kept_maps : ℕ → RuleParts → KeptList → List (List ℕ)
 kept_maps class rule list = if rule.class == class then list.first.maps.items else []
 
 -- the steps of the class that are kept of these rules, of which the first has that number
-abbrev pub kept_steps : ℕ → ℕ → List RuleParts → List KeptList → List Step
-kept_steps class number [] lists = []
-kept_steps class number (rule ∷ rules) [] = []
-kept_steps class number (rule ∷ rules) (list ∷ lists) =
-    steps_at number (kept_maps class rule list) ++ kept_steps class (number + 1) rules lists
+abbrev pub steps_kept : ℕ → ℕ → List RuleParts → List KeptList → List Step
+steps_kept class number [] lists = []
+steps_kept class number (rule ∷ rules) [] = []
+steps_kept class number (rule ∷ rules) (list ∷ lists) =
+    steps_at number (kept_maps class rule list) ++ steps_kept class (number + 1) rules lists

@@ -1,11 +1,11 @@
 //! Who lists the legal steps at a host that it keeps, from the occurrences that it keeps.
-ghost use Rattle.std.specs.Prelude.{◌≡◌, ◌+◌, ◌<◌, ◌^◌, ⊤, None, [], ◌∷◌, IfOk, OnOk, OnErr, IsErrOf, MatchOption};
+ghost use Rattle.std.specs.Prelude.{◌≡◌, ◌⊎◌, ◌+◌, ◌<◌, ◌^◌, ⊤, None, [], ◌∷◌, IfOk, OnOk, OnErr, IsErrOf, MatchOption};
 ghost use Rattle.bg_cond.specs.Followers.{GoOn, HasFollowed, HasFollowedSome};
 ghost use Rattle.bg_cond.specs.Drawn.{IsPick};
 ghost use Rattle.bg_cond.specs.Picks.{next_state};
 ghost use Rattle.bg_cond.specs.Steps.{AreFirstLegal, HasNoStep, IsLegal, IsTooLarge, LeadsTo};
 ghost use Rattle.bg_cond.specs.Verdicts.{IsEnabledThere, IsJudged};
-ghost use Rattle.bg_incr.specs.Finders.{AreKeptFor, StandsFor, WereKeptFor};
+ghost use Rattle.bg_incr.specs.Finders.{AreKeptFor, HasTaken, StandsFor, Stays, WereKeptFor};
 
 use crate::keeping::{are_keepable, picks_followed, picks_of};
 use crate::listing::steps_from;
@@ -74,7 +74,7 @@ impl KeptFinder {
     pub fn judge(&mut self, alloc: Global, system: &System, step: &Step) -> Mem<Verdict>
         requires stands { StandsFor self.old system.now }
         ensures stands { StandsFor self.new system.now }
-        ensures same { (self.new.version ≡ self.old.version) × (self.new.host ≡ self.old.host) }
+        ensures same { Stays self.old self.new }
         ensures judged { IfOk result (λ verdict. IsJudged self.old.host system.now.rules step.now verdict) }
     {
         if let Some(verdict) = judge_alone(alloc, self.replica.host(), system, step)? {
@@ -88,7 +88,7 @@ impl KeptFinder {
         requires stands { StandsFor self.old system.now }
         requires enabled { IsEnabledThere self.old.host system.now.rules step.now }
         ensures stands { StandsFor self.new system.now }
-        ensures same { (self.new.version ≡ self.old.version) × (self.new.host ≡ self.old.host) }
+        ensures same { Stays self.old self.new }
         ensures judged { IfOk result (λ verdict. IsJudged self.old.host system.now.rules step.now verdict) }
     {
         self.keep_lists(alloc, system)?;
@@ -97,7 +97,7 @@ impl KeptFinder {
     }
 
     /// Takes a legal step: the host becomes what it leads to. It refuses with `Full` where that passes a limit of a host; host and
-    /// version are then as they were. Costs what the reaction touches, and for each rule whose occurrences are kept, what
+    /// version are then as they were. Where there is no memory the step is taken or not, as the version tells. Costs what the reaction touches, and for each rule whose occurrences are kept, what
     /// [`KeptList::renewal`] and [`KeptList::renew`] cost.
     pub fn take(&mut self, alloc: Global, system: &System, step: &Step) -> Result<(), ReactFault>
         requires stands { StandsFor self.old system.now }
@@ -107,7 +107,8 @@ impl KeptFinder {
         ensures version { OnOk result (self.new.version ≡ self.old.version + 1) }
         ensures leads { OnOk result (LeadsTo self.old.host system.now.rules step.now self.new.host) }
         ensures full { IsErrOf result ReactFault.Full → IsTooLarge self.old.host system.now.rules step.now }
-        ensures kept { IsErrOf result ReactFault.Full → (self.new.version ≡ self.old.version) × (self.new.host ≡ self.old.host) }
+        ensures kept { IsErrOf result ReactFault.Full → Stays self.old self.new }
+        ensures no_memory { IsErrOf result ReactFault.OutOfMemory → Stays self.old self.new ⊎ HasTaken system.now.rules step.now self.old self.new }
     {
         self.replica.host().keeps();
         let lists = self.lists.take();
@@ -162,7 +163,7 @@ impl KeptFinder {
     fn keep_lists(&mut self, alloc: Global, system: &System) -> Mem<()>
         requires stands { StandsFor self.old system.now }
         ensures stands { StandsFor self.new system.now }
-        ensures same { (self.new.version ≡ self.old.version) × (self.new.host ≡ self.old.host) }
+        ensures same { Stays self.old self.new }
     {
         if self.lists.is_none() && are_keepable(system.rules()) {
             let lists = picks_of(alloc, self.replica.host(), system.rules())?;

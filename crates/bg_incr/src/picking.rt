@@ -5,7 +5,7 @@ ghost use Rattle.bg_cond.specs.Drawn.{IsPick, most_candidates};
 ghost use Rattle.bg_cond.specs.Picks.{next_state};
 ghost use Rattle.bg_cond.specs.Steps.{HasNoStep, IsFirstClass};
 ghost use Rattle.bg_incr.specs.Finders.{AreKeptFor};
-ghost use Rattle.bg_incr.specs.Picking.{kept_maps, kept_steps};
+ghost use Rattle.bg_incr.specs.Picking.{kept_maps, steps_kept};
 
 use crate::listing::first_class;
 use bg_base::{Map, Step};
@@ -67,7 +67,7 @@ fn pick_in(
 /// How many steps of the class are kept, up to 4,096.
 fn count_of(rules: &[Rule], lists: &[KeptList], class: u32) -> u32
     requires as_many { length lists.now ≡ length rules.now }
-    ensures { result ≡ length (take most_candidates (kept_steps class 0 rules.now lists.now)) }
+    ensures { result ≡ length (take most_candidates (steps_kept class 0 rules.now lists.now)) }
 {
     let mut count = 0;
     for (number, rule) in rules.iter().enumerate() {
@@ -95,8 +95,8 @@ fn maps_of<'l>(rule: &Rule, list: &'l KeptList, class: u32) -> &'l [Map]
 fn step_at(alloc: Global, rules: &[Rule], lists: &[KeptList], class: u32, place: u32) -> Mem<Step>
     requires as_many { length lists.now ≡ length rules.now }
     requires few { length rules.now < 2 ^ 32 }
-    requires inside { place < length (kept_steps class 0 rules.now lists.now) }
-    ensures { IfOk result (λ step. At step place (kept_steps class 0 rules.now lists.now)) }
+    requires inside { place < length (steps_kept class 0 rules.now lists.now) }
+    ensures { IfOk result (λ step. At step place (steps_kept class 0 rules.now lists.now)) }
 {
     let mut left = place as usize;
     for (number, rule) in rules.iter().enumerate() {

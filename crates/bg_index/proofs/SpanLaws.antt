@@ -1,7 +1,7 @@
 -- Numbers that ascend, taken apart at a few cuts: what is left is in order, and has the numbers that stay and the cuts that stand.
 use Rattle.std.proofs.Common.{◌≡◌, ◌↔◌, ◌⊎◌, ℕ, ◌+◌, ◌-◌, ◌<◌, ◌≤◌, Bool, true, false, not, nat_lt, nat_cmp, Less, List, [], ◌∷◌, ◌++◌, inl, inr, filter, length, take, drop, get_or, sym, ap, subst, ◌∙◌, arith, ltb, leb, ltb-true, lt-ltb, get_or-take, get_or-drop, length-take-le, length-drop, append-nil, append_assoc, take_all}
-use Rattle.std.specs.List.Sorted.{IsNonDecreasingBy, IsPartitionedBy, IsPartitionPoint, IsStrictlySortedBy}
-use Rattle.std.proofs.lemmas.Bool.{cases_lt, cases_order, cond_both, false≢true, not-true, not_from_false}
+use Rattle.std.specs.List.Sorted.{IsPartitionedBy, IsPartitionPoint, IsStrictlySortedBy}
+use Rattle.std.proofs.lemmas.Bool.{cases_order, cond_both, false≢true, not-true, not_from_false}
 use Rattle.std.proofs.lemmas.Bool.Decides.{nat_tests}
 use Rattle.std.proofs.lemmas.Cmp.{nat_cmp_total}
 use Rattle.std.proofs.lemmas.List.{at_drop_all, at_drop_more, take-append-drop}
@@ -9,13 +9,14 @@ use Rattle.std.proofs.lemmas.List.Elements.{filter-append}
 use Rattle.std.proofs.lemmas.List.Sorted.{IsPartitionedBy-leb, IsPartitionedBy-ltb}
 use Rattle.bg_lists.specs.Lists.{Mem, here, there}
 use Rattle.bg_lists.specs.Orders.{Ascending, asc_nil, asc_cons}
-use Rattle.bg_lists.proofs.Ascents.{Ascending-append, Ascending-filter, Ascending-from_sorted, Below-by_places, same_ascending, sorted_from_Ascending}
+use Rattle.bg_lists.proofs.Ascents.{Ascending-append, Ascending-filter, Ascending-from_sorted, same_ascending, sorted_from_Ascending}
 use Rattle.bg_lists.proofs.Comparisons.{Less-not_back, lt-from_nat_cmp, nat_cmp-lt}
 use Rattle.bg_lists.proofs.Groups.{filter_all, filter_none}
 use Rattle.bg_lists.proofs.Members.{Mem-append_cases, Mem-append_left, Mem-append_right, Mem-cons_cases, Mem-filter, Mem-unfilter}
-use Rattle.bg_lists.proofs.Places.{At-below, At-from_Mem, At-get_or, get_or-At}
+use Rattle.bg_lists.proofs.Places.{At-below, At-from_Mem, get_or-At}
 use Rattle.bg_rules.specs.Instantiation.{is_among}
 use Rattle.bg_rules.proofs.Upwards.{among_cases, is_among-member, is_among-none, member_from_is_among, not_among}
+use Rattle.bg_match.proofs.CandidateLaws.{rises}
 use Rattle.bg_index.specs.Spans.{above, below, spliced, standing}
 
 abbrev Up : List ℕ → Type 0
@@ -50,18 +51,6 @@ module _ (test : ℕ → Bool) (numbers : List ℕ) (at : ℕ) (inside : at ≤ 
       sym (ap (filter other) (sym (take-append-drop at numbers)) ∙ filter-append other (take at numbers) (drop at numbers)
       ∙ ap (λ xs. xs ++ filter other (drop at numbers)) (filter_none other (take at numbers) (λ x m. turned x ∙ ap not (passes x m)))
       ∙ filter_all other (drop at numbers) (λ x m. turned x ∙ ap not (fails x m)))
-
--- numbers that ascend do not fall
-rises : (numbers : List ℕ) → IsStrictlySortedBy nat_cmp numbers → IsNonDecreasingBy (λ n. n) numbers
-rises numbers up =
-    λ i j d up_to inside. elim (cases_lt i j) [
-      | inl less ↦ (let first : i < length numbers = omega (arith, less, inside) in
-          let l = lt-from_nat_cmp (get_or numbers i d) (get_or numbers j d)
-          (Below-by_places numbers (Ascending-from_sorted numbers up) (At-get_or numbers i d first) (At-get_or numbers j d inside) less) in
-          omega (arith, l))
-      | inr back ↦ (let same : i ≡ j = omega (arith, back, up_to) in
-          subst (λ k. get_or numbers i d ≤ get_or numbers k d) same (omega arith))
-    ]
 
 pub below_found : (numbers : List ℕ) (number count : ℕ) → IsStrictlySortedBy nat_cmp numbers → count ≤ length numbers
     → (IsPartitionedBy (λ y. ltb y number) numbers → IsPartitionPoint (λ y. ltb y number ≡ true) (λ y. ltb y number ≡ false) numbers count)

@@ -2,6 +2,7 @@
 use Rattle.std.specs.Prelude.{ℕ, nat_lt, if◌then◌else◌, List, [], ◌∷◌, ◌++◌, filter}
 use Rattle.bg_rules.specs.Instantiation.{is_among}
 
+-- of the numbers those before the one, and those behind it
 abbrev pub below : ℕ → List ℕ → List ℕ
 below number numbers = filter (λ other. nat_lt other number) numbers
 
