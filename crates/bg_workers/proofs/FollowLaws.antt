@@ -1,7 +1,7 @@
 -- A worker's own host, behind what its pass has seen: what it hears goes on from it, and what it has followed it is behind.
 use Rattle.std.proofs.Common.{◌≡◌, ℕ, ◌+◌, ◌-◌, ◌^◌, ◌<◌, ◌≤◌, List, [], ◌∷◌, ◌++◌, length, take, drop, refl, sym, ap, subst, ◌∙◌, arith, take_all, length-append}
 use Rattle.std.proofs.Math.Seq.{take-add}
-use Rattle.std.proofs.lemmas.List.{take-append-le, take-append-drop, length-drop, length-take-le, append-nil}
+use Rattle.std.proofs.lemmas.List.{take-append-le, take-append-drop, length-drop, length-take-le, append-nil, append_assoc}
 use Rattle.bg_base.specs.declared.history.Entry.{Entry}
 use Rattle.bg_cond.proofs.DrawnRuns.{system_rules}
 use Rattle.bg_cond.proofs.Runs.{run_append, run_one_end, run_split}
@@ -15,7 +15,8 @@ use Rattle.bg_cond.specs.declared.commits.Found.{Found}
 use Rattle.bg_rules.specs.Reaction.{HostState}
 use Rattle.bg_rules.specs.Systems.{SystemParts, IsSystem}
 use Rattle.bg_seats.specs.Histories.{Grows}
-use Rattle.bg_workers.specs.Following.{IsBehind, IsLonger}
+use Rattle.bg_workers.specs.Following.{IsBehind}
+use Rattle.bg_workers.specs.Working.{IsLonger}
 
 -- ---- what was seen
 
@@ -24,6 +25,9 @@ grown grows = (grows.rest, grows.all)
 
 pub longer_same : {before after : List Entry} → after ≡ before → IsLonger before after
 longer_same {before} e = ([], e ∙ sym (append-nil before))
+
+pub longer_still : {first second third : List Entry} → IsLonger first second → IsLonger second third → IsLonger first third
+longer_still {first} one more = (one.0 ++ more.0, more.1 ∙ ap (λ (xs : List Entry). xs ++ more.0) one.1 ∙ append_assoc first one.0 more.0)
 
 -- a commit leaves what was seen, and may put entries behind it
 pub committed_longer : (system : SystemParts) (limit worker : ℕ) (before after : List Entry) (found : Found) (answer : Commit)

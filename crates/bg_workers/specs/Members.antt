@@ -5,7 +5,7 @@ use Rattle.bg_base.specs.declared.history.Entry.{Entry}
 use Rattle.bg_lists.specs.declared.memory.OutOfMemory.{OutOfMemory}
 use Rattle.bg_rules.specs.Systems.{SystemParts}
 use Rattle.bg_workers.specs.Turns.{IsLater}
-use Rattle.bg_workers.specs.Working.{IsEnded, IsOwn, IsDrawn}
+use Rattle.bg_workers.specs.Working.{IsEnded, IsLonger, IsOwn, IsDrawn}
 use Rattle.bg_workers.specs.declared.ends.Ended.{Ended}
 use Rattle.bg_workers.specs.declared.ends.Member.{Member}
 
@@ -21,6 +21,7 @@ pub record HasRun {P F : Type 0} (is_of : P → Type 0) (number : P → ℕ) (se
   pub answer : Result Ended OutOfMemory
   pub ended : after.ended ≡ Some answer
   pub right : IfOk answer (λ ended. IsEnded system limit (seen after.pass) ended)
+  pub longer : IsLonger (seen before.pass) (seen after.pass)
   pub later : IsLater before.picker after.picker
   pub drawn : seen before.pass ≡ [] → IsOwn before.worker (seen after.pass)
       → IfOk answer (λ ended. IsDrawn system limit before.worker before.picker (seen after.pass) ended)

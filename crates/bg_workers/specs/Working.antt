@@ -14,6 +14,10 @@ use Rattle.bg_workers.specs.declared.ends.Ended.{Ended}
 use Rattle.bg_workers.specs.declared.ends.Ended.TheVariants.{Quiet, Limit, Full}
 use Rattle.rand_pcg.specs.Lcg.{Lcg}
 
+-- the one history goes on from the other
+abbrev pub IsLonger : List Entry → List Entry → Type 0
+IsLonger before after = (rest : List Entry) × (after ≡ before ++ rest)
+
 -- ---- ends
 
 -- fewer entries were seen than may be, and no step is legal at the host after them

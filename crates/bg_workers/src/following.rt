@@ -8,7 +8,7 @@ ghost use Rattle.bg_rules.specs.Systems.{IsSystem};
 ghost use Rattle.bg_seats.specs.Histories.{Grows};
 ghost use Rattle.bg_workers.specs.Following.{IsBehind};
 ghost use Rattle.bg_workers.specs.Turns.{IsLater};
-ghost use Rattle.bg_workers.specs.Working.{IsEnded, IsOwn, IsDrawn, HasTurned};
+ghost use Rattle.bg_workers.specs.Working.{IsEnded, IsLonger, IsOwn, IsDrawn, HasTurned};
 
 use crate::ends::Ended;
 use crate::working::commit_found;
@@ -39,6 +39,7 @@ pub fn work_following<B: Board, F: Follower, G: Gate, R: Wait>(
     requires stands { F.stands follower.old system.now }
     requires behind { IsBehind system.now (B.seen pass.old) (F.version follower.old) (F.host follower.old) }
     ensures of { B.is_of board.now pass.new × (B.worker pass.new ≡ B.worker pass.old) }
+    ensures longer { IsLonger (B.seen pass.old) (B.seen pass.new) }
     ensures stands { F.stands follower.new system.now }
     ensures behind { IsBehind system.now (B.seen pass.new) (F.version follower.new) (F.host follower.new) }
     ensures ended { IfOk result (λ ended. IsEnded system.now limit (B.seen pass.new) ended) }
@@ -70,6 +71,7 @@ fn follow_on<B: Board, F: Follower, G: Gate, R: Wait>(
     requires stands { F.stands follower.old system.now }
     requires behind { IsBehind system.now (B.seen pass.old) (F.version follower.old) (F.host follower.old) }
     ensures of { B.is_of board.now pass.new × (B.worker pass.new ≡ B.worker pass.old) }
+    ensures longer { IsLonger (B.seen pass.old) (B.seen pass.new) }
     ensures stands { F.stands follower.new system.now }
     ensures behind { IsBehind system.now (B.seen pass.new) (F.version follower.new) (F.host follower.new) }
     ensures ended { IfOk result (λ ended. IsEnded system.now limit (B.seen pass.new) ended) }
@@ -104,6 +106,7 @@ fn follow_turn<B: Board, F: Follower, G: Gate, R: Wait>(
     requires stands { F.stands follower.old system.now }
     requires behind { IsBehind system.now (B.seen pass.old) (F.version follower.old) (F.host follower.old) }
     ensures of { B.is_of board.now pass.new × (B.worker pass.new ≡ B.worker pass.old) }
+    ensures longer { IsLonger (B.seen pass.old) (B.seen pass.new) }
     ensures stands { F.stands follower.new system.now }
     ensures behind { IsBehind system.now (B.seen pass.new) (F.version follower.new) (F.host follower.new) }
     ensures turned { IfOk result (λ end. HasTurned system.now limit worker (B.seen pass.old) picker.old (B.seen pass.new) picker.new end) }

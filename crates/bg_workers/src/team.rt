@@ -71,7 +71,8 @@ fn run_member<B: Board, F: Finder, G: Gate, R: Wait>(
     member.ended = Some(ended);
 }
 
-/// Runs all members at once, as [`run_workers`] does, each at the host of its follower: as [`work_following`] says of it.
+/// Runs all members at once, as [`run_workers`] does, each at the host of its follower: as [`work_following`] says of it. Each
+/// follower then stands for the host after some of what its pass has seen.
 pub fn run_following<B: Board + Sync, F: Follower + Send, G: Gate + Sync, R: Threads + Wait + Sync>(
     rt: &R,
     alloc: Global,
@@ -86,7 +87,7 @@ where
     requires board { (system.now ≡ B.system board.now) × (limit ≡ B.limit board.now) }
     requires members { All (λ member. IsReady (B.is_of board.now) B.worker (as_member member)) members.old }
     requires followers { All (IsStanding F.stands F.version F.host B.seen system.now) members.old }
-    ensures { AllRunFollowing (B.is_of board.now) B.worker B.seen system.now limit members.old members.new }
+    ensures { AllRunFollowing (B.is_of board.now) B.worker F.stands F.version F.host B.seen system.now limit members.old members.new }
 {
     let threads = members.len().max(1);
     thread::for_each_mut(
@@ -96,7 +97,8 @@ where
         &|_, member: &mut FollowMember<B::Pass, F>|
             requires { (system.now ≡ B.system board.now) × (limit ≡ B.limit board.now) × IsReady (B.is_of board.now) B.worker (as_member member.old)
                 × IsStanding F.stands F.version F.host B.seen system.now member.old }
-            ensures { HasRun (B.is_of board.entry.now) B.worker B.seen system.entry.now limit (as_member member.old) (as_member member.new) }
+            ensures { HasRun (B.is_of board.entry.now) B.worker B.seen system.entry.now limit (as_member member.old) (as_member member.new)
+                × IsStanding F.stands F.version F.host B.seen system.entry.now member.new }
         { run_follower(rt, alloc, board, member, system, limit, gate) },
     );
 }
@@ -114,7 +116,8 @@ fn run_follower<B: Board, F: Follower, G: Gate, R: Wait>(
     requires board { (system.now ≡ B.system board.now) × (limit ≡ B.limit board.now) }
     requires member { IsReady (B.is_of board.now) B.worker (as_member member.old) }
     requires follower { IsStanding F.stands F.version F.host B.seen system.now member.old }
-    ensures { HasRun (B.is_of board.now) B.worker B.seen system.now limit (as_member member.old) (as_member member.new) }
+    ensures run { HasRun (B.is_of board.now) B.worker B.seen system.now limit (as_member member.old) (as_member member.new) }
+    ensures standing { IsStanding F.stands F.version F.host B.seen system.now member.new }
 {
     let answer = work_following(
         rt,

@@ -5,9 +5,8 @@ ghost use Rattle.bg_cond.specs.Drawn.{IsPick};
 ghost use Rattle.bg_cond.specs.Picks.{next_state};
 ghost use Rattle.bg_cond.specs.Steps.{HasNoStep};
 ghost use Rattle.bg_rules.specs.Systems.{IsSystem};
-ghost use Rattle.bg_workers.specs.Following.{IsLonger};
 ghost use Rattle.bg_workers.specs.Turns.{IsLater};
-ghost use Rattle.bg_workers.specs.Working.{IsEnded, IsOwn, IsDrawn, HasTurned};
+ghost use Rattle.bg_workers.specs.Working.{IsEnded, IsLonger, IsOwn, IsDrawn, HasTurned};
 
 use crate::ends::Ended;
 use bg_cond::{Board, Commit, Finder, Found, Gate, MOST_CANDIDATES, Moment, Picker, View};
@@ -40,6 +39,7 @@ pub fn work<B: Board, F: Finder, G: Gate, R: Wait>(
     requires of { B.is_of board.now pass.old }
     requires board { (system.now ≡ B.system board.now) × (limit ≡ B.limit board.now) × (worker ≡ B.worker pass.old) }
     ensures of { B.is_of board.now pass.new × (B.worker pass.new ≡ B.worker pass.old) }
+    ensures longer { IsLonger (B.seen pass.old) (B.seen pass.new) }
     ensures ended { IfOk result (λ ended. IsEnded system.now limit (B.seen pass.new) ended) }
     ensures drawn { B.seen pass.old ≡ [] → IsOwn worker (B.seen pass.new) → IfOk result (λ ended. IsDrawn system.now limit worker picker.old (B.seen pass.new) ended) }
     ensures later { IsLater picker.old picker.new }
@@ -67,6 +67,7 @@ fn work_on<B: Board, F: Finder, G: Gate, R: Wait>(
     requires board { (system.now ≡ B.system board.now) × (limit ≡ B.limit board.now) × (worker ≡ B.worker pass.old) }
     requires system { IsSystem system.now }
     ensures of { B.is_of board.now pass.new × (B.worker pass.new ≡ B.worker pass.old) }
+    ensures longer { IsLonger (B.seen pass.old) (B.seen pass.new) }
     ensures ended { IfOk result (λ ended. IsEnded system.now limit (B.seen pass.new) ended) }
     ensures drawn { B.seen pass.old ≡ [] → IsOwn worker (B.seen pass.new) → IfOk result (λ ended. IsDrawn system.now limit worker picker.old (B.seen pass.new) ended) }
     ensures later { IsLater picker.old picker.new }
@@ -97,6 +98,7 @@ fn turn<B: Board, F: Finder, G: Gate, R: Wait>(
     requires board { (system.now ≡ B.system board.now) × (limit ≡ B.limit board.now) × (worker ≡ B.worker pass.old) }
     requires system { IsSystem system.now }
     ensures of { B.is_of board.now pass.new × (B.worker pass.new ≡ B.worker pass.old) }
+    ensures longer { IsLonger (B.seen pass.old) (B.seen pass.new) }
     ensures turned { IfOk result (λ end. HasTurned system.now limit worker (B.seen pass.old) picker.old (B.seen pass.new) picker.new end) }
     ensures later { IsLater picker.old picker.new }
 {

@@ -1,11 +1,12 @@
 use Rattle.std.proofs.Common.{◌∙◌, refl}
+use Rattle.bg_workers.proofs.FollowLaws.{longer_same, longer_still}
 use Rattle.bg_workers.proofs.TurnLaws.{so_far_start, so_far_more}
 use Rattle.bg_workers.proofs.Turning.{later_still}
 use Rattle.bg_workers.proofs.following.follow_on.Goals as goal
 
 pub loop-ended-init : goal.loop-ended-init
 loop-ended-init g c =
-    (c.requires.of, refl, λ none own. so_far_start c.args.system.now c.requires.system c.args.limit c.args.worker c.args.picker.now (g.B.Board.seen c.args.pass.now) none, (0, refl), c.requires.stands, c.requires.behind)
+    (c.requires.of, refl, λ none own. so_far_start c.args.system.now c.requires.system c.args.limit c.args.worker c.args.picker.now (g.B.Board.seen c.args.pass.now) none, (0, refl), longer_same refl, c.requires.stands, c.requires.behind)
 
 pub loop-ended-preserved : goal.loop-ended-preserved
 loop-ended-preserved g c =
@@ -17,6 +18,7 @@ loop-ended-preserved g c =
       λ none own. so_far_more c.args.system.now c.requires.system c.args.limit c.args.worker c.args.picker.now (g.B.Board.seen c.loop-ended.pass) c.loop-ended.picker
           (g.B.Board.seen c.follow_turn.new.pass) (invariant.2 none) c.follow_turn.new.picker goes own,
       later_still invariant.3 c.follow_turn.ensures.later,
+      longer_still invariant.4 c.follow_turn.ensures.longer,
       c.follow_turn.ensures.stands,
       c.follow_turn.ensures.behind,
     )
@@ -26,3 +28,9 @@ returns-in_err-ended-clause-later g c = let invariant = c.loop-ended.invariant i
 
 pub returns-in-Some-clause-later : goal.returns-in-Some-clause-later
 returns-in-Some-clause-later g c = let invariant = c.loop-ended.invariant in later_still invariant.3 c.follow_turn.ensures.later
+
+pub returns-in_err-ended-clause-longer : goal.returns-in_err-ended-clause-longer
+returns-in_err-ended-clause-longer g c = let invariant = c.loop-ended.invariant in longer_still invariant.4 c.follow_turn.ensures.longer
+
+pub returns-in-Some-clause-longer : goal.returns-in-Some-clause-longer
+returns-in-Some-clause-longer g c = let invariant = c.loop-ended.invariant in longer_still invariant.4 c.follow_turn.ensures.longer

@@ -1,6 +1,7 @@
 use Rattle.std.proofs.Common.{arith}
 use Rattle.bg_cond.proofs.Committing.{found_at_view}
 use Rattle.bg_cond.proofs.DrawnRuns.{pick_legal}
+use Rattle.bg_workers.proofs.FollowLaws.{grown, longer_still}
 use Rattle.bg_workers.proofs.TurnLaws.{stops_limit, stops_quiet, goes_on_done, goes_on_again, stops_full}
 use Rattle.bg_workers.proofs.Turning.{no_word, one_word}
 use Rattle.bg_workers.proofs.working.turn.Goals as goal
@@ -72,3 +73,30 @@ returns-in-Again-clause-later g c = let chosen = rw c.in-Some.is at c.in_ok-foun
 
 pub returns-in-Full-clause-later : goal.returns-in-Full-clause-later
 returns-in-Full-clause-later g c = let chosen = rw c.in-Some.is at c.in_ok-found.ensures.found in one_word chosen.2
+
+pub returns-in_err-commit_found-clause-longer : goal.returns-in_err-commit_found-clause-longer
+returns-in_err-commit_found-clause-longer g c = longer_still (grown c.look.ensures.grows) c.commit_found.ensures.longer
+
+pub returns-in-Done-clause-longer : goal.returns-in-Done-clause-longer
+returns-in-Done-clause-longer g c = longer_still (grown c.look.ensures.grows) c.commit_found.ensures.longer
+
+pub returns-in-Again-clause-longer : goal.returns-in-Again-clause-longer
+returns-in-Again-clause-longer g c = longer_still (grown c.look.ensures.grows) c.commit_found.ensures.longer
+
+pub returns-in-Full-clause-longer : goal.returns-in-Full-clause-longer
+returns-in-Full-clause-longer g c = longer_still (grown c.look.ensures.grows) c.commit_found.ensures.longer
+
+pub returns-in-Spent-clause-longer : goal.returns-in-Spent-clause-longer
+returns-in-Spent-clause-longer g c = longer_still (grown c.look.ensures.grows) c.commit_found.ensures.longer
+
+pub returns-then-version-limit-clause-longer : goal.returns-then-version-limit-clause-longer
+returns-then-version-limit-clause-longer g c = grown c.look.ensures.grows
+
+pub returns-in_default-clause-longer : goal.returns-in_default-clause-longer
+returns-in_default-clause-longer g c = grown c.look.ensures.grows
+
+pub returns-in_err-found-clause-longer : goal.returns-in_err-found-clause-longer
+returns-in_err-found-clause-longer g c = grown c.look.ensures.grows
+
+pub returns-in_err-view-clause-longer : goal.returns-in_err-view-clause-longer
+returns-in_err-view-clause-longer g c = grown c.look.ensures.grows
