@@ -153,3 +153,98 @@ def reached():
         steps.update(dict.fromkeys(front, max(steps.values(), default=-1) + 1))
         front = {other for target in front for other in cites(*target)} - steps.keys()
     return steps
+
+
+# ---- docs/DEFINITIONS.md
+
+PARTS = ['What the clauses of `engine` reach', 'What contracts of libraries cite besides']
+
+
+def rows():
+    """Of each row its line, its part and its cells: 0 for the first part, 1 for the second."""
+    part, found = None, []
+    for number, line in enumerate(DEFINITIONS.read_text(encoding='utf-8').split('\n'), 1):
+        if line.startswith('## '):
+            part = PARTS.index(line[3:]) if line[3:] in PARTS else None
+        cells = [cell.strip() for cell in re.split(r'(?<!\\)\|', line)[1:-1]] if line.startswith('|') else []
+        if part is not None and cells and cells[0] != 'Definition' and set(cells[0]) != {'-'}:
+            found.append((number, part, cells))
+    return found
+
+
+def names_in(cell):
+    """The names of a cell in backquotes: the first word of each, but the names of crates."""
+    words = [words.split()[0] for words in re.findall(r'`([^`]+)`', cell)]
+    return [word for word in words if not (ROOT / 'crates' / word).is_dir()]
+
+
+def files_in(cell):
+    """The files of a cell, each behind the folder of the one before it where it has none of its own."""
+    folder, files = '', []
+    for word in re.findall(r'`([^`]+)`', cell):
+        folder = word.rpartition('/')[0] if '/' in word else folder
+        files.append(f'{folder}/{word.rpartition("/")[2]}')
+    return files
+
+
+def owner_in(file, name):
+    """The definition of that name in the file, or of which it is a case; of a source the type that is declared."""
+    path = ROOT / 'crates' / file
+    if not path.is_file():
+        return None
+    if path.suffix != '.antt':
+        return (file, name) if re.search(rf'^pub (struct|enum) {name}\b', path.read_text(encoding='utf-8'), re.M) else None
+    crate = path.parts[-3]
+    owner = owners_of(crate, path.stem).get(name)
+    return owner and (crate, path.stem, owner)
+
+
+def faults_of_row(part, cells, steps):
+    """What is wrong with a row."""
+    if len(cells) != 3:
+        return ['a row of another number of cells']
+    names, files = names_in(cells[0]), files_in(cells[2])
+    faults = [f'no file {file}' for file in files if not (ROOT / 'crates' / file).is_file()]
+    faults += [f'{file} has none of these' for file in files if not any(owner_in(file, name) for name in names)]
+    for name in names:
+        owners = [owner for file in files if (owner := owner_in(file, name))]
+        if not owners:
+            faults.append(f'{name} does not stand in {" or ".join(files)}')
+        elif part == 0 and not any(len(owner) == 2 or owner in steps for owner in owners):
+            faults.append(f'{name} is not reached')
+        elif part == 1 and all(owner in steps for owner in owners):
+            faults.append(f'{name} is reached')
+    return faults
+
+
+def faults_of(steps):
+    """What is wrong with docs/DEFINITIONS.md."""
+    found, named = rows(), set()
+    faults = [f':{number}: {fault}' for number, part, cells in found for fault in faults_of_row(part, cells, steps)]
+    for _, part, cells in found:
+        named.update(files_in(cells[-1]) if part == 0 else [])
+    wanted = {f'{crate}/specs/{file}.antt' for crate, file, _ in steps}
+    return faults + [f': no row of the first part for {file}' for file in sorted(wanted - named)]
+
+
+def listed(steps):
+    """The files that are reached, from `engine` on, and what of them is."""
+    files = {}
+    for (crate, file, name), count in steps.items():
+        files.setdefault(f'crates/{crate}/specs/{file}.antt', []).append((count, name))
+    ordered = sorted(files.items(), key=lambda item: (min(item[1])[0], item[0]))
+    return [f'{min(found)[0]} {file}: {" ".join(name for _, name in sorted(found))}' for file, found in ordered]
+
+
+def main(words):
+    if words not in ([], ['--list']):
+        print('check_definitions.py or check_definitions.py --list', file=sys.stderr)
+        return 2
+    steps = reached()
+    told = listed(steps) if words else [f'docs/DEFINITIONS.md{fault}' for fault in faults_of(steps)]
+    print(*told, sep='\n', end='\n' if told else '')
+    return 1 if told and not words else 0
+
+
+if __name__ == '__main__':
+    sys.exit(main(sys.argv[1:]))
