@@ -2,13 +2,13 @@
 """Checks docs/DEFINITIONS.md: check_definitions.py, or check_definitions.py --list
 
 What one has to believe for the clauses of `engine` is what these clauses reach: the definitions that they cite, those that the
-bodies of these cite, and so on. Names are followed through the `use` lines of each file, definition by definition; a name that is
-bound where it stands, as an argument or a field, is none. Types that are declared in the sources are not followed.
+bodies of these cite, and so on. Names are followed through the `use` lines of each file, definition by definition; a name that
+is bound where it stands, as an argument or a field, is none. Types that are declared in the sources are not followed.
 
-The script fails where a definition that docs/DEFINITIONS.md names does not stand in the file that is named beside it, where its
-first part names one that is not reached, or has no row for a file of which some definition is reached, and where its second part
-names one that is reached. It prints what is wrong, with the line, and ends with 1 if anything is. `--list` prints the files that
-are reached, each behind the number of `use` lines to it, and what of them is.
+It fails where a definition that docs/DEFINITIONS.md names does not stand in the file that is named beside it, where the first
+part names one that is not reached, or has no row for a file of which some definition is reached, and where the second part
+names one that is reached. It prints what is wrong, with the line, and ends with 1 if anything is. `--list` prints the files
+that are reached, each behind the number of steps to it, and what of them is.
 """
 import functools
 import pathlib

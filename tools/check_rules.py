@@ -1,11 +1,11 @@
 #!/usr/bin/env python3
 """Checks docs/RULES.md: check_rules.py
 
-Of each link of each table: its file is there, and the name in front stands in it, a definition as a definition, a function as
-`fn NAME`, a clause as `ensures CLAUSE {` above its function, an example by its name, by what a row expects or gives, or by a text, a test
-as a test, an edit or a planted bug by its name. Then that each rule has a row: each code, status and refusal of a call in
-docs/REFUSALS.md, each clause of a solid bigraph, local condition and verdict. Prints what is wrong, with the line, and ends with
-1 if anything is.
+Of each link: its file is there, and the name in front stands in it, a definition as a definition, a function as `fn NAME`, a
+clause as `ensures CLAUSE {` above its function, an example by its name, by what a row expects or gives, or by a text, a test as
+a test, an edit or a planted bug by its name. Then that each rule has a row: each code, status and refusal of a call in
+docs/REFUSALS.md, each clause of a solid bigraph, local condition and verdict. It prints what is wrong, with the line, and ends
+with 1 if anything is.
 """
 import functools
 import pathlib
@@ -18,6 +18,7 @@ REFUSALS = ROOT / 'docs' / 'REFUSALS.md'
 NONE = '—'
 LINK = re.compile(r'\[`([^`]+)`\]\(([^)]+)\)')
 CLAUSE = re.compile(r'(?:(`\w+`(?: and `\w+`)*) of|the clause of) ' + LINK.pattern)
+PLAIN = re.compile(r'\[([^\]]+)\]\(([^)#]+)\)')
 COLUMNS = ['Definition', 'Code', 'Clause', 'Shown by', 'Edit or planted bug']
 CHECKED = {'Definition', 'Code', 'Clause'}
 
@@ -141,6 +142,29 @@ def tables_of(path):
     return sections
 
 
+def faults_of_text(text):
+    """What is wrong with the links outside of tables, each fault with its line."""
+    faults = []
+    for number, line in enumerate(text.split('\n'), 1):
+        if not line.startswith('|'):
+            faults.extend((number, fault) for found in PLAIN.finditer(line) if (fault := fault_of_plain(*found.groups())))
+    return faults
+
+
+def fault_of_plain(name, target):
+    """Why the link's file, or the word, function, type or module that it names there, is not, or None."""
+    path = (RULES.parent / target).resolve()
+    text = text_of(path)
+    if text is None:
+        return f'no file {target}'
+    word = name.strip('`')
+    if name == word or path.stem == word:
+        return None
+    declared = re.search(rf'^pub (enum|struct) {re.escape(word)}\b', text, re.M) or headers_of(text, word)
+    found = has_definition(text, word) if path.suffix == '.antt' else declared
+    return None if found else f'no {word} in {target}'
+
+
 def told_by(section, key):
     """What the examples of a row have to show."""
     if section.startswith('Codes of'):
@@ -227,7 +251,8 @@ def faults_of_sections(sections):
 
 def main():
     sections = tables_of(RULES)
-    faults = [f'docs/RULES.md:{number}: {fault}' for number, fault in faults_of_rows(sections)]
+    faults = sorted(faults_of_text(text_of(RULES)) + faults_of_rows(sections))
+    faults = [f'docs/RULES.md:{number}: {fault}' for number, fault in faults]
     faults.extend(f'docs/RULES.md: {fault}' for fault in faults_of_sections(sections))
     print(*faults, sep='\n', end='\n' if faults else '')
     return 1 if faults else 0
