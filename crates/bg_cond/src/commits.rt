@@ -7,6 +7,7 @@ use bg_rules::{Host, System};
 pub struct View {
     /// How many entries of the history lead to the host.
     pub version: u32,
+    /// The host after these.
     pub host: Host,
 }
 
@@ -15,6 +16,7 @@ pub struct View {
 pub struct Found {
     /// The step is legal at the host after so many entries.
     pub version: u32,
+    /// The step.
     pub step: Step,
 }
 
@@ -34,8 +36,10 @@ pub enum Commit {
 /// A host that is shared no more.
 #[derive(Debug, Drop)]
 pub struct Closed {
+    /// The system whose steps were committed.
     pub system: System,
     /// The host after all entries.
     pub host: Host,
+    /// All entries, in the order in which they were committed.
     pub journal: Journal,
 }

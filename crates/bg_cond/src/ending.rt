@@ -8,9 +8,7 @@ pub enum End {
     Quiet,
     /// It has as many entries as were asked for.
     Limit,
-    /// The step was picked, and its result passes a limit of a host.
-    Full {
-        /// It is legal at the last host.
-        step: Step,
-    },
+    /// The step is legal at the last host, and its result passes a limit of a host. Of a run by one worker it is the step that was
+    /// picked.
+    Full { step: Step },
 }

@@ -61,6 +61,17 @@ impl KeptFinder {
         })
     }
 
+    /// Stands for the view's host at its version from now on. Costs what [`Replica::start`] costs. Where there is no memory, it stands
+    /// where it stood.
+    pub fn look_at(&mut self, alloc: Global, view: &View) -> Mem<()>
+        ensures at { OnOk result (self.new ≡ record { version = view.now.version; host = view.now.host; lists = None }) }
+        ensures no_memory { OnErr result (Stays self.old self.new) }
+    {
+        self.lists = None;
+        self.replica = Replica::at(alloc, view.version, &view.host)?;
+        Ok(())
+    }
+
     /// The host.
     pub fn host(&self) -> &IndexedHost
         ensures { result.now ≡ self.now.host }
@@ -248,10 +259,9 @@ fn pick_anew(
 }
 
 impl Finder for KeptFinder {
-    /// As [`steps_in`], at a replica of the view, which stays: costs what [`KeptFinder::start`] costs besides.
+    /// As [`steps_in`], where it then stands, at the view ([`KeptFinder::look_at`]).
     fn steps(&mut self, alloc: Global, system: &System, view: &View, most: u32) -> Mem<Vec<Step>> {
-        self.lists = None;
-        self.replica = Replica::at(alloc, view.version, &view.host)?;
+        self.look_at(alloc, view)?;
         steps_in(alloc, self.replica.host(), system, most)
     }
 }

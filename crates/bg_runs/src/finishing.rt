@@ -20,7 +20,9 @@ use std::alloc::Global;
 pub struct FinishedRun {
     /// The system that was run.
     pub system: System,
+    /// All entries, of all workers, in the order in which they were committed.
     pub journal: Journal,
+    /// Why there are no more.
     pub end: End,
     /// The host after all entries.
     pub host: Host,

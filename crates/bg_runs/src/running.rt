@@ -23,7 +23,8 @@ use std::thread::Threads;
 /// picked step passes a limit of a host.
 ///
 /// With one worker the run is the one that the seed draws; with more it is some run. It refuses for want of memory alone. It
-/// may wait. Each turn of a worker costs what the legal steps of the host and a reaction cost, and two copies of the host.
+/// may wait. Each turn of a worker costs the entries that came, a pick, and a reaction in place; each worker holds a host of its own,
+/// indexed, and the lists that it keeps.
 pub fn run<G: Gate + Sync, R: Threads + Wait + Sync>(
     rt: &R,
     alloc: Global,

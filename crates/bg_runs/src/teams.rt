@@ -7,9 +7,9 @@ ghost use Rattle.bg_shared.specs.Shared.{OfTable};
 ghost use Rattle.bg_workers.specs.Following.{AllRunFollowing, IsStanding, as_member};
 ghost use Rattle.bg_workers.specs.Members.{IsReady};
 
-use bg_cond::{Follower, Gate, HostName, View};
+use bg_cond::{Follower, Gate, HostName};
 use bg_incr::KeptFinder;
-use bg_lists::{Duplicate, Mem, OutOfMemory};
+use bg_lists::{Mem, OutOfMemory};
 use bg_rules::System;
 use bg_seats::{Pass, worker};
 use bg_shared::SharedHost;
@@ -26,32 +26,20 @@ fn team_of(alloc: Global, passes: Vec<Pass>, seed: u64, system: &System) -> Mem<
     ensures team { IfOk result (λ members. IsTeam seed passes.items members.items) }
     ensures standing { IfOk result (λ members. AllByRecursion (StandsFirst system.now) members.items) }
 {
-    let view = first_view(alloc, system)?;
     let mut members = Vec::new(alloc);
     for pass in passes {
-        members.push(member_of(alloc, pass, seed, system, &view)?)?;
+        members.push(member_of(alloc, pass, seed, system)?)?;
     }
     Ok(members)
 }
 
-/// The system's first host, before any entry.
-fn first_view(alloc: Global, system: &System) -> Mem<View>
-    ensures version { IfOk result (λ view. view.version ≡ 0) }
-    ensures host { IfOk result (λ view. view.host ≡ system.now.init) }
-{
-    let host = system.init().copy(alloc)?;
-    Ok(View { version: 0, host })
-}
-
-/// The worker with that pass, which stands at the view.
-fn member_of(alloc: Global, pass: Pass, seed: u64, system: &System, view: &View) -> Mem<Worker>
-    requires version { view.now.version ≡ 0 }
-    requires host { view.now.host ≡ system.now.init }
+/// The worker with that pass, which stands at the system's first host.
+fn member_of(alloc: Global, pass: Pass, seed: u64, system: &System) -> Mem<Worker>
     ensures member { IfOk result (λ member. IsMember seed pass member) }
     ensures standing { IfOk result (λ member. StandsFirst system.now member) }
 {
     let number = worker(&pass);
-    let follower = KeptFinder::start(alloc, view, system)?;
+    let follower = KeptFinder::at(alloc, 0, system.init())?;
     Ok(FollowMember {
         pass,
         follower,
@@ -92,7 +80,8 @@ fn run_members<N: HostName + Send + Sync, G: Gate + Sync, R: Threads + Wait + Sy
     requires limit { limit ≡ N.limit }
     requires members { All (λ member. IsReady (λ (pass : PassView). pass.table ≡ N.table) (λ (pass : PassView). pass.worker) (as_member member)) members.items }
     requires standing { All (IsStanding ⟦<KeptFinder as Follower>⟧.stands ⟦<KeptFinder as Follower>⟧.version ⟦<KeptFinder as Follower>⟧.host (λ (pass : PassView). pass.seen) N.system) members.items }
-    ensures { AllRunFollowing (λ (pass : PassView). pass.table ≡ N.table) (λ (pass : PassView). pass.worker) (λ (pass : PassView). pass.seen) N.system limit members.items result.items }
+    ensures { AllRunFollowing (λ (pass : PassView). pass.table ≡ N.table) (λ (pass : PassView). pass.worker)
+        ⟦<KeptFinder as Follower>⟧.stands ⟦<KeptFinder as Follower>⟧.version ⟦<KeptFinder as Follower>⟧.host (λ (pass : PassView). pass.seen) N.system limit members.items result.items }
 {
     run_following(
         rt,

@@ -135,6 +135,7 @@ impl HistoryTable {
         requires { pass.old.table ≡ self.now }
         ensures same { pass.new ≡ pass.old }
         ensures seen { length pass.old.seen ≤ result }
+        ensures short { result ≤ most_steps }
     {
         self.table.shared.load::<Loads>(&mut pass.seat, 0) as u32
     }

@@ -109,12 +109,11 @@ impl<N: HostName> Core<N> {
             return Ok(Commit::Spent { limit: self.limit });
         }
         let entry = entry_by(alloc, worker(pass), &found.step)?;
-        let noted = entry.copy(alloc)?;
         self.journal.reserve(1)?;
         match take_step_in_place(alloc, &mut self.host, system, &found.step) {
             Ok(_causes) => {
-                self.journal.push_reserved(noted);
                 let version = table.append(pass, &mut self.turn, &entry);
+                self.journal.push_reserved(entry);
                 Ok(Commit::Done { version })
             }
             Err(ReactFault::Full) => {

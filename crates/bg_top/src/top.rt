@@ -50,7 +50,7 @@ pub const NO_MEMORY: u8 = 5;
 /// |---|---|---|
 /// | 0 | the command's text | all else |
 /// | 1 | a line `refused ..` | exactly where the input is refused |
-/// | 2 | `words` | exactly where the words are refused; the source is not read, nor is it for `trial` |
+/// | 2 | `words` | exactly where the words are refused; the source is not read |
 /// | 3 | nothing | exactly where the source's count of faults rose |
 /// | 4 | a prefix of the text | exactly where the sink's count of faults rose |
 /// | 5 | a prefix of the text | want of memory |

@@ -3,7 +3,7 @@ ghost use Rattle.std.specs.Prelude.{◌≡◌, ◌≤◌, ◌<◌, ◌+◌, ◌^
 ghost use Rattle.bg_base.specs.Limits.{most_steps};
 ghost use Rattle.bg_cond.specs.Drawn.{Draws};
 ghost use Rattle.bg_incr.specs.Finders.{StandsFor};
-ghost use Rattle.bg_workers.specs.Turns.{Turns, after_words, behind_end};
+ghost use Rattle.bg_workers.specs.Turns.{IsLater, Turns, after_words, behind_end};
 
 use bg_base::{Entry, Journal, Step};
 use bg_cond::{End, Follower, Picker};
@@ -17,6 +17,7 @@ use std::alloc::Global;
 pub struct DrawnRun {
     /// Each entry has the worker 0.
     pub journal: Journal,
+    /// Why there are no more.
     pub end: End,
     /// The host after all entries.
     pub host: Host,
@@ -26,7 +27,7 @@ pub struct DrawnRun {
 /// 4,096 legal steps are the candidates, and the next word of the generator, modulo their number, is the place of the one
 /// that is taken. The generator is then a word further for each entry, and one more where the picked step passes a limit.
 /// The host is indexed once, and taken from the index at the end; each turn costs what [`KeptFinder`] pays to pick and to take
-/// a step.
+/// a step. It refuses for want of memory alone; the generator is then some words further.
 pub fn draw(
     alloc: Global,
     system: &System,
@@ -37,6 +38,7 @@ pub fn draw(
     requires { most ≤ most_steps }
     ensures drawn { IfOk result (λ run. Draws system.now.rules 0 most host picker.old run.journal run.end run.host) }
     ensures words { IfOk result (λ run. picker.new ≡ behind_end run.end (after_words (length run.journal) picker.old)) }
+    ensures later { IsLater picker.old picker.new }
 {
     let mut finder = KeptFinder::at(alloc, 0, &host)?;
     drop(host);
@@ -63,6 +65,7 @@ fn draw_in(
     ensures drawn { IfOk result (λ drawn. Draws system.now.rules 0 most finder.old.host picker.old drawn.0.items drawn.1 finder.new.host) }
     ensures words { IfOk result (λ drawn. picker.new ≡ behind_end drawn.1 (after_words (length drawn.0.items) picker.old)) }
     ensures few { IfOk result (λ drawn. length drawn.0.items ≤ most_steps) }
+    ensures later { IsLater picker.old picker.new }
 {
     let mut entries = Vec::new(alloc);
     let mut room = most;
@@ -89,6 +92,7 @@ fn draw_one(
     ensures stands { StandsFor finder.new system.now }
     ensures version { IfOk result (λ end. finder.new.version ≤ finder.old.version + 1) }
     ensures turns { IfOk result (λ end. Turns system.now.rules worker finder.old.host picker.old entries.old.items finder.new.host picker.new entries.new.items end) }
+    ensures later { IsLater picker.old picker.new }
 {
     let Some(step) = finder.pick(alloc, system, picker)? else {
         return Ok(Some(End::Quiet));

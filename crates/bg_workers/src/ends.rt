@@ -17,8 +17,11 @@ pub enum Ended {
 /// A worker that is to run, or has run: its pass, by whom it finds steps, by what it picks them, and its number.
 #[derive(Drop)]
 pub struct Member<P, F> {
+    /// What the worker has seen.
     pub pass: P,
+    /// By whom it finds its steps.
     pub finder: F,
+    /// The generator by which it picks them.
     pub picker: Picker,
     /// Counted from 0.
     pub worker: u32,
@@ -30,8 +33,11 @@ pub struct Member<P, F> {
 /// them, and its number.
 #[derive(Drop)]
 pub struct FollowMember<P, F> {
+    /// What the worker has seen.
     pub pass: P,
+    /// By whom it follows the entries, and finds its steps.
     pub follower: F,
+    /// The generator by which it picks them.
     pub picker: Picker,
     /// Counted from 0.
     pub worker: u32,

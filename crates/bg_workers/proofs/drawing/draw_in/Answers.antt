@@ -1,7 +1,7 @@
 use Rattle.std.proofs.Common.{◌≡◌, ◌-◌, suc, List, length, arith, refl, sym, ap, subst}
 use Rattle.bg_base.specs.declared.history.Entry.{Entry}
 use Rattle.bg_workers.specs.Turns.{Continues, after_words}
-use Rattle.bg_workers.proofs.Turning.{starts, goes_on, stops, spent, few_drawn, words_on, words_end}
+use Rattle.bg_workers.proofs.Turning.{starts, goes_on, stops, spent, few_drawn, words_on, words_end, no_word, later_still}
 use Rattle.bg_workers.proofs.drawing.draw_in.Goals as goal
 
 pub loop-room-init : goal.loop-room-init
@@ -13,6 +13,7 @@ loop-room-init c =
       ap (λ (xs : List Entry). after_words (length xs) c.args.picker.now) (sym none),
       c.requires.stands,
       omega (arith, first),
+      no_word refl,
     )
 
 pub returns-in-Some-clause-drawn : goal.returns-in-Some-clause-drawn
@@ -43,6 +44,7 @@ loop-room-preserved c =
           c.loop-room.entries.items c.draw_one.new.entries.items c.loop-room.invariant.1 (rw c.in_default.is at c.in_ok-end.ensures.turns),
       c.draw_one.ensures.stands,
       omega (arith, more, before, after),
+      later_still c.loop-room.invariant.4 c.draw_one.ensures.later,
     )
 
 pub returns-clause-drawn : goal.returns-clause-drawn
@@ -57,3 +59,12 @@ returns-clause-words c = c.loop-room.invariant.1
 
 pub returns-clause-few : goal.returns-clause-few
 returns-clause-few c = few_drawn (returns-clause-drawn c) c.requires.most
+
+pub returns-in_err-end-clause-later : goal.returns-in_err-end-clause-later
+returns-in_err-end-clause-later c = later_still c.loop-room.invariant.4 c.draw_one.ensures.later
+
+pub returns-in-Some-clause-later : goal.returns-in-Some-clause-later
+returns-in-Some-clause-later c = later_still c.loop-room.invariant.4 c.draw_one.ensures.later
+
+pub returns-clause-later : goal.returns-clause-later
+returns-clause-later c = c.loop-room.invariant.4

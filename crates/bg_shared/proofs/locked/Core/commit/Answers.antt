@@ -34,9 +34,8 @@ invariant_of-self-in-Ok g c =
     let journal = c.self.inside.journal.items in
     let legal = legal_now kept c.compare.ensures.grows c.requires.found (omega arith) in
     let entry : Entry = entry_of c.worker.result c.args.found.now.step in
-    let copied = c.in_ok-noted.ensures ∙ c.in_ok-entry.ensures in
     let appended : c.push_reserved.new.self.items ≡ journal ++ entry ∷ [] = c.push_reserved.ensures.items
-    ∙ ap (λ (xs : List Entry). xs ++ c.in_ok-noted.noted ∷ []) c.reserve.ensures.items ∙ ap (λ (x : Entry). journal ++ x ∷ []) copied in
+    ∙ ap (λ (xs : List Entry). xs ++ c.in_ok-entry.entry ∷ []) c.reserve.ensures.items ∙ ap (λ (x : Entry). journal ++ x ∷ []) c.in_ok-entry.ensures in
     let before = c.compare.ensures.turn ∙ kept.turn_is in
     let after = c.append-version.ensures.turn ∙ (ap (λ (t : TurnView). record t { list = t.list ++ c.in_ok-entry.entry ∷ [] }) before
     ∙ ap (λ (x : Entry). record { table = g.N.HostName.table; passes = g.N.HostName.passes; list = journal ++ x ∷ [] }) c.in_ok-entry.ensures) in
