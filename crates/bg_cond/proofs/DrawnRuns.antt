@@ -16,7 +16,7 @@ use Rattle.rand_pcg.specs.Lcg.{Lcg}
 use Rattle.bg_cond.specs.Conditions.{IsEnabled}
 use Rattle.bg_cond.specs.Drawn.{most_candidates, IsPick, entry_of, Draws, limit, quiet, full, drawn, IsEndOf}
 use Rattle.bg_cond.specs.Picks.{picked, next_state}
-use Rattle.bg_cond.specs.Steps.{IsLegal, IsQuiet, HasNoStep, LeadsTo, IsTooLarge, step_of, IsRun, ended, stepped}
+use Rattle.bg_cond.specs.Steps.{IsLegal, NoneEnabled, HasNoStep, LeadsTo, IsTooLarge, step_of, IsRun, ended, stepped}
 use Rattle.bg_cond.specs.declared.ending.End.{End}
 use Rattle.bg_cond.specs.declared.ending.End.TheVariants.{Quiet, Limit, Full}
 use Rattle.bg_cond.proofs.OneList.{first_one}
@@ -120,7 +120,7 @@ end_behind rules most entries more after (Full step) le is =
 
 -- ---- quiet hosts
 
-pub quiet_none : (host : HostState) (rules : List RuleParts) → IsQuiet host rules → HasNoStep host rules
+pub quiet_none : (host : HostState) (rules : List RuleParts) → NoneEnabled host rules → HasNoStep host rules
 quiet_none host rules is =
     record { none = λ step legal. is.none legal.enabled.rule step.map (Mem-from_At legal.enabled.there) legal.enabled.enabled }
 
@@ -140,7 +140,7 @@ module _ (host : HostState) (rules : List RuleParts) (none : HasNoStep host rule
         };
       })
 
-  pub none_quiet : IsQuiet host rules
+  pub none_quiet : NoneEnabled host rules
   none_quiet = record { none = λ rule nodes m e. none_below (suc rule.class) rule nodes m e (omega arith) }
 
 -- ---- signatures

@@ -15,7 +15,7 @@ use Rattle.bg_cond.specs.Conditions.{IsEnabledSomewhere}
 use Rattle.bg_cond.specs.Found.{is_higher, IsHigherOf, kept, raised}
 use Rattle.bg_cond.specs.Pieces.{hole_control}
 use Rattle.bg_cond.specs.Sides.{IsSought, LooksForNodes}
-use Rattle.bg_cond.specs.Steps.{IsFirstClass, IsQuiet}
+use Rattle.bg_cond.specs.Steps.{IsFirstClass, NoneEnabled}
 use Rattle.bg_cond.proofs.Upto.{item_at}
 
 -- ---- the rules of a system look for nodes
@@ -130,7 +130,7 @@ module _ (host : HostState) (rules : List RuleParts) where
     first_next old new (raised e some before) first = subst (λ o. IsFirstUpto host rules (place + 1) o) (sym e) (raised_case old some before first)
 
   pub first_ends : (place : ℕ) → length rules ≤ place → (first : Option ℕ) → IsFirstUpto host rules place first
-      → MatchOption first (IsQuiet host rules) (λ class. IsFirstClass host rules class)
+      → MatchOption first (NoneEnabled host rules) (λ class. IsFirstClass host rules class)
   first_ends place ended None first =
       record {
         none = λ rule nodes m e. let a = At-from_Mem m in

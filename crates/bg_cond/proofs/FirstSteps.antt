@@ -19,7 +19,7 @@ use Rattle.bg_rules.specs.Reaction.{HostState}
 use Rattle.bg_rules.specs.Rules.{RuleParts}
 use Rattle.bg_cond.specs.Conditions.{IsEnabled}
 use Rattle.bg_cond.specs.Found.{IsEnabledBelow}
-use Rattle.bg_cond.specs.Steps.{IsEnabledStep, IsFirstClass, IsQuiet, IsLegal, step_cmp, AreFirst}
+use Rattle.bg_cond.specs.Steps.{IsEnabledStep, IsFirstClass, NoneEnabled, IsLegal, step_cmp, AreFirst}
 
 -- ---- in general
 
@@ -269,6 +269,6 @@ module _ (most : ℕ) (host : HostState) (rules : List RuleParts) (class : ℕ) 
       let enabled : IsEnabledStep host rules class step = subst (λ c. IsEnabledStep host rules c step) same w.enabled in
       record { enabled = enabled; below = At-below enabled.there }) first
 
-  pub found_quiet : IsQuiet host rules → AreFirst most (IsLegal host rules) []
+  pub found_quiet : NoneEnabled host rules → AreFirst most (IsLegal host rules) []
   found_quiet quiet =
       first_none most (IsLegal host rules) (λ step w. quiet.none w.enabled.rule step.map (Mem-from_At w.enabled.there) w.enabled.enabled)

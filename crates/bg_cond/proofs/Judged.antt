@@ -11,7 +11,7 @@ use Rattle.bg_rules.specs.Hosts.{IsHost}
 use Rattle.bg_rules.specs.Reaction.{HostState}
 use Rattle.bg_rules.specs.Rules.{RuleParts}
 use Rattle.bg_cond.specs.Sides.{HoldsInHost, IsSought, LooksForNodes}
-use Rattle.bg_cond.specs.Steps.{IsEnabledStep, IsHighest, IsLegal, AreFirstLegal}
+use Rattle.bg_cond.specs.Steps.{IsEnabledStep, NoneHigher, IsLegal, AreFirstLegal}
 use Rattle.bg_cond.specs.Verdicts.{IsNoOccurrence, IsFirstFailing, IsHigher, IsFirstUnmet, IsEnabledThere, HasClass}
 use Rattle.bg_cond.proofs.DrawnRuns.{none_quiet}
 use Rattle.bg_cond.proofs.HostConditions.{holds_in_host, holds_in_pieces, enabled_from_host}
@@ -97,7 +97,7 @@ module _ (host : HostState) (rules : List RuleParts) (step : Step) where
           let up = legal.highest.none_higher enabled.1.rule step.map (Mem-from_At enabled.1.there) enabled.1.enabled in
           let of = enabled.1.of_class in
           let same : legal.class ≡ enabled.0 = omega (arith, one, two, more, up, of) in
-          record { class = enabled.0; enabled = enabled.1; highest = subst (λ c. IsHighest host rules c) same legal.highest }
+          record { class = enabled.0; enabled = enabled.1; highest = subst (λ c. NoneHigher host rules c) same legal.highest }
 
   pub judged_absent : (rule : RuleParts) (big pattern : Big) (images : List ℕ) → At rule step.rule rules → big ≡ host.big → pattern ≡ rule.redex
       → images ≡ step.map → (Occurs big pattern images → ⊥) → IsNoOccurrence host rules step

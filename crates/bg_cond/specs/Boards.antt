@@ -9,7 +9,7 @@ use Rattle.bg_cond.specs.declared.commits.Commit.{Commit}
 use Rattle.bg_cond.specs.declared.commits.Commit.TheVariants.{Done, Again, Spent, Full}
 use Rattle.bg_rules.specs.Reaction.{HostState}
 use Rattle.bg_rules.specs.Systems.{SystemParts}
-use Rattle.bg_seats.specs.Histories.{Grows}
+use Rattle.bg_seats.specs.Histories.{GrowsByOthers}
 
 -- the view is of all that was seen, which is a run of at most so many entries
 pub record Shows (system : SystemParts) (limit : ℕ) (seen : List Entry) (view : View) : Type 0 where
@@ -46,20 +46,20 @@ pub record IsDone (system : SystemParts) (limit worker : ℕ) (before after : Li
 
 -- more entries are there than those that the step was found after
 pub record IsAgain (worker : ℕ) (before after : List Entry) (found : Found) (version : ℕ) : Type 0 where
-  pub grows : Grows worker before after
+  pub grows : GrowsByOthers worker before after
   pub newer : found.version < version
   pub number : version ≡ length after
 
 -- no more entries are there, and no more may be
 pub record IsSpent (limit worker : ℕ) (before after : List Entry) (found : Found) (told : ℕ) : Type 0 where
-  pub grows : Grows worker before after
+  pub grows : GrowsByOthers worker before after
   pub newest : found.version ≡ length after
   pub spent : length after ≡ limit
   pub number : told ≡ limit
 
 -- no more entries are there, there is room, and what the step leads to passes a limit
 pub record IsFull (system : SystemParts) (limit worker : ℕ) (before after : List Entry) (found : Found) : Type 0 where
-  pub grows : Grows worker before after
+  pub grows : GrowsByOthers worker before after
   pub newest : found.version ≡ length after
   pub room : length after < limit
   pub host : HostState

@@ -14,7 +14,7 @@ use Rattle.bg_rules.specs.Rules.{RuleParts}
 use Rattle.bg_cond.specs.Conditions.{IsEnabled}
 
 -- no rule of a higher class, that is of a class with a lower number, is enabled anywhere
-pub record IsHighest (host : HostState) (rules : List RuleParts) (class : ℕ) : Type 0 where
+pub record NoneHigher (host : HostState) (rules : List RuleParts) (class : ℕ) : Type 0 where
   pub none_higher : (rule : RuleParts) (nodes : List ℕ) → Mem rule rules → IsEnabled host rule nodes → class ≤ rule.class
 
 -- the rule of that number is of the class, and is enabled at the nodes
@@ -28,17 +28,17 @@ pub record IsEnabledStep (host : HostState) (rules : List RuleParts) (class : �
 pub record IsFirstClass (host : HostState) (rules : List RuleParts) (class : ℕ) : Type 0 where
   pub step : Step
   pub enabled : IsEnabledStep host rules class step
-  pub highest : IsHighest host rules class
+  pub highest : NoneHigher host rules class
 
 -- no rule is enabled anywhere
-pub record IsQuiet (host : HostState) (rules : List RuleParts) : Type 0 where
+pub record NoneEnabled (host : HostState) (rules : List RuleParts) : Type 0 where
   pub none : (rule : RuleParts) (nodes : List ℕ) → Mem rule rules → IsEnabled host rule nodes → ⊥
 
 -- the step is legal: its rule is enabled at its nodes, and no rule of a higher class is enabled anywhere
 pub record IsLegal (host : HostState) (rules : List RuleParts) (step : Step) : Type 0 where
   pub class : ℕ
   pub enabled : IsEnabledStep host rules class step
-  pub highest : IsHighest host rules class
+  pub highest : NoneHigher host rules class
 
 -- steps by rule, then by map
 abbrev pub step_cmp : Step → Step → Ordering

@@ -3,7 +3,7 @@ ghost use Rattle.std.specs.Prelude.{◌≡◌, ◌≤◌, ℕ, List, length, IfO
 ghost use Rattle.bg_base.specs.declared.history.Entry.{Entry as EntryValue};
 ghost use Rattle.bg_cond.specs.Boards.{Shows, IsNews, IsFound, IsCommitted};
 ghost use Rattle.bg_rules.specs.Systems.{SystemParts};
-ghost use Rattle.bg_seats.specs.Histories.{Grows};
+ghost use Rattle.bg_seats.specs.Histories.{GrowsByOthers};
 
 use crate::commits::{Commit, Found, View};
 use bg_base::Entry;
@@ -39,7 +39,7 @@ pub trait Board {
         requires { is_of self.now pass.old }
         ensures of { is_of self.now pass.new }
         ensures worker { worker pass.new ≡ worker pass.old }
-        ensures grows { Grows (worker pass.old) (seen pass.old) (seen pass.new) }
+        ensures grows { GrowsByOthers (worker pass.old) (seen pass.old) (seen pass.new) }
         ensures shows { IfOk result (λ view. Shows (system self.now) (limit self.now) (seen pass.new) view) }
         ensures no_memory { OnErr result (pass.new ≡ pass.old) };
 
@@ -56,7 +56,7 @@ pub trait Board {
         requires seen { from ≤ length (seen pass.old) }
         ensures of { is_of self.now pass.new }
         ensures worker { worker pass.new ≡ worker pass.old }
-        ensures grows { Grows (worker pass.old) (seen pass.old) (seen pass.new) }
+        ensures grows { GrowsByOthers (worker pass.old) (seen pass.old) (seen pass.new) }
         ensures news { IfOk result (λ entries. IsNews (system self.now) (limit self.now) from (seen pass.new) entries.items) }
         ensures no_memory { OnErr result (pass.new ≡ pass.old) };
 

@@ -2,7 +2,7 @@
 ghost use Rattle.std.specs.Prelude.{◌↔◌, IfOk, IsTrue};
 ghost use Rattle.bg_rules.specs.Decomposition.{Occurs};
 ghost use Rattle.bg_cond.specs.Conditions.{IsEnabled, IsEnabledSomewhere};
-ghost use Rattle.bg_cond.specs.Lists.{AreListsOf};
+ghost use Rattle.bg_cond.specs.Lists.{AreListsOfConditions};
 ghost use Rattle.bg_cond.specs.Sides.{LooksForNodes};
 
 use crate::holding::all_hold;
@@ -22,7 +22,7 @@ pub(crate) fn is_enabled_at<H: NumberedHost>(
 ) -> Mem<bool>
     requires occurs { Occurs (H.state host.now).big rule.now.redex map.now }
     requires looks { LooksForNodes rule.now }
-    requires lists { AreListsOf (H.big host.now) rule.now.conditions lists.now }
+    requires lists { AreListsOfConditions (H.big host.now) rule.now.conditions lists.now }
     ensures { IfOk result (λ answer. IsTrue answer ↔ IsEnabled (H.state host.now) rule.now map.now) }
 {
     host.keeps();
@@ -52,7 +52,7 @@ fn is_enabled_by<H: NumberedHost>(
     lists: &[Option<Listed>],
 ) -> Mem<bool>
     requires looks { LooksForNodes rule.now }
-    requires lists { AreListsOf (H.big host.now) rule.now.conditions lists.now }
+    requires lists { AreListsOfConditions (H.big host.now) rule.now.conditions lists.now }
     ensures { IfOk result (λ answer. IsTrue answer ↔ IsEnabledSomewhere (H.state host.now) rule.now) }
 {
     host.keeps();

@@ -3,7 +3,7 @@ ghost use Rattle.std.specs.Prelude.{◌≡◌, ◌↔◌, ◌<◌, ◌^◌, leng
 ghost use Rattle.std.specs.List.{All};
 ghost use Rattle.std.specs.List.Sorted.{IsSorted};
 ghost use Rattle.std.specs.Ordering.{nat_cmp};
-ghost use Rattle.bg_cond.specs.Lists.{IsListOf, IsListingOf, AreListsOf};
+ghost use Rattle.bg_cond.specs.Lists.{IsListOf, IsListingOf, AreListsOfConditions};
 ghost use Rattle.bg_cond.specs.Sides.{OccursOn, HoldsInHost};
 ghost use Rattle.bg_cond.specs.Verdicts.{IsFirstUnmet};
 
@@ -23,7 +23,7 @@ pub(crate) fn all_hold<H: NumberedHost>(
     conditions: &[Condition],
     lists: &[Option<Listed>],
 ) -> Mem<bool>
-    requires lists { AreListsOf (H.big host.now) conditions.now lists.now }
+    requires lists { AreListsOfConditions (H.big host.now) conditions.now lists.now }
     ensures { IfOk result (λ answer. IsTrue answer ↔ All (HoldsInHost (H.big host.now) map.now) conditions.now) }
 {
     if conditions.is_empty() {
@@ -43,7 +43,7 @@ fn all_hold_beside<H: NumberedHost>(
     lists: &[Option<Listed>],
 ) -> Mem<bool>
     requires sorted { IsSorted nat_cmp images.now }
-    requires lists { AreListsOf (H.big host.now) conditions.now lists.now }
+    requires lists { AreListsOfConditions (H.big host.now) conditions.now lists.now }
     ensures { IfOk result (λ answer. IsTrue answer ↔ All (HoldsInHost (H.big host.now) images.now) conditions.now) }
 {
     for (number, condition) in conditions.iter().enumerate() {

@@ -18,7 +18,7 @@ ghost use Rattle.bg_cond.specs.Conditions.{IsEnabled};
 ghost use Rattle.bg_cond.specs.Drawn.{Draws, IsEndOf};
 ghost use Rattle.bg_cond.specs.Pieces.{hole_control, parameter_piece, context_piece};
 ghost use Rattle.bg_cond.specs.Sides.{HoldsInHost, LooksForNodes};
-ghost use Rattle.bg_cond.specs.Steps.{AreFirstLegal, AreLegal, HasNoStep, IsQuiet, IsRun};
+ghost use Rattle.bg_cond.specs.Steps.{AreFirstLegal, AreLegal, HasNoStep, NoneEnabled, IsRun};
 ghost use Rattle.bg_cond.specs.Verdicts.{IsJudged};
 ghost use Rattle.bg_cond.specs.declared.commits.Commit.{Commit as CommitOf};
 ghost use Rattle.bg_cond.specs.declared.commits.Found.{Found as FoundStep};
@@ -85,7 +85,7 @@ pub fn runs_keep_the_signature()
 
 /// No step is legal exactly where no rule is enabled anywhere.
 pub fn quiet_hosts_have_no_step()
-    ensures { (host : HostState) (rules : List RuleParts) → (IsQuiet host rules ↔ HasNoStep host rules) }
+    ensures { (host : HostState) (rules : List RuleParts) → (NoneEnabled host rules ↔ HasNoStep host rules) }
 {}
 
 /// For each number of entries, host and state of the generator at most one run is drawn: one journal, one end, one last

@@ -4,9 +4,9 @@ ghost use Rattle.std.specs.List.{All};
 ghost use Rattle.bg_lists.specs.Lists.{At};
 ghost use Rattle.bg_cond.specs.Found as found;
 ghost use Rattle.bg_cond.specs.Found.{IsHigherOf, IsEnabledBelow};
-ghost use Rattle.bg_cond.specs.Lists.{AreListsOf};
+ghost use Rattle.bg_cond.specs.Lists.{AreListsOfConditions};
 ghost use Rattle.bg_cond.specs.Sides.{LooksForNodes};
-ghost use Rattle.bg_cond.specs.Steps.{IsFirstClass, IsQuiet, AreFirst, AreFirstLegal};
+ghost use Rattle.bg_cond.specs.Steps.{IsFirstClass, NoneEnabled, AreFirst, AreFirstLegal};
 
 use crate::enabling::{is_enabled_at, is_enabled_somewhere};
 use crate::listed::{Listed, lists_for};
@@ -23,7 +23,7 @@ use std::alloc::Global;
 /// their patterns are listed once; at each occurrence of the redex those lists are gone through up to the first map on
 /// the condition's side, and a pattern that has more than 65,536 occurrences is looked for anew.
 pub fn first_class(alloc: Global, host: &Host, system: &System) -> Mem<Option<u32>>
-    ensures { IfOk result (λ class. MatchOption class (IsQuiet host.now system.now.rules) (λ number. IsFirstClass host.now system.now.rules number)) }
+    ensures { IfOk result (λ class. MatchOption class (NoneEnabled host.now system.now.rules) (λ number. IsFirstClass host.now system.now.rules number)) }
 {
     let _controls = system.signature().len();
     let plain = PlainHost::of(alloc, host)?;
@@ -62,7 +62,7 @@ pub(crate) fn first_class_among<H: NumberedHost>(
     rules: &[Rule],
 ) -> Mem<Option<u32>>
     requires looks { All LooksForNodes rules.now }
-    ensures { IfOk result (λ class. MatchOption class (IsQuiet (H.state host.now) rules.now) (λ number. IsFirstClass (H.state host.now) rules.now number)) }
+    ensures { IfOk result (λ class. MatchOption class (NoneEnabled (H.state host.now) rules.now) (λ number. IsFirstClass (H.state host.now) rules.now number)) }
 {
     let mut first = None;
     for rule in rules {
@@ -199,7 +199,7 @@ fn push_steps_of<H: NumberedHost>(
 ) -> Mem<()>
     requires looks { LooksForNodes rule.now }
     requires there { At rule.now number _rules.now }
-    requires lists { AreListsOf (H.big host.now) rule.now.conditions lists.now }
+    requires lists { AreListsOfConditions (H.big host.now) rule.now.conditions lists.now }
     requires before { AreFirst most (IsEnabledBelow (H.state host.now) _rules.now rule.now.class number) steps.old.items }
     ensures { OnOk result (AreFirst most (IsEnabledBelow (H.state host.now) _rules.now rule.now.class (number + 1)) steps.new.items) }
 {

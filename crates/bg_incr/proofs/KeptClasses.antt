@@ -3,7 +3,7 @@ use Rattle.std.proofs.Common.{◌≡◌, ℕ, List, [], ◌∷◌, length, inl, 
 use Rattle.bg_lists.specs.Lists.{Mem, here}
 use Rattle.bg_lists.proofs.Members.{not_Mem-nil}
 use Rattle.bg_cond.specs.Conditions.{IsEnabledSomewhere}
-use Rattle.bg_incr.specs.Finders.{IsKeepable, IsSettled}
+use Rattle.bg_incr.specs.Finders.{IsKeepable, TellsOccurrence}
 use Rattle.bg_incr.proofs.KeptSteps.{enabled_bare, occurs_enabled}
 use Rattle.bg_kept.specs.declared.kept_list.KeptList.{KeptList}
 use Rattle.bg_kept.specs.Lists.{IsKept, is_below}
@@ -19,7 +19,7 @@ module _ (host : HostState) (rule : RuleParts) (list : KeptList) (keepable : IsK
   enabled_some some =
       let w = some_of list.first.maps.items some in record { nodes = w.0; enabled = enabled_bare keepable.bare (kept.first.maps.occur w.0 w.1) }
 
-  pub enabled_none : IsSettled list → length list.first.maps.items ≡ 0 → IsEnabledSomewhere host rule → ⊥
+  pub enabled_none : TellsOccurrence list → length list.first.maps.items ≡ 0 → IsEnabledSomewhere host rule → ⊥
   enabled_none settled none somewhere =
       elim settled.tells [
         | inl whole ↦ no_member list.first.maps.items none somewhere.nodes

@@ -12,7 +12,7 @@ use Rattle.bg_cond.specs.Drawn.{most_candidates}
 use Rattle.bg_cond.specs.Found.{IsEnabledBelow}
 use Rattle.bg_cond.specs.Steps.{AreFirst, AreFirstLegal, IsFirstClass}
 use Rattle.bg_incr.proofs.KeptSteps.{first_joined}
-use Rattle.bg_incr.specs.Finders.{AreKeptFor, AreSettled, IsKeepable, IsSettled, steps_at}
+use Rattle.bg_incr.specs.Finders.{AreKeptFor, AllTellOccurrence, IsKeepable, TellsOccurrence, steps_at}
 use Rattle.bg_incr.specs.Picking.{kept_maps, steps_kept}
 use Rattle.bg_kept.specs.declared.kept_list.KeptList.{KeptList}
 use Rattle.bg_rules.specs.Reaction.{HostState}
@@ -88,9 +88,9 @@ module _ (host : HostState) (rules : List RuleParts) (lists : List KeptList) (ke
       (kept.kept.each number rule list a b).first.enough
 
   -- each list tells whether there is an occurrence
-  pub are_settled : AreSettled lists
+  pub are_settled : AllTellOccurrence lists
   are_settled =
-      All-from_members IsSettled lists (λ list m.
+      All-from_members TellsOccurrence lists (λ list m.
       let w = At-from_Mem m in
       let many = kept.kept.as_many in
       let below = At-below w.1 in

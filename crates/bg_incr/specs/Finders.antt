@@ -7,7 +7,7 @@ use Rattle.bg_cond.specs.Steps.{LeadsTo}
 use Rattle.bg_index.specs.Causes.{AreCauses}
 use Rattle.bg_index.specs.declared.causes.Causes.{Causes}
 use Rattle.bg_kept.specs.declared.kept_list.KeptList.{KeptList}
-use Rattle.bg_incr.specs.Lists.{AreListsOf}
+use Rattle.bg_incr.specs.Lists.{AreListsOfRedexes}
 use Rattle.bg_locality.specs.Changes.{HasLowEdges}
 use Rattle.bg_rules.specs.Reaction.{HostState}
 use Rattle.bg_rules.specs.Rules.{RuleParts}
@@ -35,7 +35,7 @@ fewest_kept = 4096
 -- no rule has a condition, and for each there is the list of its redex
 pub record AreKeptFor (host : Big) (rules : List RuleParts) (lists : List KeptList) : Type 0 where
   pub keepable : All IsKeepable rules
-  pub kept : AreListsOf host rules fewest_kept lists
+  pub kept : AreListsOfRedexes host rules fewest_kept lists
 
 -- the lists, where they are kept, are those of the host for the rules of the system
 pub record StandsFor (finder : FinderState) (system : SystemParts) : Type 0 where
@@ -57,11 +57,11 @@ pub record WereKeptFor (after : Big) (causes : Causes) (rules : List RuleParts) 
   pub kept : AreKeptFor before rules lists
 
 -- the list tells whether there is an occurrence: it has one, or is the list of all
-pub record IsSettled (list : KeptList) : Type 0 where
+pub record TellsOccurrence (list : KeptList) : Type 0 where
   pub tells : (list.first.bound ≡ None) ⊎ (0 < length list.first.maps.items)
 
-abbrev pub AreSettled : List KeptList → Type 0
-AreSettled lists = All IsSettled lists
+abbrev pub AllTellOccurrence : List KeptList → Type 0
+AllTellOccurrence lists = All TellsOccurrence lists
 
 -- the steps of the rule at these maps
 abbrev pub steps_at : ℕ → List (List ℕ) → List Step

@@ -2,8 +2,8 @@
 ghost use Rattle.std.specs.Prelude.{◌≡◌, ◌+◌, ◌<◌, ◌≤◌, ◌^◌, ◌++◌, ⊤, true, length, take, None, IfOk, OnOk, IsTrue, MatchOption};
 ghost use Rattle.bg_cond.specs.Found as found;
 ghost use Rattle.bg_cond.specs.Found.{IsEnabledBelow, IsHigherOf};
-ghost use Rattle.bg_cond.specs.Steps.{AreFirst, AreFirstLegal, IsFirstClass, IsQuiet};
-ghost use Rattle.bg_incr.specs.Finders.{AreKeptFor, AreSettled, IsKeepable, IsSettled, steps_at};
+ghost use Rattle.bg_cond.specs.Steps.{AreFirst, AreFirstLegal, IsFirstClass, NoneEnabled};
+ghost use Rattle.bg_incr.specs.Finders.{AreKeptFor, AllTellOccurrence, IsKeepable, TellsOccurrence, steps_at};
 ghost use Rattle.bg_kept.specs.Lists.{IsKept};
 
 use bg_base::{Map, Step};
@@ -55,7 +55,7 @@ fn kept_steps(
 
 /// Whether the list tells whether there is an occurrence.
 fn is_settled(list: &KeptList) -> bool
-    ensures { IsTrue result → IsSettled list.now }
+    ensures { IsTrue result → TellsOccurrence list.now }
 {
     list.is_whole() || !list.maps().is_empty()
 }
@@ -63,8 +63,8 @@ fn is_settled(list: &KeptList) -> bool
 /// The first class with an occurrence.
 pub fn first_class(_host: &IndexedHost, rules: &[Rule], lists: &[KeptList]) -> Option<u32>
     requires kept { AreKeptFor _host.now.big rules.now lists.now }
-    requires settled { AreSettled lists.now }
-    ensures { MatchOption result (IsQuiet _host.now rules.now) (λ class. IsFirstClass _host.now rules.now class) }
+    requires settled { AllTellOccurrence lists.now }
+    ensures { MatchOption result (NoneEnabled _host.now rules.now) (λ class. IsFirstClass _host.now rules.now class) }
 {
     let mut first = None;
     for (number, rule) in rules.iter().enumerate() {
@@ -77,7 +77,7 @@ pub fn first_class(_host: &IndexedHost, rules: &[Rule], lists: &[KeptList]) -> O
 fn higher_of(_host: &IndexedHost, rule: &Rule, list: &KeptList, first: Option<u32>) -> Option<u32>
     requires keepable { IsKeepable rule.now }
     requires kept { IsKept _host.now.big rule.now.redex list.now }
-    requires settled { IsSettled list.now }
+    requires settled { TellsOccurrence list.now }
     ensures { IsHigherOf _host.now rule.now first result }
 {
     if is_higher(rule.class(), first) {
@@ -100,7 +100,7 @@ fn is_higher(class: u32, first: Option<u32>) -> bool
 fn raised(_host: &IndexedHost, rule: &Rule, list: &KeptList, first: Option<u32>) -> Option<u32>
     requires keepable { IsKeepable rule.now }
     requires kept { IsKept _host.now.big rule.now.redex list.now }
-    requires settled { IsSettled list.now }
+    requires settled { TellsOccurrence list.now }
     requires higher { found.is_higher rule.now.class first ≡ true }
     ensures { IsHigherOf _host.now rule.now first result }
 {

@@ -19,7 +19,7 @@ use Rattle.bg_listing.proofs.FixedBytes.{after_starts, after_not}
 use Rattle.bg_listing.proofs.Longest.{number_found, given}
 use Rattle.bg_journal.specs.JournalText.{step_text, entry_line}
 use Rattle.bg_journal.specs.JournalReading.{most_images, IsEntry, IsWithout, IsWithoutEntry}
-use Rattle.bg_journal.specs.EntryReading.{images_at, map_at, head_at, entry_of, entry_at}
+use Rattle.bg_journal.specs.EntryReading.{images_at, map_at, head_at, entry_from, entry_at}
 
 -- ---- what the calls of other crates tell, in reading functions
 
@@ -134,7 +134,7 @@ parts_text parts = head_text parts.0 ++ numbers_line parts.1
 abbrev FitParts : Parts → Type 0
 FitParts parts = (IsNumber parts.0.0 × IsNumber parts.0.1) × (AreCounted most_images IsNumber parts.1 × (nat_lt 0 (length parts.1) ≡ true))
 
-entry_fits : (parts : Parts) → FitParts parts → IsEntry (entry_of parts)
+entry_fits : (parts : Parts) → FitParts parts → IsEntry (entry_from parts)
 entry_fits parts f = record { worker = f.0.0; rule = f.0.1; some = ltb-true 0 (length parts.1) f.1.1; map = f.1.0 }
 
 parts_fit : (entry : Entry) → IsEntry entry → FitParts (parts_of entry)
@@ -150,7 +150,7 @@ parts_read = both_read (λ numbers rest f n. chain_begins IsEnded line_feed spac
 pub entry_reads : Reads Anything (λ entry. entry) entry_line IsEntry entry_at
 unfolding entry_at
 entry_reads = spelled_reads entry_line one_line
-    (as_reads {w = λ entry. entry} {G = IsEntry} entry_of parts_of entry_of (λ parts f. refl) entry_fits parts_fit (λ entry f. refl) parts_read)
+    (as_reads {w = λ entry. entry} {G = IsEntry} entry_from parts_of entry_from (λ parts f. refl) entry_fits parts_fit (λ entry f. refl) parts_read)
 
 -- ---- what is read, and what is not
 

@@ -11,7 +11,7 @@ use Rattle.bg_cond.proofs.OneVerdict.{one_verdict}
 use Rattle.bg_cond.proofs.Runs.{not_too_large, run_end_is_host, run_one_end, run_snoc}
 use Rattle.bg_cond.specs.Steps.{IsLegal, LeadsTo, IsRun, ended, stepped, step_of}
 use Rattle.bg_cond.specs.declared.verdict.Verdict.TheVariants.{Legal as LegalStep}
-use Rattle.bg_journal.specs.Replays.{IsReason, StopsAt, IsReplayOf}
+use Rattle.bg_journal.specs.Replays.{IsReason, IsFirstNotTaken, IsReplayOf}
 use Rattle.bg_journal.specs.declared.outcome.Replay.{Replay}
 use Rattle.bg_journal.specs.declared.outcome.Replay.TheVariants.{Legal, Illegal}
 use Rattle.bg_journal.specs.declared.outcome.Why.{Why}
@@ -38,7 +38,7 @@ module _ (rules : List RuleParts) (init : HostState) (entries : List Entry) (num
       subst (λ (list : List Entry). IsRun rules init list next) one_more (run_snoc entry run legal leads)
 
   -- the next entry is not taken
-  pub stops : (why : Why) → IsReason host rules (step_of entry) why → StopsAt rules init entries number why
+  pub stops : (why : Why) → IsReason host rules (step_of entry) why → IsFirstNotTaken rules init entries number why
   stops why reason = record {
     entry = entry;
     there = subst (λ (e : Entry). At e number entries) (sym at) (At-get_or entries number entry less);
@@ -83,7 +83,7 @@ was_taken (suc count) (at_there at) less (stepped legal leads rest) =
     }
 
 module _ (rules : List RuleParts) (are : All IsRule rules) (init : HostState) (is : IsHost init) (entries : List Entry) where
-  not_taken : (number : ℕ) (why : Why) (stop : StopsAt rules init entries number why) → WasTaken rules init entries number stop.entry → ⊥
+  not_taken : (number : ℕ) (why : Why) (stop : IsFirstNotTaken rules init entries number why) → WasTaken rules init entries number stop.entry → ⊥
   not_taken number (Judged verdict) stop taken =
       let same : taken.before ≡ stop.before = run_one_end rules are is taken.run stop.run in
       let legal : IsLegal stop.before rules (step_of stop.entry) = subst (λ (h : HostState). IsLegal h rules (step_of stop.entry)) same taken.legal in
@@ -96,11 +96,11 @@ module _ (rules : List RuleParts) (are : All IsRule rules) (init : HostState) (i
       = subst (λ (h : HostState). LeadsTo h rules (step_of stop.entry) taken.next) same taken.leads in
       not_too_large rules are stop.before (run_end_is_host rules are is stop.run) (step_of stop.entry) leads stop.reason
 
-  no_longer_run : (number count : ℕ) (why : Why) (after : HostState) → StopsAt rules init entries number why → IsRun rules init (take count entries) after
+  no_longer_run : (number count : ℕ) (why : Why) (after : HostState) → IsFirstNotTaken rules init entries number why → IsRun rules init (take count entries) after
       → number < count → ⊥
   no_longer_run number count why after stop run less = not_taken number why stop (was_taken count stop.there less run)
 
-  no_run : (number : ℕ) (why : Why) (after : HostState) → StopsAt rules init entries number why → IsRun rules init entries after → ⊥
+  no_run : (number : ℕ) (why : Why) (after : HostState) → IsFirstNotTaken rules init entries number why → IsRun rules init entries after → ⊥
   no_run number why after stop run =
       let all : entries ≡ take (length entries) entries = sym (take_all (length entries) entries (omega arith)) in
       no_longer_run number (length entries) why after stop (subst (λ (list : List Entry). IsRun rules init list after) all run) (At-below stop.there)
@@ -112,7 +112,7 @@ module _ (rules : List RuleParts) (are : All IsRule rules) (init : HostState) (i
   one_reason host step TooLarge (Judged other) of one two = absurd (two.1 (one_verdict host rules step of are other LegalStep two.0 one.legal))
   one_reason host step TooLarge TooLarge of one two = refl
 
-  one_number : (number other : ℕ) (why second : Why) → StopsAt rules init entries number why → StopsAt rules init entries other second → number ≡ other
+  one_number : (number other : ℕ) (why second : Why) → IsFirstNotTaken rules init entries number why → IsFirstNotTaken rules init entries other second → number ≡ other
   one_number number other why second one two =
       elim (cases_lt number other) [
         | inl less ↦ absurd (no_longer_run number other why two.before one two.run less)
@@ -122,7 +122,7 @@ module _ (rules : List RuleParts) (are : All IsRule rules) (init : HostState) (i
         ]
       ]
 
-  one_why : (number : ℕ) (why other : Why) → StopsAt rules init entries number why → StopsAt rules init entries number other → why ≡ other
+  one_why : (number : ℕ) (why other : Why) → IsFirstNotTaken rules init entries number why → IsFirstNotTaken rules init entries number other → why ≡ other
   one_why number why other one two =
       let host : two.before ≡ one.before = run_one_end rules are is two.run one.run in
       let entry : two.entry ≡ one.entry = At-one two.there one.there in
@@ -141,8 +141,8 @@ one_replay system entries (Illegal step why) (Legal other) is first second =
 one_replay system entries (Illegal step why) (Illegal number other) is first second =
     let rules = system_rules system is in
     let same : step ≡ number = one_number system.rules rules system.init is.init_is entries step number why other first second in
-    let also : StopsAt system.rules system.init entries number why
-    = subst (λ n. StopsAt system.rules system.init entries n why) same first in
+    let also : IsFirstNotTaken system.rules system.init entries number why
+    = subst (λ n. IsFirstNotTaken system.rules system.init entries n why) same first in
     ap (λ n. Illegal n why) same ∙ ap (λ w. Illegal number w) (one_why system.rules rules system.init is.init_is entries number why other also second)
 
 -- so it is legal exactly of runs

@@ -23,8 +23,8 @@ map_at bytes = only_if not_there (λ images. nat_lt 0 (length images)) images_at
 unfoldable pub head_at : List ℕ → Result ((ℕ × ℕ) × List ℕ) (Unit {0})
 head_at bytes = both (behind (codes "step ") (number_at greatest)) (behind (codes " ") (number_at greatest)) bytes
 
-abbrev pub entry_of : (ℕ × ℕ) × List ℕ → Entry
-entry_of parts = record { worker = parts.0.0; rule = parts.0.1; map = parts.1 }
+abbrev pub entry_from : (ℕ × ℕ) × List ℕ → Entry
+entry_from parts = record { worker = parts.0.0; rule = parts.0.1; map = parts.1 }
 
 unfoldable pub entry_at : List ℕ → Result (Entry × List ℕ) (Unit {0})
-entry_at bytes = mapped entry_of (both head_at map_at bytes)
+entry_at bytes = mapped entry_from (both head_at map_at bytes)

@@ -21,7 +21,7 @@ IsReason host rules step TooLarge = IsTooLarge host rules step
 
 -- the entries before that number are a run from the host, and the step of the entry of that number is not taken behind them,
 -- for that reason
-pub record StopsAt (rules : List RuleParts) (host : HostState) (entries : List Entry) (number : ℕ) (why : Why) : Type 0 where
+pub record IsFirstNotTaken (rules : List RuleParts) (host : HostState) (entries : List Entry) (number : ℕ) (why : Why) : Type 0 where
   pub entry : Entry
   pub there : At entry number entries
   pub before : HostState
@@ -31,4 +31,4 @@ pub record StopsAt (rules : List RuleParts) (host : HostState) (entries : List E
 -- what the entries are of the system: a run from its first host to that host, or one up to the first entry that is not taken
 abbrev pub IsReplayOf : SystemParts → List Entry → Replay → Type 0
 IsReplayOf system entries (Legal host) = IsRun system.rules system.init entries host
-IsReplayOf system entries (Illegal step why) = StopsAt system.rules system.init entries step why
+IsReplayOf system entries (Illegal step why) = IsFirstNotTaken system.rules system.init entries step why

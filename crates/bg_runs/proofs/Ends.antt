@@ -17,9 +17,9 @@ use Rattle.bg_cond.specs.declared.commits.Closed.{Closed}
 use Rattle.bg_runs.specs.Finished.{IsFinished, IsDrawnOn, CameFrom}
 use Rattle.bg_runs.specs.declared.finishing.FinishedRun.{FinishedRun}
 use Rattle.bg_seats.proofs.Histories.{grown_whole, own_before, alone}
-use Rattle.bg_seats.specs.Histories.{Grows, WorkersBelow}
+use Rattle.bg_seats.specs.Histories.{GrowsByOthers, WorkersBelow}
 use Rattle.bg_shared.specs.Shared.{IsHistory}
-use Rattle.bg_workers.specs.Working.{IsEnded, IsOwn, end_of}
+use Rattle.bg_workers.specs.Working.{IsEnded, IsOwn, run_end_of}
 use Rattle.bg_workers.specs.declared.ends.Ended.{Ended}
 use Rattle.bg_workers.specs.declared.ends.Ended.TheVariants.{Quiet, Limit, Full}
 use Rattle.rand_pcg.specs.Lcg.{Lcg}
@@ -37,7 +37,7 @@ zero_below number (x ∷ entries) some own =
 
 -- ---- one worker
 
-only_seen : (workers : ℕ) (seen journal : List Entry) → workers ≡ 1 → WorkersBelow workers journal → Grows 0 seen journal → journal ≡ seen
+only_seen : (workers : ℕ) (seen journal : List Entry) → workers ≡ 1 → WorkersBelow workers journal → GrowsByOthers 0 seen journal → journal ≡ seen
 only_seen workers seen journal one below grows =
     own_before [] journal grows (sym (append-nil journal)) (alone journal (subst (λ (n : ℕ). WorkersBelow n journal) one below))
 
@@ -54,12 +54,12 @@ module _ (system : SystemParts) (is : IsSystem system) (most workers seed : ℕ)
 
   -- what one worker drew, where it has seen the whole journal
   drawn_here : (ended : Ended) (came : CameFrom system most seed journal ended) → journal ≡ came.seen → workers ≡ 1
-      → Draws system.rules 0 most system.init (seeded seed 0) journal (end_of ended) host
+      → Draws system.rules 0 most system.init (seeded seed 0) journal (run_end_of ended) host
   drawn_here ended came whole one =
       let drew = came.drawn (seen_own workers came.seen journal one history.below whole) in
-      let draws : Draws system.rules 0 most system.init (seeded seed 0) journal (end_of ended) drew.host =
-      subst (λ (xs : List Entry). Draws system.rules 0 most system.init (seeded seed 0) xs (end_of ended) drew.host) (sym whole) drew.draws in
-      subst (λ (h : HostState). Draws system.rules 0 most system.init (seeded seed 0) journal (end_of ended) h) (one_host (drawn_run system.rules 0 draws)) draws
+      let draws : Draws system.rules 0 most system.init (seeded seed 0) journal (run_end_of ended) drew.host =
+      subst (λ (xs : List Entry). Draws system.rules 0 most system.init (seeded seed 0) xs (run_end_of ended) drew.host) (sym whole) drew.draws in
+      subst (λ (h : HostState). Draws system.rules 0 most system.init (seeded seed 0) journal (run_end_of ended) h) (one_host (drawn_run system.rules 0 draws)) draws
 
   -- worker 0 found a step whose result passes a limit, and no entry came since
   pub full_finished : (version : ℕ) (step : Step) → CameFrom system most seed journal (Full version step) → version ≡ length journal
@@ -78,7 +78,7 @@ module _ (system : SystemParts) (is : IsSystem system) (most workers seed : ℕ)
 
   -- where a worker that has seen the whole journal ended otherwise, nothing more is drawn, with whatever words
   still : (state : Lcg) (ended : Ended) → IsEnded system most journal ended → ((version : ℕ) (step : Step) → ended ≡ Full version step → version ≢ length journal)
-      → Draws system.rules 0 (most - length journal) host state [] (end_of ended) host
+      → Draws system.rules 0 (most - length journal) host state [] (run_end_of ended) host
   still state (Quiet version) right other =
       let room = right.room in
       let some : most - length journal ≡ suc (most - length journal - 1) = omega (arith, room) in
@@ -110,7 +110,7 @@ module _ (system : SystemParts) (is : IsSystem system) (most workers seed : ℕ)
         let entries : all ≡ journal = appended ∙ (ap (λ (xs : List Entry). journal ++ xs) (sym same.0) ∙ append-nil journal) in
         subst (λ (xs : List Entry). Draws system.rules 0 most system.init (seeded seed 0) xs end after) (sym entries)
         (subst (λ (e : End). Draws system.rules 0 most system.init (seeded seed 0) journal e after) same.1
-        (subst (λ (h : HostState). Draws system.rules 0 most system.init (seeded seed 0) journal (end_of ended) h) same.2 (drawn_here ended came whole one)));
+        (subst (λ (h : HostState). Draws system.rules 0 most system.init (seeded seed 0) journal (run_end_of ended) h) same.2 (drawn_here ended came whole one)));
   }
 
 -- what is drawn on is finished

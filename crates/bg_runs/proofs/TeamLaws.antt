@@ -10,8 +10,8 @@ use Rattle.bg_cond.specs.Steps.{IsRun, ended as nothing_ran}
 use Rattle.bg_incr.specs.Finders.{FinderState, StandsFor}
 use Rattle.bg_rules.specs.Systems.{SystemParts}
 use Rattle.bg_runs.specs.Finished.{CameFrom}
-use Rattle.bg_runs.specs.Teams.{pass_of, IsMember, IsTeam, StandsFirst, HasEnd, HaveEnds, HasEnded, HaveEnded, IsParted}
-use Rattle.bg_seats.specs.Histories.{PassView, Grows, new_pass, new_passes}
+use Rattle.bg_runs.specs.Teams.{member_pass, IsMember, IsTeam, StandsFirst, HasEnd, HaveEnds, HasEnded, HaveEnded, IsParted}
+use Rattle.bg_seats.specs.Histories.{PassView, GrowsByOthers, new_pass, new_passes}
 use Rattle.bg_shared.proofs.Committing.{all_snoc, all_last}
 use Rattle.bg_shared.specs.Shared.{OfTable, BeginsWith, BeginsWithEach}
 use Rattle.bg_workers.specs.Following.{IsStanding, as_member}
@@ -103,7 +103,7 @@ module _ {F : Type 0} where
         (one_ended p b a team.0 (each 0 b a refl refl), all_ended passes before after team.1 (omega (arith, count)) (λ place one other e f. each (suc place) one other e f))
 
     ended_of_table : (passes : List PassView) (members : List (FollowMember PassView F)) → HaveEnded table system limit seed passes members
-        → OfTable table (map pass_of members)
+        → OfTable table (map member_pass members)
     ended_of_table passes [] all = tt
     ended_of_table [] (m ∷ members) all = absurd all
     ended_of_table (p ∷ passes) (m ∷ members) all = (let has = all.0 in has.of, ended_of_table passes members all.1)
@@ -140,18 +140,18 @@ some_ok : {T E : Type 0} (answer : Result T E) (x : T) → ◌≡◌ {A = Option
 some_ok answer x e = cc
 
 came_from : {F : Type 0} (table : TableId) (system : SystemParts) (limit seed : ℕ) (journal : List Entry) (member : FollowMember PassView F) (ended : Ended)
-    → HasEnded table system limit seed (new_pass table 0) member → member.ended ≡ Some (Ok ended) → Grows member.pass.worker member.pass.seen journal
+    → HasEnded table system limit seed (new_pass table 0) member → member.ended ≡ Some (Ok ended) → GrowsByOthers member.pass.worker member.pass.seen journal
     → CameFrom system limit seed journal ended
 came_from table system limit seed journal member ended has is grows =
     let answer : has.answer ≡ Ok ended = some_ok has.answer ended (sym has.ended ∙ is) in record {
       seen = member.pass.seen;
-      grows = subst (λ (n : ℕ). Grows n member.pass.seen journal) has.number grows;
+      grows = subst (λ (n : ℕ). GrowsByOthers n member.pass.seen journal) has.number grows;
       right = subst (λ r. IfOk r (λ e. IsEnded system limit member.pass.seen e)) answer has.right;
       drawn = λ own. subst (λ r. IfOk r (λ e. IsDrawn system limit 0 (seeded seed 0) member.pass.seen e)) answer (has.drawn refl own);
     }
 
 -- the journal begins with what the last of these passes had seen
-last_begins : (journal : List Entry) (passes : List PassView) (pass : PassView) → BeginsWithEach journal (passes ++ pass ∷ []) → Grows pass.worker pass.seen journal
+last_begins : (journal : List Entry) (passes : List PassView) (pass : PassView) → BeginsWithEach journal (passes ++ pass ∷ []) → GrowsByOthers pass.worker pass.seen journal
 last_begins journal passes pass all = all_last (BeginsWith journal) passes pass all
 
 -- ---- what is left of a team
@@ -171,7 +171,7 @@ module _ {F : Type 0} (table : TableId) (system : SystemParts) (limit seed numbe
       let parts = have_ended first in
       let zero = parts.0 in
       subst (λ (ps : List PassView). OfTable table ps) (sym parted.passes_are)
-      (all_snoc (λ (pass : PassView). pass.table ≡ table) (map pass_of parted.others) parted.first.pass
+      (all_snoc (λ (pass : PassView). pass.table ≡ table) (map member_pass parted.others) parted.first.pass
       (ended_of_table table system limit seed first.0 parted.others parts.1) zero.of)
 
   -- so worker 0 ended, seen from a journal that begins with what each pass had seen
@@ -179,11 +179,11 @@ module _ {F : Type 0} (table : TableId) (system : SystemParts) (limit seed numbe
   parted_came journal begins =
       let parts = have_ended (some_first table number some) in
       let each = subst (λ (ps : List PassView). BeginsWithEach journal ps) parted.passes_are begins in
-      came_from table system limit seed journal parted.first ended parts.0 parted.ended_is (last_begins journal (map pass_of parted.others) parted.first.pass each)
+      came_from table system limit seed journal parted.first ended parts.0 parted.ended_is (last_begins journal (map member_pass parted.others) parted.first.pass each)
 
 -- members of which the first one was taken out
 pub parted_members : {F : Type 0} (before rest : List (FollowMember PassView F)) (first : FollowMember PassView F) (others passes : List PassView) (ended : Ended)
-    → 0 < length before → first ≡ get_or before 0 first → rest ≡ drop 1 before → first.ended ≡ Some (Ok ended) → others ≡ map pass_of rest
+    → 0 < length before → first ≡ get_or before 0 first → rest ≡ drop 1 before → first.ended ≡ Some (Ok ended) → others ≡ map member_pass rest
     → passes ≡ others ++ first.pass ∷ [] → HaveEnds rest → IsParted before passes ended
 parted_members before rest first others passes ended some value items is of pushed all = record {
   first = first;

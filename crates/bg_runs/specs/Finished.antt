@@ -7,7 +7,7 @@ use Rattle.bg_cond.specs.Steps.{IsRun}
 use Rattle.bg_cond.specs.declared.commits.Closed.{Closed}
 use Rattle.bg_rules.specs.Systems.{SystemParts}
 use Rattle.bg_runs.specs.declared.finishing.FinishedRun.{FinishedRun}
-use Rattle.bg_seats.specs.Histories.{Grows, WorkersBelow}
+use Rattle.bg_seats.specs.Histories.{GrowsByOthers, WorkersBelow}
 use Rattle.bg_workers.specs.Working.{IsEnded, IsOwn, IsDrawn}
 use Rattle.bg_workers.specs.declared.ends.Ended.{Ended}
 use Rattle.rand_pcg.specs.Lcg.{Lcg}
@@ -24,7 +24,7 @@ pub record IsFinished (system : SystemParts) (limit workers seed : ℕ) (run : F
 -- worker 0 ended so, when it had seen a beginning of the journal that has all its entries
 pub record CameFrom (system : SystemParts) (limit seed : ℕ) (journal : List Entry) (ended : Ended) : Type 0 where
   pub seen : List Entry
-  pub grows : Grows 0 seen journal
+  pub grows : GrowsByOthers 0 seen journal
   pub right : IsEnded system limit seen ended
   pub drawn : IsOwn 0 seen → IsDrawn system limit 0 (seeded seed 0) seen ended
 

@@ -13,8 +13,8 @@ use Rattle.bg_workers.specs.declared.ends.Ended.{Ended}
 use Rattle.bg_workers.specs.declared.ends.FollowMember.{FollowMember}
 
 -- the pass of a member
-abbrev pub pass_of : {F : Type 0} → FollowMember PassView F → PassView
-pass_of member = member.pass
+abbrev pub member_pass : {F : Type 0} → FollowMember PassView F → PassView
+member_pass member = member.pass
 
 -- a member that is to run with this pass
 abbrev pub IsMember : {F : Type 0} → ℕ → PassView → FollowMember PassView F → Type 0
@@ -62,6 +62,6 @@ pub record IsParted {F : Type 0} (members : List (FollowMember PassView F)) (pas
   pub first : FollowMember PassView F
   pub others : List (FollowMember PassView F)
   pub members_are : members ≡ first ∷ others
-  pub passes_are : passes ≡ map pass_of others ++ first.pass ∷ []
+  pub passes_are : passes ≡ map member_pass others ++ first.pass ∷ []
   pub ended_is : first.ended ≡ Some (Ok ended)
   pub others_ended : HaveEnds others

@@ -1,7 +1,7 @@
 //! Teams of workers, one for each pass of a shared host.
 ghost use Rattle.std.specs.Prelude.{◌≡◌, ◌<◌, All, length, map, Some, Ok, IfOk, OnOk};
 ghost use Rattle.std.specs.List.{AllByRecursion};
-ghost use Rattle.bg_runs.specs.Teams.{HasEnd, HaveEnds, HaveEnded, IsMember, IsParted, IsTeam, StandsFirst, pass_of};
+ghost use Rattle.bg_runs.specs.Teams.{HasEnd, HaveEnds, HaveEnded, IsMember, IsParted, IsTeam, StandsFirst, member_pass};
 ghost use Rattle.bg_seats.specs.Histories.{PassView};
 ghost use Rattle.bg_shared.specs.Shared.{OfTable};
 ghost use Rattle.bg_workers.specs.Following.{AllRunFollowing, IsStanding, as_member};
@@ -116,7 +116,7 @@ pub(crate) fn parted(alloc: Global, mut members: Vec<Worker>) -> Mem<(Vec<Pass>,
 
 /// The passes of all members; it refuses where one of them had no memory.
 fn passes_of(alloc: Global, members: Vec<Worker>) -> Mem<Vec<Pass>>
-    ensures passes { IfOk result (λ passes. passes.items ≡ map pass_of members.items) }
+    ensures passes { IfOk result (λ passes. passes.items ≡ map member_pass members.items) }
     ensures ended { OnOk result (HaveEnds members.items) }
 {
     let mut passes = Vec::new(alloc);

@@ -2,7 +2,7 @@
 use Rattle.std.proofs.Common.{◌≡◌, ℕ, suc, ◌+◌, ◌<◌, ◌≤◌, ◌≢◌, ◌==◌, Bool, true, false, List, [], ◌∷◌, ◌++◌, length, refl, sym, ap, subst, ◌∙◌, cond, eq-eqb, ne_eqb, length-append, append-nil, arith}
 use Rattle.std.proofs.lemmas.List.Elements.{filter-append}
 use Rattle.bg_base.specs.declared.history.Entry.{Entry}
-use Rattle.bg_seats.specs.Histories.{entries_of, WorkersBelow, Grows}
+use Rattle.bg_seats.specs.Histories.{entries_of, WorkersBelow, GrowsByOthers}
 
 -- an entry of another worker is none of the worker's
 pub entries-other : (entry : Entry) (worker : ℕ) → entry.worker ≢ worker → entries_of worker (entry ∷ []) ≡ []
@@ -30,12 +30,12 @@ nothing_more xs [] le = refl
 nothing_more xs (y ∷ rest) le = let long = length-append xs (y ∷ rest) in absurd (omega (arith, le, long))
 
 -- where no entries are there but those that were seen, they are all
-pub grown_whole : {worker : ℕ} {before after : List Entry} → Grows worker before after → length after ≤ length before → after ≡ before
+pub grown_whole : {worker : ℕ} {before after : List Entry} → GrowsByOthers worker before after → length after ≤ length before → after ≡ before
 grown_whole {before = before} grows le =
     let none = nothing_more before grows.rest (subst (λ (entries : List Entry). length entries ≤ length before) grows.all le) in
     grows.all ∙ (ap (λ (rest : List Entry). before ++ rest) none ∙ append-nil before)
 
-pub grown_longer : {worker : ℕ} {before after : List Entry} → Grows worker before after → length before ≤ length after
+pub grown_longer : {worker : ℕ} {before after : List Entry} → GrowsByOthers worker before after → length before ≤ length after
 grown_longer {before = before} grows = let long = ap length grows.all ∙ length-append before grows.rest in omega (arith, long)
 
 -- ---- histories of one worker
@@ -73,7 +73,7 @@ own_front worker front rest own =
     own_length worker front (omega (arith, a, b, c, d, e))
 
 -- where all entries are of one worker, nothing came between those that it had seen and those that it sees
-pub own_before : {worker : ℕ} {before between : List Entry} (rest after : List Entry) → Grows worker before between → after ≡ between ++ rest
+pub own_before : {worker : ℕ} {before between : List Entry} (rest after : List Entry) → GrowsByOthers worker before between → after ≡ between ++ rest
     → entries_of worker after ≡ after → between ≡ before
 own_before {worker} {before} {between} rest after grows is own =
     let f : Entry → Bool = λ x. x.worker == worker in

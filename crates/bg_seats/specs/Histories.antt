@@ -13,7 +13,7 @@ abbrev pub WorkersBelow : ℕ → List Entry → Type 0
 WorkersBelow number history = AllByRecursion (λ (entry : Entry). entry.worker < number) history
 
 -- `after` begins with `before`, and nothing behind that is of the worker
-pub record Grows (worker : ℕ) (before after : List Entry) : Type 0 where
+pub record GrowsByOthers (worker : ℕ) (before after : List Entry) : Type 0 where
   pub rest : List Entry
   pub all : after ≡ before ++ rest
   pub none : entries_of worker rest ≡ []

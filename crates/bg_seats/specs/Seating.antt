@@ -7,7 +7,7 @@ use Rattle.atomic_table.specs.Table.{State, Me, Step}
 use Rattle.bg_base.specs.Limits.{most_steps}
 use Rattle.bg_base.specs.declared.history.Entry.{Entry}
 use Rattle.bg_seats.specs.declared.knowledge.Knowledge.{Knowledge}
-use Rattle.bg_seats.specs.Histories.{entries_of, WorkersBelow, Grows}
+use Rattle.bg_seats.specs.Histories.{entries_of, WorkersBelow, GrowsByOthers}
 
 -- ---- the rule
 
@@ -100,7 +100,7 @@ extended entry view = record view { seen = view.seen ++ entry ∷ []; history = 
 abbrev pub Told : Knowledge → ℕ → Type 0
 Told view count =
     (count ≡ length view.history) × (count ≤ most_steps)
-    × MatchOption view.worker (Unit {0}) (λ worker. Grows worker view.seen view.history × MatchOption view.turn (Unit {0}) (λ passes. worker < passes))
+    × MatchOption view.worker (Unit {0}) (λ worker. GrowsByOthers worker view.seen view.history × MatchOption view.turn (Unit {0}) (λ passes. worker < passes))
     × MatchOption view.turn (Unit {0}) (λ passes. WorkersBelow passes view.history)
 
 -- a load after which the pass has seen the history

@@ -1,7 +1,7 @@
 //! What a pass and the turn do together: they are one seat for a step on the word, and two again.
 ghost use Rattle.std.specs.Prelude.{◌≡◌, ◌<◌, ◌++◌, ◌∷◌, [], length};
 ghost use Rattle.bg_base.specs.Limits.{most_steps};
-ghost use Rattle.bg_seats.specs.Histories.{Grows, WorkersBelow};
+ghost use Rattle.bg_seats.specs.Histories.{GrowsByOthers, WorkersBelow};
 ghost use Rattle.bg_seats.specs.Seating.{turn_of, pass_of, both_of, list_of, Told};
 
 use crate::knowledge::Knowledge;
@@ -100,7 +100,7 @@ pub fn take_in_pass(
     requires pass { seat.me ≡ (pass_of worker seat.me.0.seen, []) }
     requires turn { turn.views ≡ turn_of passes (list_of turn.views) ∷ [] }
     ensures turn { (result.table_id ≡ turn.table_id) × (result.views ≡ turn.views) }
-    ensures begins { Grows worker seat.me.0.seen (list_of turn.views) }
+    ensures begins { GrowsByOthers worker seat.me.0.seen (list_of turn.views) }
 {
     let mut both = turn.into_seat();
     word.join_seat::<TakesIn>(&mut both, seat);

@@ -2,7 +2,7 @@
 ghost use Rattle.std.specs.Prelude.{◌≡◌, ◌≤◌, ◌<◌, ◌++◌, ◌∷◌, [], length, IfOk};
 ghost use Rattle.std.specs.Result.{OnOk};
 ghost use Rattle.bg_base.specs.Limits.{most_steps};
-ghost use Rattle.bg_seats.specs.Histories.{Grows, WorkersBelow, new_passes};
+ghost use Rattle.bg_seats.specs.Histories.{GrowsByOthers, WorkersBelow, new_passes};
 ghost use Rattle.bg_seats.specs.Seating.{turn_of};
 
 use crate::knowledge::Knowledge;
@@ -147,7 +147,7 @@ impl HistoryTable {
         ensures pass { pass.new ≡ record pass.old { seen = turn.old.list } }
         ensures turn { turn.new ≡ turn.old }
         ensures count { result ≡ length turn.old.list }
-        ensures grows { Grows pass.old.worker pass.old.seen turn.old.list }
+        ensures grows { GrowsByOthers pass.old.worker pass.old.seen turn.old.list }
         ensures numbered { WorkersBelow turn.old.passes turn.old.list × (pass.old.worker < turn.old.passes) }
         ensures short { length turn.old.list ≤ most_steps }
     {
@@ -169,7 +169,7 @@ impl HistoryTable {
         requires tables { (pass.old.table ≡ self.now) × (turn.old.table ≡ self.now) }
         ensures pass { pass.new ≡ pass.old }
         ensures turn { turn.new ≡ turn.old }
-        ensures grows { Grows pass.old.worker pass.old.seen turn.old.list }
+        ensures grows { GrowsByOthers pass.old.worker pass.old.seen turn.old.list }
         ensures numbered { WorkersBelow turn.old.passes turn.old.list × (pass.old.worker < turn.old.passes) }
         ensures short { length turn.old.list ≤ most_steps }
     {
@@ -214,7 +214,7 @@ impl HistoryTable {
     pub fn end(&self, pass: Pass, into: &mut Turn)
         requires tables { (pass.table ≡ self.now) × (into.old.table ≡ self.now) }
         ensures same { into.new ≡ into.old }
-        ensures begins { Grows pass.worker pass.seen into.old.list }
+        ensures begins { GrowsByOthers pass.worker pass.seen into.old.list }
     {
         let badge = mem::replace(&mut into.badge, Badge::blank());
         let Pass { seat, worker } = pass;

@@ -13,16 +13,16 @@ use Rattle.bg_cond.specs.declared.commits.Found.{Found}
 use Rattle.bg_rules.specs.Reaction.{HostState}
 use Rattle.bg_rules.specs.Systems.{SystemParts}
 use Rattle.bg_seats.proofs.Histories.{grown_whole, grown_longer}
-use Rattle.bg_seats.specs.Histories.{Grows, PassView, TurnView, WorkersBelow}
-use Rattle.bg_shared.specs.Shared.{AreParts, IsLocked}
+use Rattle.bg_seats.specs.Histories.{GrowsByOthers, PassView, TurnView, WorkersBelow}
+use Rattle.bg_shared.specs.Shared.{AreHostParts, IsLocked}
 
 module _ {table : TableId} {system : SystemParts} {limit passes : ℕ} {turn : TurnView} {host : HostState} {journal : List Entry} {bound : ℕ}
     (locked : IsLocked table system limit passes turn host journal bound) where
   -- what is compared with the turn is compared with the journal
-  pub grows_locked : (worker : ℕ) (seen : List Entry) → Grows worker seen turn.list → Grows worker seen journal
-  grows_locked worker seen grows = subst (λ (t : TurnView). Grows worker seen t.list) locked.turn_is grows
+  pub grows_locked : (worker : ℕ) (seen : List Entry) → GrowsByOthers worker seen turn.list → GrowsByOthers worker seen journal
+  grows_locked worker seen grows = subst (λ (t : TurnView). GrowsByOthers worker seen t.list) locked.turn_is grows
 
-  module _ {worker : ℕ} {seen : List Entry} (grows : Grows worker seen turn.list) {found : Found} (is : IsFound system seen found) (le : length journal ≤ found.version) where
+  module _ {worker : ℕ} {seen : List Entry} (grows : GrowsByOthers worker seen turn.list) {found : Found} (is : IsFound system seen found) (le : length journal ≤ found.version) where
     -- the step is legal at the host
     pub legal_now : IsLegal host system.rules found.step
     legal_now =
@@ -89,7 +89,7 @@ module _ {table : TableId} {system : SystemParts} {limit passes : ℕ} {turn : T
 
 -- what is made of the parts under their name is kept
 pub opened_locked : {table named : TableId} {members : List PassView} {turn : TurnView} {system named_system : SystemParts} {host : HostState} {journal : List Entry}
-    {limit bound passes named_passes : ℕ} → AreParts table members turn system host journal bound passes
+    {limit bound passes named_passes : ℕ} → AreHostParts table members turn system host journal bound passes
     → named ≡ table → named_system ≡ system → limit ≡ bound → named_passes ≡ passes → IsLocked named named_system limit named_passes turn host journal bound
 opened_locked {table} {named} {turn = turn} {system = system} {named_system = named_system} {host = host} {journal = journal} {limit} {bound} {passes} {named_passes} are table_is system_is limit_is passes_is =
     subst (λ (t : TableId). IsLocked t named_system limit named_passes turn host journal bound) (sym table_is)

@@ -9,7 +9,7 @@ use Rattle.bg_cond.specs.declared.commits.Commit.{Commit}
 use Rattle.bg_cond.specs.declared.commits.Commit.TheVariants.{Done, Again, Spent, Full}
 use Rattle.bg_rules.specs.Reaction.{HostState}
 use Rattle.bg_rules.specs.Systems.{SystemParts, IsSystem}
-use Rattle.bg_seats.specs.Histories.{PassView, TurnView, Grows, WorkersBelow, new_passes}
+use Rattle.bg_seats.specs.Histories.{PassView, TurnView, GrowsByOthers, WorkersBelow, new_passes}
 
 -- ---- what contracts see
 
@@ -35,7 +35,7 @@ pub record PartsView : Type 0 where
 -- ---- what is kept
 
 -- the parts belong together, and nothing has happened yet
-pub record AreParts (table : TableId) (members : List PassView) (turn : TurnView) (system : SystemParts) (host : HostState) (journal : List Entry) (limit passes : ℕ) : Type 0 where
+pub record AreHostParts (table : TableId) (members : List PassView) (turn : TurnView) (system : SystemParts) (host : HostState) (journal : List Entry) (limit passes : ℕ) : Type 0 where
   pub members_are : members ≡ new_passes table passes
   pub turn_is : turn ≡ record { table = table; passes = passes; list = [] }
   pub is_system : IsSystem system
@@ -69,7 +69,7 @@ OfTable table passes = AllByRecursion (λ (pass : PassView). pass.table ≡ tabl
 
 -- the journal begins with all that the pass had seen, and nothing behind that is of its worker
 abbrev pub BeginsWith : List Entry → PassView → Type 0
-BeginsWith journal pass = Grows pass.worker pass.seen journal
+BeginsWith journal pass = GrowsByOthers pass.worker pass.seen journal
 
 -- and so for each pass
 abbrev pub BeginsWithEach : List Entry → List PassView → Type 0

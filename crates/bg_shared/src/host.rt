@@ -2,7 +2,7 @@
 ghost use Rattle.std.specs.Prelude.{◌≡◌, ◌≤◌, length, IfOk, OnOk, OnErr};
 ghost use Rattle.bg_cond.specs.Boards.{Shows, IsNews, IsFound, IsCommitted};
 ghost use Rattle.bg_cond.specs.Steps.{IsRun};
-ghost use Rattle.bg_seats.specs.Histories.{Grows, new_passes};
+ghost use Rattle.bg_seats.specs.Histories.{GrowsByOthers, new_passes};
 ghost use Rattle.bg_shared.specs.Shared.{IsHistory, OfTable, BeginsWithEach};
 
 use crate::locked::Core;
@@ -75,7 +75,7 @@ impl<N: HostName> SharedHost<N> {
     pub fn look<R: Wait>(&self, rt: &R, alloc: Global, pass: &mut Pass) -> Mem<View>
         requires { pass.old.table ≡ N.table }
         ensures pass { pass.new ≡ record pass.old { seen = pass.new.seen } }
-        ensures grows { Grows pass.old.worker pass.old.seen pass.new.seen }
+        ensures grows { GrowsByOthers pass.old.worker pass.old.seen pass.new.seen }
         ensures shows { IfOk result (λ view. Shows N.system N.limit pass.new.seen view) }
         ensures history { OnOk result (IsHistory N.system N.limit N.passes pass.new.seen) }
         ensures no_memory { OnErr result (pass.new ≡ pass.old) }
@@ -97,7 +97,7 @@ impl<N: HostName> SharedHost<N> {
         requires table { pass.old.table ≡ N.table }
         requires seen { from ≤ length pass.old.seen }
         ensures pass { pass.new ≡ record pass.old { seen = pass.new.seen } }
-        ensures grows { Grows pass.old.worker pass.old.seen pass.new.seen }
+        ensures grows { GrowsByOthers pass.old.worker pass.old.seen pass.new.seen }
         ensures news { IfOk result (λ entries. IsNews N.system N.limit from pass.new.seen entries.items) }
         ensures history { OnOk result (IsHistory N.system N.limit N.passes pass.new.seen) }
         ensures no_memory { OnErr result (pass.new ≡ pass.old) }

@@ -3,7 +3,7 @@ ghost use Rattle.std.specs.Prelude.{◌≡◌, ◌≤◌, length, drop, IfOk, On
 ghost use Rattle.bg_cond.specs.Boards.{Shows, IsNews, IsFound, IsCommitted};
 ghost use Rattle.bg_cond.specs.Drawn.{entry_of};
 ghost use Rattle.bg_cond.specs.Steps.{IsRun};
-ghost use Rattle.bg_seats.specs.Histories.{Grows};
+ghost use Rattle.bg_seats.specs.Histories.{GrowsByOthers};
 ghost use Rattle.bg_shared.specs.Shared.{IsHistory, StaysUnlessDone};
 
 use bg_base::{Entry, Step};
@@ -43,7 +43,7 @@ impl<N: HostName> Core<N> {
         requires tables { (table.now ≡ N.table) × (pass.old.table ≡ N.table) }
         ensures same { self.new ≡ self.old }
         ensures pass { OnOk result (pass.new ≡ record pass.old { seen = self.old.journal }) }
-        ensures grows { OnOk result (Grows pass.old.worker pass.old.seen self.old.journal) }
+        ensures grows { OnOk result (GrowsByOthers pass.old.worker pass.old.seen self.old.journal) }
         ensures shows { IfOk result (λ view. Shows N.system N.limit self.old.journal view) }
         ensures history { IsHistory N.system N.limit N.passes self.old.journal }
         ensures no_memory { OnErr result (pass.new ≡ pass.old) }
@@ -66,7 +66,7 @@ impl<N: HostName> Core<N> {
         requires seen { from ≤ length pass.old.seen }
         ensures same { self.new ≡ self.old }
         ensures pass { OnOk result (pass.new ≡ record pass.old { seen = self.old.journal }) }
-        ensures grows { OnOk result (Grows pass.old.worker pass.old.seen self.old.journal) }
+        ensures grows { OnOk result (GrowsByOthers pass.old.worker pass.old.seen self.old.journal) }
         ensures news { IfOk result (λ entries. IsNews N.system N.limit from self.old.journal entries.items) }
         ensures history { IsHistory N.system N.limit N.passes self.old.journal }
         ensures no_memory { OnErr result (pass.new ≡ pass.old) }
@@ -92,7 +92,7 @@ impl<N: HostName> Core<N> {
         requires found { IsFound N.system pass.old.seen found.now }
         ensures committed { IfOk result (λ answer. IsCommitted N.system N.limit pass.old.worker self.old.journal self.new.journal found.now answer) }
         ensures pass { OnOk result (pass.new ≡ record pass.old { seen = self.new.journal }) }
-        ensures grows { OnOk result (Grows pass.old.worker pass.old.seen self.old.journal) }
+        ensures grows { OnOk result (GrowsByOthers pass.old.worker pass.old.seen self.old.journal) }
         ensures run { IsRun N.system.rules N.system.init self.new.journal self.new.host }
         ensures history { IsHistory N.system N.limit N.passes self.new.journal }
         ensures still { IfOk result (λ answer. StaysUnlessDone answer self.old self.new) }

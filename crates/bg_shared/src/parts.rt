@@ -26,13 +26,13 @@ pub struct HostParts {
 }
 
 impl Model for HostParts {
-    ghost use Rattle.bg_shared.specs.Shared.{PartsView, AreParts};
+    ghost use Rattle.bg_shared.specs.Shared.{PartsView, AreHostParts};
 
     ghost Value = { PartsView };
 
     ghost view = { λ parts. record { table = parts.table; system = parts.system; limit = parts.limit; passes = parts.passes } };
 
-    ghost invariant = { λ parts. AreParts parts.table parts.members.items parts.turn parts.system parts.host parts.journal.items parts.limit parts.passes };
+    ghost invariant = { λ parts. AreHostParts parts.table parts.members.items parts.turn parts.system parts.host parts.journal.items parts.limit parts.passes };
 }
 
 impl HostParts {

@@ -12,7 +12,7 @@ use Rattle.bg_answers.specs.declared.status.Status.{Status}
 use Rattle.bg_answers.specs.declared.status.Status.TheVariants.{Done, Refused, WrongWords, TooMany, NoRun, TooLong, Unsorted}
 use Rattle.bg_top.specs.Ended.{CallEnded, SomeAnswer, IsStopped, ComesWhere}
 use Rattle.bg_top.specs.Numbers.{failed_read, failed_write, out_of_memory}
-use Rattle.bg_top.specs.Right.{promise_of, input_of, is_long, IsReply, IsTaken, IsRefused, IsTooMuch, IsNoRun, EndsWith, IsRight, IsAnsweredWith, AsksOf, Answers}
+use Rattle.bg_top.specs.Right.{promise_of, input_of, is_long, IsReply, IsTaken, IsRefused, IsTooMuch, IsReplayOfNoRun, EndsWith, IsRight, IsAnsweredWith, AsksOf, Answers}
 use Rattle.bg_top.specs.Staying.{Stay, IsRightWith}
 use Rattle.bg_top.proofs.Right.{over, the_input, input_is, long_input}
 use Rattle.bg_watch.specs.Watching.{Watched}
@@ -271,18 +271,18 @@ module _ (most : ℕ) (watchers : List Watched) (result : ℕ) (reads writes flu
   much_from asked (Some input) ended = comes_by asked input ended TooMany (much_there asked input) (there_much asked input)
 
   -- journals that are none, or no run
-  no_run_there : (asked : Option Request) (bytes : List ℕ) → IsAnsweredWith most asked watchers (Some bytes) NoRun → AsksOf most asked bytes IsNoRun
+  no_run_there : (asked : Option Request) (bytes : List ℕ) → IsAnsweredWith most asked watchers (Some bytes) NoRun → AsksOf most asked bytes IsReplayOfNoRun
   no_run_there None bytes answered = let both = sym answered.2 ∙ ap (λ (a : Answer). a.status) answered.1 in absurd cc
   no_run_there (Some request) bytes answered = of answered.0 (judged_at watchers most request bytes answered.0 answered.1) answered.2
     where
       of : (answer : Answer) → Judged watchers most request (input_of request bytes) answer → answer.status ≡ NoRun
-          → (is_long most request bytes ≡ false) × IsNoRun request (input_of request bytes)
+          → (is_long most request bytes ≡ false) × IsReplayOfNoRun request (input_of request bytes)
       of answer (long same past) e = let both = sym e ∙ ap (λ (a : Answer). a.status) same in absurd cc
       of answer (short few right) e =
           let m = made_of (promise_of request watchers) (input_of request bytes) right (λ r. let both = sym e ∙ r in absurd cc) in
           (sym (long_input most request bytes) ∙ few, no_run_with request watchers request.command (input_of request bytes) answer m e)
 
-  there_no_run : (asked : Option Request) (bytes : List ℕ) → AsksOf most asked bytes IsNoRun → (answer : Answer) → IsRight most asked watchers (Some bytes) answer
+  there_no_run : (asked : Option Request) (bytes : List ℕ) → AsksOf most asked bytes IsReplayOfNoRun → (answer : Answer) → IsRight most asked watchers (Some bytes) answer
       → answer.status ≡ NoRun
   there_no_run None bytes asks answer right = absurd asks
   there_no_run (Some request) bytes asks answer right = of answer (judged_at watchers most request bytes answer right)
@@ -292,7 +292,7 @@ module _ (most : ℕ) (watchers : List Watched) (result : ℕ) (reads writes flu
       of answer (short few right) = told_with request watchers request.command (input_of request bytes) answer asks.1.0 asks.1.1 right
 
   pub no_run_from : (asked : Option Request) (left : Option (List ℕ)) → Ends asked left
-      → IfSome left (λ input. ComesWhere result NoRun (AsksOf most asked input IsNoRun))
+      → IfSome left (λ input. ComesWhere result NoRun (AsksOf most asked input IsReplayOfNoRun))
   no_run_from asked None ended = tt
   no_run_from asked (Some input) ended =
       record {

@@ -77,8 +77,8 @@ IsTooMuch watchers request input = Makes watchers request input (λ answer. answ
 
 -- a journal is to be judged, and the input has no text of a journal in front, or its journal is no run of the system that the
 -- model behind it describes
-abbrev pub IsNoRun : Request → List ℕ → Type 0
-IsNoRun request input = (request.command ≡ Replay) × IsNoRunInput input
+abbrev pub IsReplayOfNoRun : Request → List ℕ → Type 0
+IsReplayOfNoRun request input = (request.command ≡ Replay) × IsNoRunInput input
 
 -- the result is the status of what the command makes of the input
 abbrev pub EndsWith : ℕ → List Watched → Request → List ℕ → Type 0

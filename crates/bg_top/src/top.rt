@@ -5,7 +5,7 @@ ghost use Rattle.bg_answers.specs.Answer.{number, answer_of};
 ghost use Rattle.bg_io.specs.Faults.{Rose};
 ghost use Rattle.bg_top.specs.Ended.{CallEnded, ComesWhere};
 ghost use Rattle.bg_top.specs.Numbers.{failed_read, failed_write, out_of_memory, most_bytes};
-ghost use Rattle.bg_top.specs.Right.{IsReply, IsAnsweredWith, AsksOf, Answers, IsRefused, IsTooMuch, IsNoRun, IsTaken, EndsWith, input_of, is_long};
+ghost use Rattle.bg_top.specs.Right.{IsReply, IsAnsweredWith, AsksOf, Answers, IsRefused, IsTooMuch, IsReplayOfNoRun, IsTaken, EndsWith, input_of, is_long};
 ghost use Rattle.bg_top.specs.Staying.{IsRightWith, StayFor};
 ghost use Rattle.bg_top.specs.Words.{asked, IsReadless};
 ghost use Rattle.bg_words.specs.Words.{IsInRange};
@@ -96,7 +96,7 @@ pub fn engine<S: Source, K: Sink, G: Gate + Sync, R: Threads + Wait + Sync>(
     ensures too_many { IfSome (S.left source.old) (λ input.
         ComesWhere result Status.TooMany (AsksOf most_bytes (asked words.now) input (IsTooMuch (map (λ w. state w) watchers.old.items)))) }
     ensures no_run { IfSome (S.left source.old) (λ input.
-        ComesWhere result Status.NoRun (AsksOf most_bytes (asked words.now) input IsNoRun)) }
+        ComesWhere result Status.NoRun (AsksOf most_bytes (asked words.now) input IsReplayOfNoRun)) }
     ensures statuses { IfSome (S.left source.old) (λ input. (status : Status) →
         ComesWhere result status (IsAnsweredWith most_bytes (asked words.now) (map (λ w. state w) watchers.old.items) (Some input) status)) }
 

@@ -14,13 +14,13 @@ use Rattle.bg_cond.specs.declared.commits.Commit.TheVariants.{Done, Again, Spent
 use Rattle.bg_cond.specs.declared.commits.Found.{Found}
 use Rattle.bg_rules.specs.Reaction.{HostState}
 use Rattle.bg_rules.specs.Systems.{SystemParts, IsSystem}
-use Rattle.bg_seats.specs.Histories.{Grows}
+use Rattle.bg_seats.specs.Histories.{GrowsByOthers}
 use Rattle.bg_workers.specs.Following.{IsBehind}
 use Rattle.bg_workers.specs.Working.{IsLonger}
 
 -- ---- what was seen
 
-pub grown : {worker : ℕ} {before after : List Entry} → Grows worker before after → IsLonger before after
+pub grown : {worker : ℕ} {before after : List Entry} → GrowsByOthers worker before after → IsLonger before after
 grown grows = (grows.rest, grows.all)
 
 pub longer_same : {before after : List Entry} → after ≡ before → IsLonger before after

@@ -14,8 +14,8 @@ use Rattle.bg_cond.specs.declared.ending.End.{End}
 use Rattle.bg_rules.specs.Reaction.{HostState}
 use Rattle.bg_rules.specs.Systems.{SystemParts, IsSystem}
 use Rattle.bg_seats.proofs.Histories.{grown_whole, grown_longer, own_before, own_front}
-use Rattle.bg_seats.specs.Histories.{Grows}
-use Rattle.bg_workers.specs.Working.{IsQuietAt, IsFullAt, IsEnded, IsOwn, end_of, IsDrawn, IsDrawnStep, IsDrawnEnd, GoesOn, Stops, IsDrawnSoFar}
+use Rattle.bg_seats.specs.Histories.{GrowsByOthers}
+use Rattle.bg_workers.specs.Working.{IsQuietAt, IsFullAt, IsEnded, IsOwn, run_end_of, IsDrawn, IsDrawnStep, IsDrawnEnd, GoesOn, WorkerEnds, IsDrawnSoFar}
 use Rattle.bg_workers.specs.declared.ends.Ended.{Ended}
 use Rattle.bg_workers.specs.declared.ends.Ended.TheVariants.{Quiet, Limit, Full}
 use Rattle.rand_pcg.specs.Lcg.{Lcg}
@@ -28,7 +28,7 @@ module _ (system : SystemParts) (is : IsSystem system) where
   -- ---- one turn, where `before` had been seen, `between` is seen by the look, and the view is of that
 
   module _ (most worker : ℕ) (before : List Entry) (state : Lcg) (between : List Entry) (view : View)
-      (grows : Grows worker before between) (shows : Shows system most between view) where
+      (grows : GrowsByOthers worker before between) (shows : Shows system most between view) where
     -- nothing came where all is own
     none_came : (rest after : List Entry) → after ≡ between ++ rest → IsOwn worker after → between ≡ before
     none_came rest after e own = own_before rest after grows e own
@@ -38,15 +38,15 @@ module _ (system : SystemParts) (is : IsSystem system) where
 
     -- nothing is drawn behind what was seen
     drawn_end : {after : List Entry} (end : Ended) (host : HostState) → after ≡ before → IsRun system.rules system.init after host
-        → Draws system.rules worker (most - length after) host state [] (end_of end) host → IsDrawnEnd system most worker before state after end
+        → Draws system.rules worker (most - length after) host state [] (run_end_of end) host → IsDrawnEnd system most worker before state after end
     drawn_end end host same run draws = record {
       same = same;
       host = host;
       run = subst (λ (xs : List Entry). IsRun system.rules system.init xs host) same run;
-      draws = subst (λ (xs : List Entry). Draws system.rules worker (most - length xs) host state [] (end_of end) host) same draws;
+      draws = subst (λ (xs : List Entry). Draws system.rules worker (most - length xs) host state [] (run_end_of end) host) same draws;
     }
 
-    pub stops_limit : most ≤ view.version → Stops system most worker before state between Limit
+    pub stops_limit : most ≤ view.version → WorkerEnds system most worker before state between Limit
     stops_limit le =
         let version = shows.version in
         let within = shows.within in
@@ -54,19 +54,19 @@ module _ (system : SystemParts) (is : IsSystem system) where
         let all : length between ≡ most = omega (arith, le, version, within) in record {
           right = all;
           drawn = λ own. drawn_end Limit view.host (nothing_came own) shows.run
-              (subst (λ (n : ℕ). Draws system.rules worker n view.host state [] (end_of Limit) view.host) (sym none) (limit refl));
+              (subst (λ (n : ℕ). Draws system.rules worker n view.host state [] (run_end_of Limit) view.host) (sym none) (limit refl));
         }
 
     some_room : (entries : List Entry) → length entries < most → most - length entries ≡ suc (most - length entries - 1)
     some_room entries less = omega (arith, less)
 
-    pub stops_quiet : view.version < most → HasNoStep view.host system.rules → Stops system most worker before state between (Quiet view.version)
+    pub stops_quiet : view.version < most → HasNoStep view.host system.rules → WorkerEnds system most worker before state between (Quiet view.version)
     stops_quiet less none =
         let version = shows.version in
         let room : length between < most = omega (arith, less, version) in record {
           right = record { number = version; room = room; host = view.host; run = shows.run; none = none };
           drawn = λ own. drawn_end (Quiet view.version) view.host (nothing_came own) shows.run
-              (subst (λ (n : ℕ). Draws system.rules worker n view.host state [] (end_of (Quiet view.version)) view.host) (sym (some_room between room)) (quiet none refl));
+              (subst (λ (n : ℕ). Draws system.rules worker n view.host state [] (run_end_of (Quiet view.version)) view.host) (sym (some_room between room)) (quiet none refl));
         }
 
     module _ (after : List Entry) (found : Found) (at : found.version ≡ view.version) where
@@ -110,7 +110,7 @@ module _ (system : SystemParts) (is : IsSystem system) where
           }
 
       pub stops_full : IsPick view.host system.rules state found.step → IsFull system most worker between after found
-          → Stops system most worker before state after (Full found.version found.step)
+          → WorkerEnds system most worker before state after (Full found.version found.step)
       stops_full pick is_full =
           let version = shows.version in
           let newest = is_full.newest in
@@ -119,7 +119,7 @@ module _ (system : SystemParts) (is : IsSystem system) where
           let picked : IsPick is_full.host system.rules state found.step = subst (λ (h : HostState). IsPick h system.rules state found.step) host_is pick in record {
             right = record { number = newest; room = is_full.room; host = is_full.host; run = is_full.run; large = is_full.full };
             drawn = λ own. drawn_end (Full found.version found.step) is_full.host (same ∙ none_came [] after (same ∙ sym (append-nil between)) own) is_full.run
-                (subst (λ (n : ℕ). Draws system.rules worker n is_full.host state [] (end_of (Full found.version found.step)) is_full.host)
+                (subst (λ (n : ℕ). Draws system.rules worker n is_full.host state [] (run_end_of (Full found.version found.step)) is_full.host)
                 (sym (some_room after is_full.room)) (full picked is_full.full refl));
           }
 
@@ -162,11 +162,11 @@ module _ (system : SystemParts) (is : IsSystem system) where
                 ((so_far front).continues drew.host (entry ∷ rest) end last drew.run here);
           }
 
-      pub drawn_whole : (end : Ended) → Stops system most worker before state after end → IsOwn worker after → IsDrawn system most worker seed after end
+      pub drawn_whole : (end : Ended) → WorkerEnds system most worker before state after end → IsOwn worker after → IsDrawn system most worker seed after end
       drawn_whole end stops own =
           let drew = stops.drawn own in
           let front : IsOwn worker before = subst (λ (xs : List Entry). IsOwn worker xs) drew.same own in record {
             host = drew.host;
-            draws = subst (λ (xs : List Entry). Draws system.rules worker most system.init seed xs (end_of end) drew.host) (append-nil before ∙ sym drew.same)
-                ((so_far front).continues drew.host [] (end_of end) drew.host drew.run drew.draws);
+            draws = subst (λ (xs : List Entry). Draws system.rules worker most system.init seed xs (run_end_of end) drew.host) (append-nil before ∙ sym drew.same)
+                ((so_far front).continues drew.host [] (run_end_of end) drew.host drew.run drew.draws);
           }

@@ -49,15 +49,15 @@ abbrev pub IsOwn : ℕ → List Entry → Type 0
 IsOwn worker history = entries_of worker history ≡ history
 
 -- a worker's end, as the end of a run
-abbrev pub end_of : Ended → End
-end_of (Quiet version) = run_end.Quiet
-end_of Limit = run_end.Limit
-end_of (Full version step) = run_end.Full step
+abbrev pub run_end_of : Ended → End
+run_end_of (Quiet version) = run_end.Quiet
+run_end_of Limit = run_end.Limit
+run_end_of (Full version step) = run_end.Full step
 
 -- the entries and the end are those that the generator draws, from the system's first host on
 pub record IsDrawn (system : SystemParts) (limit worker : ℕ) (seed : Lcg) (seen : List Entry) (ended : Ended) : Type 0 where
   pub host : HostState
-  pub draws : Draws system.rules worker limit system.init seed seen (end_of ended) host
+  pub draws : Draws system.rules worker limit system.init seed seen (run_end_of ended) host
 
 -- ---- one turn
 
@@ -77,7 +77,7 @@ pub record IsDrawnEnd (system : SystemParts) (limit worker : ℕ) (before : List
   pub same : after ≡ before
   pub host : HostState
   pub run : IsRun system.rules system.init before host
-  pub draws : Draws system.rules worker (limit - length before) host state [] (end_of ended) host
+  pub draws : Draws system.rules worker (limit - length before) host state [] (run_end_of ended) host
 
 -- more entries are there now, and one word was taken; where the entries are all of the worker, it has drawn one
 pub record GoesOn (system : SystemParts) (limit worker : ℕ) (before : List Entry) (state : Lcg) (after : List Entry) (later : Lcg) : Type 0 where
@@ -87,14 +87,14 @@ pub record GoesOn (system : SystemParts) (limit worker : ℕ) (before : List Ent
   pub drawn : IsOwn worker after → IsDrawnStep system worker before state after later
 
 -- the worker ends; where all entries are its own, no other came
-pub record Stops (system : SystemParts) (limit worker : ℕ) (before : List Entry) (state : Lcg) (after : List Entry) (ended : Ended) : Type 0 where
+pub record WorkerEnds (system : SystemParts) (limit worker : ℕ) (before : List Entry) (state : Lcg) (after : List Entry) (ended : Ended) : Type 0 where
   pub right : IsEnded system limit after ended
   pub drawn : IsOwn worker after → IsDrawnEnd system limit worker before state after ended
 
 -- one turn of a worker that had seen `before`, and has then seen `after`
 abbrev pub HasTurned : SystemParts → ℕ → ℕ → List Entry → Lcg → List Entry → Lcg → Option Ended → Type 0
 HasTurned system limit worker before state after later None = GoesOn system limit worker before state after later
-HasTurned system limit worker before state after later (Some ended) = Stops system limit worker before state after ended
+HasTurned system limit worker before state after later (Some ended) = WorkerEnds system limit worker before state after ended
 
 -- what is drawn from the host after these entries, behind them, is drawn from the beginning
 pub record IsDrawnSoFar (system : SystemParts) (limit worker : ℕ) (seed : Lcg) (seen : List Entry) (state : Lcg) : Type 0 where

@@ -5,7 +5,7 @@ ghost use Rattle.bg_cond.specs.Drawn.{IsPick};
 ghost use Rattle.bg_cond.specs.Picks.{next_state};
 ghost use Rattle.bg_cond.specs.Steps.{HasNoStep};
 ghost use Rattle.bg_rules.specs.Systems.{IsSystem};
-ghost use Rattle.bg_seats.specs.Histories.{Grows};
+ghost use Rattle.bg_seats.specs.Histories.{GrowsByOthers};
 ghost use Rattle.bg_workers.specs.Following.{IsBehind};
 ghost use Rattle.bg_workers.specs.Turns.{IsLater};
 ghost use Rattle.bg_workers.specs.Working.{IsEnded, IsLonger, IsOwn, IsDrawn, HasTurned};
@@ -147,7 +147,7 @@ fn catch_up<B: Board, F: Follower, R: Wait>(
     requires stands { F.stands follower.old system.now }
     requires behind { IsBehind system.now (B.seen pass.old) (F.version follower.old) (F.host follower.old) }
     ensures of { B.is_of board.now pass.new × (B.worker pass.new ≡ B.worker pass.old) }
-    ensures grows { Grows (B.worker pass.old) (B.seen pass.old) (B.seen pass.new) }
+    ensures grows { GrowsByOthers (B.worker pass.old) (B.seen pass.old) (B.seen pass.new) }
     ensures stands { F.stands follower.new system.now }
     ensures behind { IsBehind system.now (B.seen pass.new) (F.version follower.new) (F.host follower.new) }
     ensures shows { OnOk result (Shows (B.system board.now) (B.limit board.now) (B.seen pass.new) (record { version = F.version follower.new; host = F.host follower.new })) }
