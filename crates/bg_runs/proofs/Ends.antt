@@ -14,7 +14,7 @@ use Rattle.bg_rules.specs.Hosts.{IsHost}
 use Rattle.bg_rules.specs.Reaction.{HostState}
 use Rattle.bg_rules.specs.Systems.{SystemParts, IsSystem}
 use Rattle.bg_cond.specs.declared.commits.Closed.{Closed}
-use Rattle.bg_runs.specs.Finished.{IsFinished, IsDrawnOn, CameFrom}
+use Rattle.bg_runs.specs.Finished.{IsAt, IsFinished, IsDrawnOn, CameFrom}
 use Rattle.bg_runs.specs.declared.finishing.FinishedRun.{FinishedRun}
 use Rattle.bg_seats.proofs.Histories.{grown_whole, own_before, alone}
 use Rattle.bg_seats.specs.Histories.{GrowsByOthers, WorkersBelow}
@@ -61,10 +61,30 @@ module _ (system : SystemParts) (is : IsSystem system) (most workers seed : ℕ)
       subst (λ (xs : List Entry). Draws system.rules 0 most system.init (seeded seed 0) xs (run_end_of ended) drew.host) (sym whole) drew.draws in
       subst (λ (h : HostState). Draws system.rules 0 most system.init (seeded seed 0) journal (run_end_of ended) h) (one_host (drawn_run system.rules 0 draws)) draws
 
-  -- worker 0 found a step whose result passes a limit, and no entry came since
-  pub full_finished : (version : ℕ) (step : Step) → CameFrom system most seed journal (Full version step) → version ≡ length journal
-      → IsFinished system most workers seed (record { system = system; journal = journal; end = run_end.Full step; host = host })
-  full_finished version step came at =
+  -- no entry came since worker 0 ended
+  pub at_finished : (ended : Ended) → CameFrom system most seed journal ended → IsAt ended (length journal) most
+      → IsFinished system most workers seed (record { system = system; journal = journal; end = run_end_of ended; host = host })
+  at_finished (Quiet version) came at =
+      let right = came.right in
+      let number = right.number in
+      let whole : journal ≡ came.seen = grown_whole came.grows (omega (arith, at, number)) in
+      let there : right.host ≡ host = one_host (subst (λ (xs : List Entry). IsRun system.rules system.init xs right.host) (sym whole) right.run) in record {
+        same = refl;
+        run_is = run;
+        end_is = (subst (λ (xs : List Entry). length xs < most) (sym whole) right.room, subst (λ (h : HostState). HasNoStep h system.rules) there right.none);
+        below = history.below;
+        drawn = λ one. drawn_here (Quiet version) came whole one;
+      }
+  at_finished Limit came at =
+      let right : length came.seen ≡ most = came.right in
+      let whole : journal ≡ came.seen = grown_whole came.grows (omega (arith, at, right)) in record {
+        same = refl;
+        run_is = run;
+        end_is = at;
+        below = history.below;
+        drawn = λ one. drawn_here Limit came whole one;
+      }
+  at_finished (Full version step) came at =
       let right = came.right in
       let number = right.number in
       let whole : journal ≡ came.seen = grown_whole came.grows (omega (arith, at, number)) in

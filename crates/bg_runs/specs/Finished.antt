@@ -10,6 +10,7 @@ use Rattle.bg_runs.specs.declared.finishing.FinishedRun.{FinishedRun}
 use Rattle.bg_seats.specs.Histories.{GrowsByOthers, WorkersBelow}
 use Rattle.bg_workers.specs.Working.{IsEnded, IsOwn, IsDrawn}
 use Rattle.bg_workers.specs.declared.ends.Ended.{Ended}
+use Rattle.bg_workers.specs.declared.ends.Ended.TheVariants.{Quiet, Limit, Full}
 use Rattle.rand_pcg.specs.Lcg.{Lcg}
 
 -- what was run is a run of the system by so many workers, of at most so many entries, with its end; with one worker it is the
@@ -27,6 +28,12 @@ pub record CameFrom (system : SystemParts) (limit seed : ℕ) (journal : List En
   pub grows : GrowsByOthers 0 seen journal
   pub right : IsEnded system limit seen ended
   pub drawn : IsOwn 0 seen → IsDrawn system limit 0 (seeded seed 0) seen ended
+
+-- the worker ended after so many entries, or at the limit and these are as many
+abbrev pub IsAt : Ended → ℕ → ℕ → Type 0
+IsAt (Quiet version) count limit = version ≡ count
+IsAt Limit count limit = count ≡ limit
+IsAt (Full version step) count limit = version ≡ count
 
 -- the run goes on from what is closed, to so many entries at most, with the words of the generator from that state on
 pub record IsDrawnOn (closed : Closed) (limit : ℕ) (state : Lcg) (run : FinishedRun) : Type 0 where

@@ -1,14 +1,14 @@
 //! How a run is finished on the calling thread.
 ghost use Rattle.std.specs.Prelude.{◌≡◌, ◌≢◌, ◌≤◌, ◌<◌, ◌++◌, ℕ, length, IfOk, MatchOption};
 ghost use Rattle.bg_base.specs.Limits.{most_steps};
-ghost use Rattle.bg_base.specs.declared.history.Step.{Step as StepValue};
+ghost use Rattle.bg_base.specs.declared.history.Step.{Step};
 ghost use Rattle.bg_cond.specs.Steps.{IsRun};
-ghost use Rattle.bg_cond.specs.declared.ending.End.TheVariants as run_end;
-ghost use Rattle.bg_runs.specs.Finished.{CameFrom, IsDrawnOn, IsFinished};
+ghost use Rattle.bg_runs.specs.Finished.{CameFrom, IsAt, IsDrawnOn, IsFinished};
 ghost use Rattle.bg_shared.specs.Shared.{IsHistory};
+ghost use Rattle.bg_workers.specs.Working.{run_end_of};
 ghost use Rattle.bg_workers.specs.declared.ends.Ended.TheVariants.{Full};
 
-use bg_base::{Journal, Step};
+use bg_base::Journal;
 use bg_cond::{Closed, End};
 use bg_lists::{Mem, Rows};
 use bg_rules::{Host, System};
@@ -28,8 +28,8 @@ pub struct FinishedRun {
     pub host: Host,
 }
 
-/// Finishes a run that workers have left: where worker 0 found a step whose result passes a limit, and no entry came since,
-/// that is the end; else worker 0 goes on drawing.
+/// Finishes a run that workers have left: where no entry came since worker 0 ended, its end is that of the run; else worker 0 goes
+/// on drawing.
 pub(crate) fn finish(
     alloc: Global,
     closed: Closed,
@@ -49,8 +49,8 @@ pub(crate) fn finish(
     // These two are named by contracts alone.
     let _ = (workers, seed);
     let _signature = closed.system.signature();
-    match full_at(ended, closed.journal.len()) {
-        Some(step) => Ok(ended_full(closed, step)),
+    match end_at(ended, closed.journal.len(), limit) {
+        Some(end) => Ok(ended_with(closed, end)),
         None => {
             let run = drawn_on(alloc, closed, picker, limit)?;
             Ok(run)
@@ -58,21 +58,22 @@ pub(crate) fn finish(
     }
 }
 
-/// The step whose result passes a limit, where the worker found one after so many entries.
-fn full_at(ended: Ended, count: u32) -> Option<Step>
-    ensures { MatchOption result ((version : ℕ) (step : StepValue) → ended ≡ Full version step → version ≢ count) (λ step. ended ≡ Full count step) }
+/// The worker's end as that of a run, where it ended after so many entries, or at the limit and these are as many.
+fn end_at(ended: Ended, count: u32, limit: u32) -> Option<End>
+    ensures { MatchOption result ((version : ℕ) (step : Step) → ended ≡ Full version step → version ≢ count)
+        (λ end. (end ≡ run_end_of ended) × IsAt ended count limit) }
 {
-    if let Ended::Full { version, step } = ended {
-        if version == count {
-            return Some(step);
-        }
+    match ended {
+        Ended::Quiet { version } if version == count => Some(End::Quiet),
+        Ended::Limit if count == limit => Some(End::Limit),
+        Ended::Full { version, step } if version == count => Some(End::Full { step }),
+        _ => None,
     }
-    None
 }
 
-/// The run that ends with that step.
-fn ended_full(closed: Closed, step: Step) -> FinishedRun
-    ensures { result ≡ record { system = closed.system; journal = closed.journal; end = run_end.Full step; host = closed.host } }
+/// The run with that end.
+fn ended_with(closed: Closed, end: End) -> FinishedRun
+    ensures { result ≡ record { system = closed.system; journal = closed.journal; end = end; host = closed.host } }
 {
     let Closed {
         system,
@@ -82,7 +83,7 @@ fn ended_full(closed: Closed, step: Step) -> FinishedRun
     FinishedRun {
         system,
         journal,
-        end: End::Full { step },
+        end,
         host,
     }
 }

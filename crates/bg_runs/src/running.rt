@@ -19,8 +19,8 @@ use std::thread::Threads;
 
 /// A run of the system by so many workers, from 1 to 64, of at most `limit` steps, and at most 100,000. The workers run at
 /// once on a host that they share, each with a generator of its own, made by the sum of the seed and its number. When all
-/// have ended the calling thread goes on as worker 0, until no step is legal, there are as many entries as may be, or the
-/// picked step passes a limit of a host.
+/// have ended, and entries came since worker 0 did, the calling thread goes on as worker 0, until no step is legal, there are as many
+/// entries as may be, or the picked step passes a limit of a host.
 ///
 /// With one worker the run is the one that the seed draws; with more it is some run. It refuses for want of memory alone. It
 /// may wait. Each turn of a worker costs the entries that came, a pick, and a reaction in place; each worker holds a host of its own,
