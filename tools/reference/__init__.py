@@ -1,7 +1,7 @@
 """A second program in Python that answers the engine's commands as the engine has to, and judges runs of many workers.
 
 It was written from the description of the language alone (what docs/LANGUAGE.md, docs/FORMATS.md, docs/REFUSALS.md,
-docs/USAGE.md and docs/DEFINITIONS.md say now), before its writer had read a file of the engine, and shares no code with
+docs/USAGE.md and docs/DEFINITIONS.md say), before its writer had read a file of the engine, and shares no code with
 the engine or with tools/grammar.py. So a place where either misreads a sentence shows as a different answer; a sentence
 that both misread alike does not show.
 

@@ -17,7 +17,7 @@ pub enum Status {
     NoRun,
     /// 8: the input has more bytes than are read.
     TooLong,
-    /// 9: a host or a rule is not as its sorts ask, and the text says which. No command answers it yet.
+    /// 9: a host or a rule is not as its sorts ask, and the text says which. No command answers it.
     Unsorted,
 }
 
