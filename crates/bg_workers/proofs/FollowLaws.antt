@@ -26,8 +26,8 @@ grown grows = (grows.rest, grows.all)
 pub longer_same : {before after : List Entry} → after ≡ before → IsLonger before after
 longer_same {before} e = ([], e ∙ sym (append-nil before))
 
-pub longer_still : {first second third : List Entry} → IsLonger first second → IsLonger second third → IsLonger first third
-longer_still {first} one more = (one.0 ++ more.0, more.1 ∙ ap (λ (xs : List Entry). xs ++ more.0) one.1 ∙ append_assoc first one.0 more.0)
+pub longer_still : (first : List Entry) {second third : List Entry} → IsLonger first second → IsLonger second third → IsLonger first third
+longer_still first one more = (one.0 ++ more.0, more.1 ∙ ap (λ (xs : List Entry). xs ++ more.0) one.1 ∙ append_assoc first one.0 more.0)
 
 -- a commit leaves what was seen, and may put entries behind it
 pub committed_longer : (system : SystemParts) (limit worker : ℕ) (before after : List Entry) (found : Found) (answer : Commit)

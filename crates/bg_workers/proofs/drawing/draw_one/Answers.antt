@@ -16,11 +16,5 @@ returns-in_default-clause-later c = no_word (rw c.in_default.is at c.in_ok-step.
 pub returns-in_err-step-clause-later : goal.returns-in_err-step-clause-later
 returns-in_err-step-clause-later c = no_word c.in_err-step.ensures.no_memory
 
-pub returns-in-Ok-clause-later : goal.returns-in-Ok-clause-later
-returns-in-Ok-clause-later c = one_word (rw c.in-Some.is at c.in_ok-step.ensures.picked).1
-
-pub returns-in-Full-clause-later : goal.returns-in-Full-clause-later
-returns-in-Full-clause-later c = one_word (rw c.in-Some.is at c.in_ok-step.ensures.picked).1
-
-pub returns-in-OutOfMemory-clause-later : goal.returns-in-OutOfMemory-clause-later
-returns-in-OutOfMemory-clause-later c = one_word (rw c.in-Some.is at c.in_ok-step.ensures.picked).1
+pub returns-in-Err-Full-clause-later : goal.returns-in-Err-Full-clause-later
+returns-in-Err-Full-clause-later c = one_word (rw c.in-Some.is at c.in_ok-step.ensures.picked).1

@@ -85,19 +85,19 @@ returns-in-Full-clause-later g c =
     let chosen = rw c.in-Some.is at c.in_ok-found.ensures.found in one_word chosen.2
 
 pub returns-in_err-commit_found-clause-longer : goal.returns-in_err-commit_found-clause-longer
-returns-in_err-commit_found-clause-longer g c = longer_still (grown c.catch_up.ensures.grows) c.commit_found.ensures.longer
+returns-in_err-commit_found-clause-longer g c = longer_still (g.B.Board.seen c.args.pass.now) (grown c.catch_up.ensures.grows) c.commit_found.ensures.longer
 
 pub returns-in-Done-clause-longer : goal.returns-in-Done-clause-longer
-returns-in-Done-clause-longer g c = longer_still (grown c.catch_up.ensures.grows) c.commit_found.ensures.longer
+returns-in-Done-clause-longer g c = longer_still (g.B.Board.seen c.args.pass.now) (grown c.catch_up.ensures.grows) c.commit_found.ensures.longer
 
 pub returns-in-Again-clause-longer : goal.returns-in-Again-clause-longer
-returns-in-Again-clause-longer g c = longer_still (grown c.catch_up.ensures.grows) c.commit_found.ensures.longer
+returns-in-Again-clause-longer g c = longer_still (g.B.Board.seen c.args.pass.now) (grown c.catch_up.ensures.grows) c.commit_found.ensures.longer
 
 pub returns-in-Full-clause-longer : goal.returns-in-Full-clause-longer
-returns-in-Full-clause-longer g c = longer_still (grown c.catch_up.ensures.grows) c.commit_found.ensures.longer
+returns-in-Full-clause-longer g c = longer_still (g.B.Board.seen c.args.pass.now) (grown c.catch_up.ensures.grows) c.commit_found.ensures.longer
 
 pub returns-in-Spent-clause-longer : goal.returns-in-Spent-clause-longer
-returns-in-Spent-clause-longer g c = longer_still (grown c.catch_up.ensures.grows) c.commit_found.ensures.longer
+returns-in-Spent-clause-longer g c = longer_still (g.B.Board.seen c.args.pass.now) (grown c.catch_up.ensures.grows) c.commit_found.ensures.longer
 
 pub returns-then-version-limit-clause-longer : goal.returns-then-version-limit-clause-longer
 returns-then-version-limit-clause-longer g c = grown c.catch_up.ensures.grows

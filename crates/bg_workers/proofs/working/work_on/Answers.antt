@@ -18,7 +18,7 @@ loop-ended-preserved g c =
       λ none own. so_far_more c.args.system.now c.requires.system c.args.limit c.args.worker c.args.picker.now (g.B.Board.seen c.loop-ended.pass) c.loop-ended.picker
           (g.B.Board.seen c.turn.new.pass) (invariant.2 none) c.turn.new.picker goes own,
       later_still invariant.3 c.turn.ensures.later,
-      longer_still invariant.4 c.turn.ensures.longer,
+      longer_still (g.B.Board.seen c.args.pass.now) invariant.4 c.turn.ensures.longer,
     )
 
 pub returns-in_err-ended-clause-later : goal.returns-in_err-ended-clause-later
@@ -28,7 +28,7 @@ pub returns-in-Some-clause-later : goal.returns-in-Some-clause-later
 returns-in-Some-clause-later g c = let invariant = c.loop-ended.invariant in later_still invariant.3 c.turn.ensures.later
 
 pub returns-in_err-ended-clause-longer : goal.returns-in_err-ended-clause-longer
-returns-in_err-ended-clause-longer g c = let invariant = c.loop-ended.invariant in longer_still invariant.4 c.turn.ensures.longer
+returns-in_err-ended-clause-longer g c = let invariant = c.loop-ended.invariant in longer_still (g.B.Board.seen c.args.pass.now) invariant.4 c.turn.ensures.longer
 
 pub returns-in-Some-clause-longer : goal.returns-in-Some-clause-longer
-returns-in-Some-clause-longer g c = let invariant = c.loop-ended.invariant in longer_still invariant.4 c.turn.ensures.longer
+returns-in-Some-clause-longer g c = let invariant = c.loop-ended.invariant in longer_still (g.B.Board.seen c.args.pass.now) invariant.4 c.turn.ensures.longer
