@@ -1,5 +1,5 @@
 -- What the rows of the example's bigraphs are, computed: they make a host, a pattern, and the side of a rule.
-use Rattle.std.proofs.Common.{◌≡◌, ℕ, ◌≤◌, [], ◌∷◌, length, refl, sym, subst, arith}
+use Rattle.std.proofs.Common.{◌≡◌, length, refl, sym, subst, arith}
 use Rattle.std.specs.Prelude.{IsTrue, All}
 use Rattle.std.proofs.lemmas.List.Elements.{All-from_recursion}
 use Rattle.bg_lists.specs.Lists.{put, sort}

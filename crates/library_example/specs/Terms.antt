@@ -1,6 +1,6 @@
--- The bigraphs of the example, as terms of the algebra. A comment writes a term as the language of models does: `A.B` is B in
--- a node of A, `|` puts into one region, `id` is a site, `1` an empty region, `K{w}` a node whose port is tied to w, and `/w`
--- makes w an edge.
+-- The bigraphs of the example, as terms of the algebra. A comment writes a term as the language of models does: `A.B` is
+-- B in a node of A, `|` puts into one region, `id` is a site, `1` an empty region, `K{w}` a node whose port is tied to w,
+-- and `/w` makes w an edge. In the terms a number of a control stands before that of a node.
 use Rattle.std.specs.Prelude.{[], ◌∷◌}
 use Rattle.bg_base.specs.declared.names.Name.{Name}
 use Rattle.bg_base.specs.declared.names.Name.TheVariants.{Plain}

@@ -1,5 +1,6 @@
-//! The crates as a library: a host is made by the algebra, the occurrences of a redex are listed in it, and it reacts at the
-//! first of them. The listing of the host before, the occurrences, and the listing after go to the standard output.
+//! The crates as a library: a host is made by the algebra, the occurrences of a redex are listed in it, and it reacts
+//! at the first of them. The listing of the host before, the occurrences, and the listing after go to the standard
+//! output.
 #![tactic(auto)]
 
 ghost use Rattle.std.specs.Prelude.{List, ℕ, ◌≡◌, ◌++◌, Some, OnOk, codes, length, slice_get};
@@ -25,7 +26,8 @@ use std::process::ExitCode;
 /// The most occurrences that are asked for.
 const MOST: u32 = 100;
 
-/// The whole text is made before its first byte is written. A refusal, which only want of memory brings here, is one line.
+/// The whole text is made before its first byte is written. A refusal is one line in its place, and ends with status 1:
+/// with the bigraphs of this example it can come for want of memory alone.
 fn main(rt: HostRuntime) -> ExitCode {
     let mut sink = StdSink::new(rt.stdout());
     match text(rt.alloc()) {
@@ -40,8 +42,8 @@ fn main(rt: HostRuntime) -> ExitCode {
     }
 }
 
-/// What is written. Signature, host and rule are made here one by one, and each is lent to the function that makes the next:
-/// so where a call refuses, one of them is dropped, which keeps the proof of each function short.
+/// What is written. Signature, host and rule are made here one by one, and each is lent to the function that makes the
+/// next: so where a call refuses, one of them is dropped, which keeps the proof of each function short.
 fn text(alloc: Global) -> Result<Vec<u8>, Refusal> {
     let signature = terms::signature(alloc)?;
     let text = text_under(alloc, &signature)?;
@@ -62,7 +64,8 @@ fn text_in(alloc: Global, signature: &Signature, host: &mut Host) -> Result<Vec<
     Ok(text)
 }
 
-/// The same of the host and the rule: the host, the occurrences of the redex, and the host after the reaction at the first.
+/// The same of the host and the rule: the host, the occurrences of the redex, and the host after the reaction at the
+/// first. That a host is ground, which `list` asks for, each host keeps.
 fn text_of(
     alloc: Global,
     signature: &Signature,
@@ -78,7 +81,8 @@ fn text_of(
     Ok(text)
 }
 
-/// The reaction of the host by the rule, at the first of all occurrences of its redex.
+/// The reaction of the host by the rule, at the first of all occurrences of its redex. `react` asks that the redex occurs
+/// at the map: each map of a list of all occurrences is one (`proofs/First`).
 #[tactic(auto, using(crate::proofs::First::first_occurs))]
 fn react_at_first(alloc: Global, host: &mut Host, rule: &Rule, maps: &[Map]) -> Result<(), Refusal>
     requires all { AreOccurrences host.old.big rule.now.redex maps.now }
@@ -93,8 +97,8 @@ fn react_at_first(alloc: Global, host: &mut Host, rule: &Rule, maps: &[Map]) -> 
     }
 }
 
-/// Appends the heading and the listing of the host. A listing names controls by the signature, so it is checked first that
-/// the host is valid under that.
+/// Appends the heading and the listing of the host. A listing has the labels of controls, so it is checked first that the
+/// host is valid under the signature.
 fn put_host(
     alloc: Global,
     heading: &[u8],
@@ -118,7 +122,8 @@ fn put(bytes: &[u8], text: &mut Vec<u8>) -> Mem<()>
     Ok(())
 }
 
-/// Appends how many occurrences there are, and a line for each: the images of the redex's nodes, in the order of these.
+/// Appends how many occurrences there are, and a line for each: the images of the redex's nodes, in the order of
+/// these.
 fn put_maps(alloc: Global, maps: &[Map], text: &mut Vec<u8>) -> Mem<()>
     ensures ok { OnOk result (text.new.items ≡ (text.old.items ++ count_line (codes "occurrences ") (length maps.now)) ++ flat_map numbers_line maps.now) }
 {

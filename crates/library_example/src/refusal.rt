@@ -5,8 +5,8 @@ use bg_lists::OutOfMemory;
 use bg_rules::{ListFault, ReactFault, RuleFault};
 use thiserror::Error;
 
-/// Each refusal of a call, as the crate of the call tells it. With the bigraphs of this example none but want of memory
-/// comes; with others each may.
+/// Each refusal of a call, as the crate of the call tells it; `?` turns it into one of these. With the bigraphs of this
+/// example it can come for want of memory alone; with others each may.
 #[derive(Clone, Copy, Debug, PartialEq, Eq, Error)]
 pub enum Refusal {
     #[error("a label is no word")]

@@ -1,4 +1,5 @@
-//! What the example is about: a signature, a bigraph, and a rule.
+//! What the example is about: a signature, a host, and a rule. Each operation is a call of `bg_algebra`, and a function of
+//! its own here, whose contract says which term of `specs/Terms` it makes.
 //!
 //! The words that the prover looks into, and the laws that it takes, stand here once for all functions.
 #![tactic(auto, using(crate::proofs::Rows::is_host_big, crate::proofs::Rows::is_within, crate::proofs::Rows::redex_used), unfolding(crate::specs::Terms::rooms, crate::specs::Terms::inside, crate::specs::Terms::wired, crate::specs::Terms::building, crate::specs::Terms::redex, crate::specs::Terms::agent_beside, crate::specs::Terms::reactum, bg_base::specs::Products::merge, bg_base::specs::Products::parallel, bg_base::specs::Elementary::atom, bg_base::specs::Elementary::ion, bg_base::specs::Elementary::identity, bg_base::specs::Elementary::counted))]
@@ -89,7 +90,8 @@ fn building(alloc: Global) -> Result<Big, AlgebraFault>
     close(alloc, &wired, &names[0], 0)
 }
 
-/// The host: that bigraph, in which the next new node gets the number 4, the next new edge the number 1.
+/// The host: that bigraph, in which the next new node gets the number 4, the next new edge the number 1. `Host::new` asks
+/// that it is ground, has plain names and no idle edge, and is within the limits (`proofs/Rows`).
 pub fn host(alloc: Global) -> Result<Host, AlgebraFault>
     ensures { IfOk result (λ host. host ≡ fresh_host term.building) }
 {
@@ -107,7 +109,7 @@ fn redex(alloc: Global) -> Result<Big, AlgebraFault>
     merge(alloc, &agent, &room)
 }
 
-/// The redex as a pattern. That it is solid is tested.
+/// The redex as a pattern. `Pattern::new` asks that it is valid and has no idle edge, and tests that it is solid.
 fn pattern(alloc: Global) -> Result<Pattern, Refusal>
     ensures { IfOk result (λ pattern. pattern ≡ term.redex) }
 {
@@ -143,7 +145,8 @@ fn map(alloc: Global) -> Mem<Map> {
     Rows::try_from_vec(Vec::from_slice(alloc, &[0])?)
 }
 
-/// The rule, without conditions and of class 0: `react enter = Agent{w} | Room.id --> Room.(Agent{w} | id);`
+/// The rule, without conditions and of class 0: `react enter = Agent{w} | Room.id --> Room.(Agent{w} | id);`. `Rule::new`
+/// asks that the reactum is numbered from 0, and tests that the sides have the same face and that the map fits.
 pub fn rule(alloc: Global) -> Result<Rule, Refusal> {
     let label = label(alloc, "enter")?;
     let redex = pattern(alloc)?;
