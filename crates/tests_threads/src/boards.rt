@@ -8,11 +8,10 @@ use bg_base::{Entry, Journal};
 use bg_cond::{Board, Commit, Found, OpenGate, PlainFinder, View, take_step};
 use bg_lists::{Duplicate, Mem, OutOfMemory, Rows, copies};
 use bg_rules::{Host, ReactFault, System};
-use bg_workers::{Ended, Member, Picker, run_workers, work};
+use bg_workers::{Picker, work};
 use std::alloc::Global;
 use std::sync::Wait;
 use std::sync::atomic::{AtomicU64, Ordering};
-use std::thread::Threads;
 
 /// A board for one pass.
 #[derive(Drop)]
@@ -142,59 +141,6 @@ fn looks_at<R: Wait>(rt: &R, alloc: Global, board: &Alone) -> Mem<(u64, u32)>
         &OpenGate,
     )?;
     Ok((board.looks.load(Ordering::SeqCst), pass.journal.len()))
-}
-
-/// Worker 0 of a team of one: it has seen nothing.
-fn member_of(alloc: Global, board: &Alone) -> Mem<Member<AlonePass, PlainFinder>>
-    ensures run { IfOk result (λ member. IsRun board.now.system.rules board.now.system.init member.pass.journal member.pass.host) }
-    ensures none_yet { IfOk result (λ member. member.pass.journal ≡ []) }
-    ensures worker { IfOk result (λ member. (member.worker ≡ 0) × (member.pass.worker ≡ 0)) }
-{
-    Ok(Member {
-        pass: begun(alloc, board)?,
-        finder: PlainFinder,
-        picker: Picker::new(7, 0),
-        worker: 0,
-        ended: None,
-    })
-}
-
-/// How many entries there are when a team of one has run at the board, and whether it tells that there may be no more.
-fn ended_at<R: Threads + Wait + Sync>(rt: &R, alloc: Global, board: &Alone) -> Mem<(u32, bool)>
-    requires { board.now.limit ≤ most_steps }
-{
-    let _signature = board.system.signature();
-    let mut members = [member_of(alloc, board)?];
-    run_workers(
-        rt,
-        alloc,
-        board,
-        &mut members,
-        &board.system,
-        board.limit,
-        &OpenGate,
-    );
-    let [member] = members;
-    let is_limit = match member.ended {
-        Some(Ok(Ended::Limit)) => true,
-        _ => false,
-    };
-    Ok((member.pass.journal.len(), is_limit))
-}
-
-#[test]
-fn a_team_of_one_works_as_its_worker_does(rt: HostRuntime) -> Mem<()> {
-    let alloc = rt.alloc();
-    let board = Alone {
-        system: system_of(&rt, alloc, Model::Wanderer.text())?,
-        limit: 10,
-        looks: AtomicU64::new(0),
-    };
-    let (entries, is_limit) = ended_at(&rt, alloc, &board)?;
-    assert!(rt; entries == 10);
-    assert!(rt; is_limit);
-    assert!(rt; board.looks.load(Ordering::SeqCst) == 11);
-    Ok(())
 }
 
 #[test]
