@@ -42,7 +42,8 @@ use Rattle.bg_index.specs.declared.plans.Plan.{Plan}
 use Rattle.bg_index.specs.Indexed.{edges_of}
 use Rattle.bg_index.specs.Noting.{place_noted, nests_noted, bundles_noted, noted}
 use Rattle.bg_index.specs.Plans.{moved, new_rows, host_planned, points_after, IsPlan}
-use Rattle.bg_index.specs.PortNodes.{port_node, port_nodes}
+use Rattle.bg_index.specs.PortNodes.{port_nodes}
+use Rattle.bg_index.proofs.PointLaws.{point_in, point_in_points}
 use Rattle.bg_index.proofs.PlanLaws.{planned_reacts, planned_host}
 
 -- ---- members of what is noted
@@ -64,24 +65,6 @@ nest_of (nest ∷ nests) m =
     elim (Mem-append_cases (place_noted nest.place) (nests_noted nests) m) [
       | inl k ↦ (nest, here refl, place_is nest.place k)
       | inr k ↦ (let w = nest_of nests k in (w.0, there w.1, w.2))
-    ]
-
-pub point_in : {node index : ℕ} (points : List Point) → Mem (Port node index) points → Mem node (port_nodes points)
-point_in [] m = elim m [ ]
-point_in {node} (other ∷ points) (here same) =
-    Mem-append_left (port_node other) (port_nodes points) (subst (λ p. Mem node (port_node p)) (sym same) (here refl))
-point_in (other ∷ points) (there m) = Mem-append_right (port_node other) (port_nodes points) (point_in points m)
-
-port_is : {node : ℕ} (point : Point) → Mem node (port_node point) → (index : ℕ) × (point ≡ Port node index)
-port_is (Port other index) m = elim (Mem-cons_cases m) [ inl e ↦ (index, ap (λ n. Port n index) e) | inr k ↦ elim k [ ] ]
-port_is (Inner name) m = elim m [ ]
-
-pub point_in_points : {node : ℕ} (points : List Point) → Mem node (port_nodes points) → (index : ℕ) × Mem (Port node index) points
-point_in_points [] m = elim m [ ]
-point_in_points (point ∷ points) m =
-    elim (Mem-append_cases (port_node point) (port_nodes points) m) [
-      | inl k ↦ (let w = port_is point k in (w.0, here w.1))
-      | inr k ↦ (let w = point_in_points points k in (w.0, there w.1))
     ]
 
 bundle_in : {bundle : Bundle} {node : ℕ} (bundles : List Bundle) → Mem bundle bundles → Mem node (port_nodes bundle.points.items) → Mem node (bundles_noted bundles)

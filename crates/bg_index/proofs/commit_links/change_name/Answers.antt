@@ -1,7 +1,7 @@
 use Rattle.std.proofs.Common.{◌≡◌, ◌<◌, ◌≤◌, length, get_or, rules, refl, sym}
 use Rattle.bg_lists.proofs.Places.{At-get_or, At-same}
 use Rattle.bg_index.proofs.CommitLinkLaws.{name_set, name_past}
-use Rattle.bg_index.proofs.commit_links.set_name.Goals as goal
+use Rattle.bg_index.proofs.commit_links.change_name.Goals as goal
 
 pub returns-in-Some : goal.returns-in-Some
 returns-in-Some c =

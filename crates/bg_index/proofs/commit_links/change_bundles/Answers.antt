@@ -2,7 +2,7 @@ use Rattle.std.proofs.Common.{◌∷◌, [], refl, ◌∙◌}
 use Rattle.bg_index.specs.Commits.{IsEdgeBundled, edge_key}
 use Rattle.bg_index.proofs.CommitLinkLaws.{edges_none, edges_on, names_none, names_on}
 use Rattle.bg_index.proofs.KeyLaws.{from_ascends}
-use Rattle.bg_index.proofs.commit_links.set_bundles.Goals as goal
+use Rattle.bg_index.proofs.commit_links.change_bundles.Goals as goal
 
 pub loop-bundle-init : goal.loop-bundle-init
 loop-bundle-init c = record { edges = edges_none c.args.edges.now.items; names = names_none c.args.names.now.items; count = refl; capacity = refl }

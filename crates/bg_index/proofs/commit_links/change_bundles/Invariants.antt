@@ -1,6 +1,6 @@
 use Rattle.std.proofs.Common.{◌≡◌, vec_len, vec_capacity}
 use Rattle.bg_index.specs.Commits.{AreBeside, AreFrom, IsEdgeBundled, IsNameBundled, edge_key}
-use Rattle.bg_index.proofs.commit_links.set_bundles.Given as goal
+use Rattle.bg_index.proofs.commit_links.change_bundles.Given as goal
 
 abbrev pub invariant-loop-bundle : goal.invariant-loop-bundle
 invariant-loop-bundle l = record {

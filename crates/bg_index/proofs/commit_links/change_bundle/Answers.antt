@@ -3,7 +3,7 @@ use Rattle.bg_index.specs.Commits.{IsEdgeBundled, IsNameBundled, edge_key}
 use Rattle.bg_index.proofs.CommitLinkLaws.{no_name, no_edge}
 use Rattle.bg_index.proofs.CommitNodeLaws.{beside_same}
 use Rattle.bg_index.proofs.KeyLaws.{from_same}
-use Rattle.bg_index.proofs.commit_links.set_bundle.Goals as goal
+use Rattle.bg_index.proofs.commit_links.change_bundle.Goals as goal
 
 pub returns-in-Edge-clause-names : goal.returns-in-Edge-clause-names
 returns-in-Edge-clause-names c =

@@ -8,7 +8,7 @@ use Rattle.bg_index.specs.declared.entries.EdgeEntry.{EdgeEntry}
 use Rattle.bg_index.specs.Commits.{IsEdgeBundled, edge_key}
 use Rattle.bg_index.proofs.CommitLinkLaws.{edge_its, edge_other}
 use Rattle.bg_index.proofs.KeyLaws.{from_same, from_set, key_found, key_nowhere}
-use Rattle.bg_index.proofs.commit_links.set_edge.Goals as goal
+use Rattle.bg_index.proofs.commit_links.change_edge.Goals as goal
 
 pub returns-in-Ok-clause-edges : goal.returns-in-Ok-clause-edges
 returns-in-Ok-clause-edges c =
