@@ -181,7 +181,7 @@ fn change_name(names: &mut Vec<NameEntry>, at: u32, gone: &[u32], bundle: Bundle
 fn change_points_of_name(entry: &mut NameEntry, gone: &[u32], bundle: Bundle)
     requires gone_ascends { IsStrictlySortedBy nat_cmp gone.now }
     requires take { CanTake entry.old.points bundle.arriving.items }
-    ensures points { entry.new.points.items ≡ points_left gone.now entry.old.points.items ++ bundle.arriving.items }
+    ensures { entry.new.points.items ≡ points_left gone.now entry.old.points.items ++ bundle.arriving.items }
 {
     entry.points.change(gone, bundle.arriving);
 }
