@@ -13,7 +13,6 @@ ghost use Rattle.bg_index.specs.Plans.{IsRead, AreNewRows, AreBundles, key_cmp};
 ghost use Rattle.bg_index.specs.Readings.{boundary_of};
 ghost use Rattle.bg_place.specs.Places.{places_of, has_node};
 ghost use Rattle.bg_rewriting.specs.Making.{AreDropped};
-ghost use Rattle.bg_rules.specs.Hosts.{IsHost};
 ghost use Rattle.bg_rules.specs.Rules.{RuleParts};
 
 use crate::IndexedHost;
@@ -162,12 +161,7 @@ fn bundles_at(
 }
 
 /// The link with the key, with the points that arrive at it, where 32 bits can count all that it has then.
-fn bundle_at(
-    alloc: Global,
-    host: &IndexedHost,
-    arrivals: &[Arrival],
-    key: LinkKey,
-) -> Mem<Bundle>
+fn bundle_at(alloc: Global, host: &IndexedHost, arrivals: &[Arrival], key: LinkKey) -> Mem<Bundle>
     requires rise { IsNonDecreasingBy defined.arrival_rank arrivals.now }
     ensures { IfOk result (λ bundle. defined.IsBundleAt host.now arrivals.now key bundle) }
 {

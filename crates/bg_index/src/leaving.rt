@@ -8,14 +8,14 @@ ghost use Rattle.bg_rules.specs.Instantiation.{is_among};
 
 use crate::sets::is_none_of;
 
-/// In the time in which one item is looked at, so many are moved up: fewer than so many are best taken out one by one, wherever
-/// they stand.
+/// In the time in which one item is looked at, or searched, so many are moved up: fewer than so many are best taken out of a long
+/// list one by one, wherever they stand.
 const FEW: usize = 16;
 
-/// Whether it costs less to take so many items out one by one, each by moving up what stands behind it, at most so many items,
-/// than to look at all items of the list once.
+/// Whether it costs less to take so many items out one by one, each by a search and by moving up what stands behind it, at most so
+/// many items, than to look at all items of the list once.
 pub fn is_cheaper_singly(gone: usize, behind: usize, all: usize) -> bool {
-    gone.saturating_mul(behind) < FEW.saturating_mul(all)
+    gone.saturating_mul(behind.saturating_add(FEW)) < FEW.saturating_mul(all)
 }
 
 /// Whether the number is none of those that are gone, which ascend. Logarithmic.

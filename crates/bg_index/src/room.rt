@@ -64,11 +64,7 @@ fn make_points(
 }
 
 /// Room for the points that arrive at a link.
-fn make_bundle(
-    edges: &mut Vec<EdgeEntry>,
-    names: &mut Vec<NameEntry>,
-    bundle: &Bundle,
-) -> Mem<()>
+fn make_bundle(edges: &mut Vec<EdgeEntry>, names: &mut Vec<NameEntry>, bundle: &Bundle) -> Mem<()>
     requires ascending { IsStrictlySortedBy edge_cmp edges.old.items }
     ensures edges { AreFrom edge_key IsEdgeRoomier edges.old.items edges.new.items }
     ensures names { AreBeside IsNameRoomier names.old.items names.new.items }

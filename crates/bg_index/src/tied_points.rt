@@ -57,7 +57,7 @@ impl TiedPoints {
         self.nodes.as_slice()
     }
 
-    /// Room for these points and nodes besides.
+    /// Room for these points and their nodes besides. Costs moving what has to lie elsewhere.
     pub fn make_room(&mut self, arriving: &TiedPoints) -> Mem<()>
         ensures items { self.new.items ≡ self.old.items }
         ensures points { self.old.point_capacity ≤ self.new.point_capacity }

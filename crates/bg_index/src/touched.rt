@@ -129,12 +129,7 @@ fn note_bundles(
 }
 
 /// Puts the nodes behind the others that are to have a port on the link.
-fn note_bundle(
-    host: &IndexedHost,
-    gone: &[u32],
-    bundle: &Bundle,
-    nodes: &mut Vec<u32>,
-) -> Mem<()>
+fn note_bundle(host: &IndexedHost, gone: &[u32], bundle: &Bundle, nodes: &mut Vec<u32>) -> Mem<()>
     requires gone_ascends { IsStrictlySortedBy nat_cmp gone.now }
     requires named { (at : ℕ) → bundle.now.key ≡ NameKey at → at < length host.now.big.outer }
     ensures { OnOk result (nodes.new.items ≡ nodes.old.items ++ defined.port_nodes (noting.points_bundled host.now.big gone.now bundle.now)) }
