@@ -1,5 +1,5 @@
 -- The links that lose or get points: each has a bundle, with the points that it is to have.
-use Rattle.std.proofs.Common.{◌≡◌, ℕ, ◌+◌, ◌≤◌, true, false, not, List, [], ◌∷◌, ◌++◌, map, filter, is_eq, Less, refl, sym, ap, subst, ◌∙◌, ◌⊎◌, inl, inr, arith, ltb-false}
+use Rattle.std.proofs.Common.{◌≡◌, ℕ, ◌+◌, ◌≤◌, true, false, List, [], ◌∷◌, map, filter, is_eq, Less, refl, sym, ap, subst, ◌∙◌, ◌⊎◌, inl, inr, arith, ltb-false}
 use Rattle.std.specs.List.{position_or_len}
 use Rattle.std.proofs.lemmas.Bool.{not-false, cases_Bool, false≢true}
 use Rattle.std.specs.List.Sorted.{IsStrictlySortedBy}
@@ -18,14 +18,13 @@ use Rattle.bg_base.specs.Order.{name_cmp}
 use Rattle.bg_link.specs.declared.graph.Point.{Point}
 use Rattle.bg_link.specs.declared.graph.Point.TheVariants.{Port}
 use Rattle.bg_link.specs.declared.graph.PortRow.{PortRow}
-use Rattle.bg_link.specs.Links.{port_row, ports_from, ports_in, links_of, points_of}
+use Rattle.bg_link.specs.Links.{port_row, ports_from, ports_in}
 use Rattle.bg_link.proofs.PointLaws.{port_in}
 use Rattle.bg_rules.specs.Instantiation.{is_among}
 use Rattle.bg_rules.specs.Reaction.{HostState}
 use Rattle.bg_rules.specs.Rules.{RuleParts}
 use Rattle.bg_rules.proofs.Patterns.{link_there, name_there}
 use Rattle.bg_rules.proofs.Upwards.{member_from_is_among}
-use Rattle.bg_rewriting.specs.Keeping.{stays_at}
 use Rattle.bg_rewriting.specs.Making.{AreDropped}
 use Rattle.bg_rewriting.specs.Rewriting.{link_made, IsRowAfter, stays, is_made, is_copied}
 use Rattle.bg_rewriting.specs.Touching.{IsDropped}

@@ -3,8 +3,8 @@ use Rattle.std.proofs.Common.{◌≡◌, ◌⊎◌, ℕ, ◌<◌, ◌≤◌, ◌
 use Rattle.std.specs.Cmp.{nat_cmp_is}
 use Rattle.std.specs.List.Sorted.{IsPartitionedBy, IsPartitionPoint, IsStrictlySortedBy}
 use Rattle.std.specs.Ordering.{ordering_then}
-use Rattle.std.proofs.lemmas.Bool.{cases_Bool, cases_lt, cases_order, cond-true, cond-false, false≢true, false_from_ne_true, not-true}
-use Rattle.bg_lists.specs.Lists.{Mem, here}
+use Rattle.std.proofs.lemmas.Bool.{cases_lt, cases_order, cond-true, cond-false, false≢true, false_from_ne_true, not-true}
+use Rattle.bg_lists.specs.Lists.{here}
 use Rattle.bg_lists.specs.Orders.{Ascending, asc_cons}
 use Rattle.bg_lists.proofs.Ascents.{Ascending-filter, Ascending-from_sorted, Below-by_places, sorted_from_Ascending}
 use Rattle.bg_lists.proofs.Groups.{filter_none}

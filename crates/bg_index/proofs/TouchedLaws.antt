@@ -17,7 +17,7 @@ use Rattle.bg_base.specs.Bigraph.{has_link, has_place}
 use Rattle.bg_base.proofs.Counted.{Mem-counted}
 use Rattle.bg_base.proofs.LookUps.{member_from_has_edge, row_from_has}
 use Rattle.bg_link.specs.declared.graph.Point.{Point}
-use Rattle.bg_link.specs.declared.graph.Point.TheVariants.{Port, Inner}
+use Rattle.bg_link.specs.declared.graph.Point.TheVariants.{Port}
 use Rattle.bg_link.specs.Links.{links_of, points_of}
 use Rattle.bg_rewriting.specs.Boundaries.{Boundary, IsBoundary}
 use Rattle.bg_rewriting.specs.Keeping.{ports_on, stays_at}

@@ -1,11 +1,10 @@
 -- What a plan tells of a reaction.
-use Rattle.std.specs.Prelude.{◌≡◌, ◌↔◌, ℕ, ◌==◌, not, unwrap_or, option_map, slice_get, List, [], ◌∷◌, ◌++◌, length, map, filter, Bool}
+use Rattle.std.specs.Prelude.{◌≡◌, ◌↔◌, ℕ, ◌==◌, not, List, [], ◌∷◌, ◌++◌, length, map, filter, Bool}
 use Rattle.std.specs.List.Sorted.{IsStrictlySortedBy}
 use Rattle.std.specs.Ordering.{nat_cmp}
 use Rattle.bg_lists.specs.Lists.{Mem}
-use Rattle.bg_base.specs.declared.names.Name.{Name}
 use Rattle.bg_base.specs.declared.names.Link.{Link}
-use Rattle.bg_base.specs.declared.names.Link.TheVariants.{Edge, Outer}
+use Rattle.bg_base.specs.declared.names.Link.TheVariants.{Edge}
 use Rattle.bg_base.specs.declared.big.Big.{Big}
 use Rattle.bg_link.specs.Links.{links_of, degree_of}
 use Rattle.bg_rules.specs.Decomposition.{Occurs}

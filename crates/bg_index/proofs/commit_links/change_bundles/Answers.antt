@@ -1,9 +1,9 @@
 use Rattle.std.proofs.Common.{◌∷◌, [], List, length, take, refl, sym, subst, ◌∙◌}
 use Rattle.std.proofs.lemmas.Iterator.Adapters.{YieldsList-from_vec}
-use Rattle.std.proofs.lemmas.Iterator.Consumers.{YieldsList-end, YieldsList-so_far, YieldsList-turn}
+use Rattle.std.proofs.lemmas.Iterator.Consumers.{YieldsList-so_far, YieldsList-turn}
 use Rattle.bg_lists.proofs.Places.{At-get_or, At-same, Mem-from_At}
 use Rattle.bg_index.specs.declared.plans.Bundle.{Bundle}
-use Rattle.bg_index.specs.Commits.{AreBeside, AreFrom, IsEdgeBundled, IsNameBundled, edge_key}
+use Rattle.bg_index.specs.Commits.{IsEdgeBundled, edge_key}
 use Rattle.bg_index.proofs.CommitLinkLaws.{Apart, apart_in_front, edges_none, edges_on, names_none, names_on, still_edges, still_names}
 use Rattle.bg_index.proofs.CommitNodeLaws.{went_through}
 use Rattle.bg_index.proofs.KeyLaws.{from_ascends}

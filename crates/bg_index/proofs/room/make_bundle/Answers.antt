@@ -1,4 +1,3 @@
-use Rattle.std.proofs.Common.{◌∷◌, []}
 use Rattle.std.proofs.lemmas.Result.{on_ok_weaker}
 use Rattle.bg_index.proofs.RoomLaws.{edge_other_room, edge_own_room, edges_roomier_same, name_other_room, name_own_room, names_roomier_same}
 use Rattle.bg_index.proofs.room.make_bundle.Goals as goal
