@@ -29,8 +29,8 @@ use Rattle.bg_rewriting.proofs.RowLaws.{At-name}
 use Rattle.bg_index.specs.declared.point_arrivals.Arrival.{Arrival}
 use Rattle.bg_index.specs.declared.plans.LinkKey.{LinkKey}
 use Rattle.bg_index.specs.declared.plans.LinkKey.TheVariants.{Edge as EdgeKey, Name as NameKey}
-use Rattle.bg_index.specs.Arrivals.{key_rank, key_of, arrived, arrival_rank, arrival_point, arrived_from, points_arriving, AreArrivals}
-use Rattle.bg_index.specs.Plans.{IsKeyOf}
+use Rattle.bg_index.specs.Arrivals.{key_of, arrived, arrival_rank, arrival_point, arrived_from, points_arriving, AreArrivals}
+use Rattle.bg_index.specs.Plans.{IsKeyOf, key_rank}
 
 -- ---- keys are equal exactly where the links are
 

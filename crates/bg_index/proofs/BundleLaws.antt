@@ -1,8 +1,11 @@
 -- The links that lose or get points: each has a bundle, with the points that it is to have.
-use Rattle.std.proofs.Common.{◌≡◌, ℕ, ◌+◌, ◌≤◌, true, false, not, List, [], ◌∷◌, ◌++◌, map, filter, is_eq, refl, sym, ap, subst, ◌∙◌, ◌⊎◌, inl, inr, arith, ltb-false}
+use Rattle.std.proofs.Common.{◌≡◌, ℕ, ◌+◌, ◌≤◌, true, false, List, [], ◌∷◌, map, filter, is_eq, Less, refl, sym, ap, subst, ◌∙◌, ◌⊎◌, inl, inr, arith, ltb-false}
 use Rattle.std.specs.List.{position_or_len}
 use Rattle.std.proofs.lemmas.Bool.{not-false, cases_Bool, false≢true}
+use Rattle.std.specs.List.Sorted.{IsStrictlySortedBy}
 use Rattle.bg_lists.specs.Lists.{Mem, here, there}
+use Rattle.bg_lists.specs.Orders.{Ascending}
+use Rattle.bg_lists.proofs.Ascents.{Ascending-from_sorted, Ascending-unmap, sorted_from_Ascending}
 use Rattle.bg_lists.proofs.Members.{Mem-append_left, Mem-append_right, Mem-append_cases, Mem-map, Mem-unmap, Mem-filter, Mem-unfilter}
 use Rattle.bg_lists.proofs.Places.{At-below, At-get_or, At-same, Mem-from_At}
 use Rattle.bg_base.specs.declared.names.Name.{Name}
@@ -15,14 +18,13 @@ use Rattle.bg_base.specs.Order.{name_cmp}
 use Rattle.bg_link.specs.declared.graph.Point.{Point}
 use Rattle.bg_link.specs.declared.graph.Point.TheVariants.{Port}
 use Rattle.bg_link.specs.declared.graph.PortRow.{PortRow}
-use Rattle.bg_link.specs.Links.{port_row, ports_from, ports_in, links_of, points_of}
+use Rattle.bg_link.specs.Links.{port_row, ports_from, ports_in}
 use Rattle.bg_link.proofs.PointLaws.{port_in}
 use Rattle.bg_rules.specs.Instantiation.{is_among}
 use Rattle.bg_rules.specs.Reaction.{HostState}
 use Rattle.bg_rules.specs.Rules.{RuleParts}
 use Rattle.bg_rules.proofs.Patterns.{link_there, name_there}
 use Rattle.bg_rules.proofs.Upwards.{member_from_is_among}
-use Rattle.bg_rewriting.specs.Keeping.{stays_at}
 use Rattle.bg_rewriting.specs.Making.{AreDropped}
 use Rattle.bg_rewriting.specs.Rewriting.{link_made, IsRowAfter, stays, is_made, is_copied}
 use Rattle.bg_rewriting.specs.Touching.{IsDropped}
@@ -31,8 +33,8 @@ use Rattle.bg_index.specs.declared.point_arrivals.Arrival.{Arrival}
 use Rattle.bg_index.specs.declared.plans.Bundle.{Bundle}
 use Rattle.bg_index.specs.declared.plans.LinkKey.{LinkKey}
 use Rattle.bg_index.specs.declared.reading.Reading.{Reading}
-use Rattle.bg_index.specs.Arrivals.{key_of, arrived, arrival_key, points_arriving, AreArrivals, keys_lost, is_kept, is_old, AreBundlesAt}
-use Rattle.bg_index.specs.Plans.{IsRead, IsKeyOf, points_after, AreBundles}
+use Rattle.bg_index.specs.Arrivals.{key_of, arrived, arrival_key, AreArrivals, keys_lost, is_kept, is_old, AreBundlesAt}
+use Rattle.bg_index.specs.Plans.{IsRead, IsKeyOf, AreBundles, bundle_cmp, key_cmp}
 use Rattle.bg_index.specs.Readings.{boundary_of}
 use Rattle.bg_index.specs.Tied.{links_at}
 use Rattle.bg_index.proofs.ArrivalLaws.{arriving_points, arrival_there, arrival_back}
@@ -150,7 +152,7 @@ module _ (host : HostState) (rule : RuleParts) (nodes : List ℕ) (reading : Rea
       (lost_in : (key : LinkKey) → Mem key (filter (is_kept idle) (keys_lost host.big gone)) → Mem key keys)
       (got_in : (key : LinkKey) → Mem key (map arrival_key arrivals) → is_old host.next_edge key ≡ true → Mem key keys)
       (only : (key : LinkKey) → Mem key keys → Mem key (filter (is_kept idle) (keys_lost host.big gone)) ⊎ Mem key (map arrival_key arrivals))
-      (keys_are : map (λ (bundle : Bundle). bundle.key) bundles ≡ keys) (each : AreBundlesAt host gone arrivals bundles) where
+      (keys_up : IsStrictlySortedBy key_cmp keys) (keys_are : map (λ (bundle : Bundle). bundle.key) bundles ≡ keys) (each : AreBundlesAt host arrivals bundles) where
     bundle_with : (link : Link) → ((name : Name) → link ≡ Outer name → Mem name host.big.outer) → Mem (key_of host.big.outer link) keys
         → (bundle : Bundle) × Mem bundle bundles × IsKeyOf host.big.outer bundle.key link
     bundle_with link named m =
@@ -184,8 +186,12 @@ module _ (host : HostState) (rule : RuleParts) (nodes : List ℕ) (reading : Rea
     unfolding Touches
     bundles_are =
         record {
-          points = λ bundle link m is. (each bundle m).points new link are is;
-          few = λ bundle m. (each bundle m).few;
+          ascend = sorted_from_Ascending {cmp = bundle_cmp} bundles
+              (Ascending-unmap (λ (bundle : Bundle). bundle.key) bundles
+              (subst (λ (ks : List LinkKey). Ascending (λ a b. key_cmp a b ≡ Less) ks) (sym keys_are) (Ascending-from_sorted {cmp = key_cmp} keys keys_up)));
+          arriving = λ bundle link m is.
+              (each bundle m).arriving ∙ arriving_points host.big.outer valid.outer_ascends bundle.key link is new arrivals are;
+          few = λ bundle link m is. (each bundle m).few link is;
           lost = λ row link m dropped k.
               elim (cases_Bool (is_kept idle (key_of host.big.outer link))) [
                 | inl kept ↦ inr (bundle_with link (old_name m k)
@@ -204,15 +210,3 @@ module _ (host : HostState) (rule : RuleParts) (nodes : List ℕ) (reading : Rea
           touched = λ bundle m. touched_by bundle.key
               (subst (λ (ks : List LinkKey). Mem bundle.key ks) keys_are (Mem-map (λ (b : Bundle). b.key) m));
         }
-
--- the points that stay and those that arrive are those that the link is to have
-pub bundle_points : (host : HostState) (gone : List ℕ) (arrivals : List Arrival) (key : LinkKey) (before points : List Point) → IsValid host.big
-    → ((link : Link) → IsKeyOf host.big.outer key link → before ≡ points_of (links_of host.big) link)
-    → points ≡ filter (stays_at (λ node. not (is_among node gone))) before ++ points_arriving arrivals key
-    → (new : List NodeRow) (link : Link) → AreArrivals host.big.outer new arrivals → IsKeyOf host.big.outer key link
-    → points ≡ points_after host gone new link
-bundle_points host gone arrivals key before points valid were made new link are is =
-    let old : filter (stays_at (λ node. not (is_among node gone))) before ≡ filter (stays_at (λ node. not (is_among node gone))) (points_of (links_of host.big) link)
-    = ap (filter (stays_at (λ node. not (is_among node gone)))) (were link is) in
-    let arrives = arriving_points host.big.outer valid.outer_ascends key link is new arrivals are in
-    made ∙ (λ t. old t ++ arrives t)

@@ -6,7 +6,6 @@ use Rattle.bg_lists.proofs.Members.{Mem-append_cases, Mem-unmap, Mem-unfilter}
 use Rattle.bg_base.specs.declared.names.Place.{Place}
 use Rattle.bg_base.specs.declared.names.Place.TheVariants.{Node, Region}
 use Rattle.bg_base.specs.declared.big.NodeRow.{NodeRow}
-use Rattle.bg_link.specs.declared.graph.Point.{Point}
 use Rattle.bg_rules.specs.Lookups.{nodes_with}
 use Rattle.bg_rules.specs.Instantiation.{is_among}
 use Rattle.bg_index.specs.declared.entries.ControlEntry.{ControlEntry}
@@ -17,9 +16,10 @@ use Rattle.bg_index.specs.declared.entries.Slot.{Slot}
 use Rattle.bg_index.specs.declared.plans.LinkKey.{LinkKey}
 use Rattle.bg_index.specs.declared.plans.LinkKey.TheVariants.{Edge as EdgeKey, Name as NameKey}
 use Rattle.bg_index.specs.declared.plans.Plan.{Plan}
-use Rattle.bg_index.specs.Commits.{AreBeside, AreEdgesAfter, AreFrom, AreHeld, AreNodesAfter, AreRoomy, HasMore, IsBundled, by_bundle, by_no_bundle, IsEdgeLeft, IsNameBundled, IsNested, by_nest, by_none, IsNodeLeft, IsRegionFilled, IsTakenOut, control_key}
+use Rattle.bg_index.specs.Commits.{AreBeside, AreEdgesAfter, AreFrom, AreHeld, AreNodesAfter, AreRoomy, EdgesCanTake, HasMore, IsBundled, by_bundle, by_no_bundle, IsEdgeLeft, IsNameBundled, IsNested, by_nest, by_none, IsNodeLeft, IsReady, IsRegionFilled, IsTakenOut, NamesCanTake, control_key}
 use Rattle.bg_index.specs.Indexed.{IsIndex, control_cmp, rows_of}
 use Rattle.bg_index.specs.Plans.{ChildrenSet, set_children, same_children, HasRoom, IsCarriedOut, IsStaying, IsStayingEdge, PointsSet, set_points, same_points, moved, new_rows}
+use Rattle.bg_index.specs.PortNodes.{KeptPoints}
 use Rattle.bg_index.proofs.KeyLaws.{from_ascends, from_there}
 
 pub index_held : (index : Index) → IsIndex index → AreHeld index.nodes index.slots.items
@@ -41,9 +41,19 @@ children_set : (plan : Plan) (place : Place) (before list : List ℕ) → IsNest
 children_set plan place before list (by_nest m e l) = set_children m e l
 children_set plan place before list (by_none none l) = same_children none l
 
-points_set : (plan : Plan) (key : LinkKey) (before list : List Point) → IsBundled plan.bundles.items key before list → PointsSet plan key before list
-points_set plan key before list (by_bundle m e l) = set_points m e l
-points_set plan key before list (by_no_bundle none l) = same_points none l
+points_set : (plan : Plan) (key : LinkKey) (was kept : KeptPoints) → IsBundled plan.gone.items plan.bundles.items key was kept
+    → PointsSet plan key was.items kept.items
+points_set plan key was kept (by_bundle m e l) = set_points m e l
+points_set plan key was kept (by_no_bundle none l) = same_points none (ap (λ (p : KeptPoints). p.items) l)
+
+-- what is planned to arrive can be taken
+pub edges_take : (index : Index) (plan : Plan) → HasRoom index plan → IsReady index plan → EdgesCanTake index.edges.items plan.bundles.items
+edges_take index plan room ready =
+    λ entry bundle m n e. record { below = ready.edge_points entry bundle m n e; room = room.edge_points entry bundle m n e }
+
+pub names_take : (index : Index) (plan : Plan) → HasRoom index plan → IsReady index plan → NamesCanTake index.names.items plan.bundles.items
+names_take index plan room ready =
+    λ at entry bundle a n e. record { below = ready.name_points at entry bundle a n e; room = room.name_points at entry bundle a n e }
 
 module _ (old : Index) (plan : Plan) (new : Index) (is : IsIndex old) (room : HasRoom old plan) (middle : List ControlEntry)
     (out : AreFrom control_key (IsTakenOut plan.gone.items) old.controls.items middle)
@@ -92,18 +102,18 @@ module _ (old : Index) (plan : Plan) (new : Index) (is : IsIndex old) (room : Ha
         children = children_set plan (Node slot.node) k.entry.children.items list k.children;
       }
 
-  edge_stays : (entry : EdgeEntry) → IsEdgeLeft old.edges.items plan.bundles.items entry → IsStayingEdge old plan entry.edge entry.points.items
+  edge_stays : (entry : EdgeEntry) → IsEdgeLeft old.edges.items plan.gone.items plan.bundles.items entry → IsStayingEdge old plan entry.edge entry.points.items
   edge_stays entry k =
       record {
         was = k.was;
         stood = k.stood;
         number = k.number;
-        points = points_set plan (EdgeKey entry.edge) k.was.points.items entry.points.items k.points;
+        points = points_set plan (EdgeKey entry.edge) k.was.points entry.points k.points;
       }
 
   pub carried : AreBeside (IsRegionFilled plan.nests.items) old.regions.items new.regions.items
-      → AreEdgesAfter old.edges.items plan.idle.items plan.bundles.items plan.used.items new.edges.items
-      → AreBeside (IsNameBundled plan.bundles.items) old.names.items new.names.items → new.outer ≡ old.outer
+      → AreEdgesAfter old.edges.items plan.idle.items plan.gone.items plan.bundles.items plan.used.items new.edges.items
+      → AreBeside (IsNameBundled plan.gone.items plan.bundles.items) old.names.items new.names.items → new.outer ≡ old.outer
       → new.next_node ≡ plan.next_node → new.next_edge ≡ plan.next_edge → IsCarriedOut old plan new
   carried regions edges names outer next_node next_edge =
       record {
@@ -117,7 +127,7 @@ module _ (old : Index) (plan : Plan) (new : Index) (is : IsIndex old) (room : Ha
         edges_are = λ entry m. elim (edges.are entry m) [ inl k ↦ inl (edge_stays entry k) | inr k ↦ inr (entry, k, refl, refl) ];
         outer = outer;
         names_many = names.many;
-        names_are = λ at was entry a b. points_set plan (NameKey at) was.points.items entry.points.items (names.each at was entry a b);
+        names_are = λ at was entry a b. points_set plan (NameKey at) was.points entry.points (names.each at was entry a b);
         controls_ascend = from_ascends control_key (HasMore (new_rows plan)) middle new.controls.items more middle_up;
         controls_are = controls_are;
         each_there = each_there;

@@ -55,9 +55,10 @@ use Rattle.bg_index.specs.declared.plans.Move.{Move}
 use Rattle.bg_index.specs.declared.plans.Plan.{Plan}
 use Rattle.bg_index.specs.Causes.{HasMoved, IsReshaped, IsRelinked, IsSurvivor, AreThose, AreCauses}
 use Rattle.bg_index.specs.Indexed.{edges_of}
-use Rattle.bg_index.specs.Noting.{nests_noted}
+use Rattle.bg_index.specs.Noting.{name_at, nests_noted}
 use Rattle.bg_index.specs.Plans.{moved, new_rows, host_planned, IsKeyOf, AreBundles, IsPlan}
-use Rattle.bg_index.specs.Telling.{nodes_moved, has_children, entries_filled, reshaped_by, edge_keyed, name_keyed, edges_bundled, names_bundled, edges_relinked, name_at, told_of, edges_told, names_told, AreTold, IsToldBy}
+use Rattle.bg_index.specs.Telling.{nodes_moved, has_children, entries_filled, reshaped_by, edge_keyed, name_keyed, edges_bundled, names_bundled, edges_relinked, told_of, edges_told, names_told, AreTold, IsToldBy}
+use Rattle.bg_index.proofs.PointLaws.{name_in_bundles}
 use Rattle.bg_index.proofs.PlanLaws.{planned_reacts}
 use Rattle.bg_index.proofs.TouchedLaws as touched
 
@@ -75,9 +76,6 @@ not_empty (y ∷ ys) m = ap not (false_from_ne_true (length (y ∷ ys) == 0) (λ
 
 edge_in : {edge : ℕ} (key : LinkKey) → key ≡ EdgeKey edge → Mem edge (edge_keyed key)
 edge_in {edge} key e = subst (λ k. Mem edge (edge_keyed k)) (sym e) (here refl)
-
-name_in : {at : ℕ} (key : LinkKey) → key ≡ NameKey at → Mem at (name_keyed key)
-name_in {at} key e = subst (λ k. Mem at (name_keyed k)) (sym e) (here refl)
 
 edge_is : {edge : ℕ} (key : LinkKey) → Mem edge (edge_keyed key) → key ≡ EdgeKey edge
 edge_is (EdgeKey other) m = elim (Mem-cons_cases m) [ inl e ↦ ap EdgeKey e | inr k ↦ elim k [ ] ]
@@ -100,12 +98,6 @@ edge_of_bundles (bundle ∷ bundles) m =
       | inl k ↦ (bundle, here refl, edge_is bundle.key k)
       | inr k ↦ (let w = edge_of_bundles bundles k in (w.0, there w.1, w.2))
     ]
-
-name_in_bundles : {bundle : Bundle} {at : ℕ} (bundles : List Bundle) → Mem bundle bundles → bundle.key ≡ NameKey at → Mem at (names_bundled bundles)
-name_in_bundles [] m e = elim m [ ]
-name_in_bundles (other ∷ bundles) (here same) e =
-    Mem-append_left (name_keyed other.key) (names_bundled bundles) (name_in other.key (ap (λ (b : Bundle). b.key) same ∙ e))
-name_in_bundles (other ∷ bundles) (there m) e = Mem-append_right (name_keyed other.key) (names_bundled bundles) (name_in_bundles bundles m e)
 
 name_of_bundles : {at : ℕ} (bundles : List Bundle) → Mem at (names_bundled bundles) → (bundle : Bundle) × Mem bundle bundles × (bundle.key ≡ NameKey at)
 name_of_bundles [] m = elim m [ ]

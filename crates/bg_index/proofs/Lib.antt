@@ -13,12 +13,14 @@ pub mod IdleLaws
 pub mod IndexLaws
 pub mod KeyLaws
 pub mod LateLaws
+pub mod LeavingLaws
 pub mod LinkKeyLaws
 pub mod MakingLaws
 pub mod MoveLaws
 pub mod NewRowLaws
 pub mod PlanLaws
 pub mod PlanningLaws
+pub mod PointLaws
 pub mod ReactingLaws
 pub mod ReadingLaws
 pub mod ReadyLaws

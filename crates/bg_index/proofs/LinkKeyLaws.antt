@@ -1,10 +1,15 @@
 -- Links by their keys: the points of an outer name at a position, and keys put in order, each once.
-use Rattle.std.proofs.Common.{◌≡◌, ℕ, Bool, true, false, List, [], ◌∷◌, length, get_or, nat_lt, sym, ap, subst, ◌∙◌, inl, inr, arith, eqb-true, ltb-true, ltb-false}
+use Rattle.std.proofs.Common.{◌≡◌, ℕ, ◌+◌, ◌*◌, ◌==◌, nat_cmp, eq-eqb, ◌∙◌, Bool, true, false, List, [], ◌∷◌, length, get_or, nat_lt, sym, ap, subst, inl, inr, arith, eqb-true, ltb-true, ltb-false}
+use Rattle.std.specs.Cmp.{unsigned_ties}
 use Rattle.std.specs.List.{dedup, dedup_from}
-use Rattle.std.proofs.lemmas.Bool.{cond_both}
+use Rattle.std.specs.List.Sorted.{IsSortedByKey, IsStrictlySortedBy}
+use Rattle.std.proofs.lemmas.Bool.{cond_both, false_from_ne_true}
+use Rattle.std.proofs.lemmas.Cmp.{nat_cmp_total, on_total}
+use Rattle.std.proofs.lemmas.List.Kept.{IsStrictlySortedBy-dedup}
 use Rattle.bg_lists.specs.Lists.{Mem, here, there}
 use Rattle.bg_lists.proofs.Members.{Mem-cons_cases}
 use Rattle.bg_lists.proofs.Places.{At-below, At-get_or, At-same}
+use Rattle.bg_lists.proofs.Tests.{same_test}
 use Rattle.bg_base.specs.declared.names.Link.{Link}
 use Rattle.bg_link.specs.Links.{links_of, points_of}
 use Rattle.bg_rules.specs.Reaction.{HostState}
@@ -14,7 +19,7 @@ use Rattle.bg_index.specs.contracts.plans.LinkKeyPartialEq.TheImpl as of_key
 use Rattle.bg_index.specs.declared.plans.LinkKey.{LinkKey}
 use Rattle.bg_index.specs.declared.plans.LinkKey.TheVariants.{Edge as EdgeKey, Name as NameKey}
 use Rattle.bg_index.specs.Indexed.{host_of, IsIndex}
-use Rattle.bg_index.specs.Plans.{IsKeyOf}
+use Rattle.bg_index.specs.Plans.{IsKeyOf, key_cmp, key_rank}
 
 module _ (index : Index) (is : IsIndex index) (host : HostState) (seen : host_of index ≡ host) where
   -- the entry at the position of an outer name has its points
@@ -67,3 +72,21 @@ same_key_from_test (EdgeKey d) (EdgeKey e) same = ap EdgeKey (eqb-true d e same)
 same_key_from_test (EdgeKey d) (NameKey j) same = cc
 same_key_from_test (NameKey i) (EdgeKey e) same = cc
 same_key_from_test (NameKey i) (NameKey j) same = ap NameKey (eqb-true i j same)
+
+-- ---- keys in order
+
+-- two keys have one position where the derived comparison holds
+same_rank : (x y : LinkKey) → of_key.ghosts.eq x y ≡ (key_rank x == key_rank y)
+same_rank (EdgeKey d) (EdgeKey e) =
+    same_test (d == e) (d * 2 == e * 2) (λ t. let same = eqb-true d e t in eq-eqb (d * 2) (e * 2) (omega arith))
+    (λ t. let same = eqb-true (d * 2) (e * 2) t in eq-eqb d e (omega arith))
+same_rank (EdgeKey d) (NameKey j) = sym (false_from_ne_true (d * 2 == j * 2 + 1) (λ t. let same = eqb-true (d * 2) (j * 2 + 1) t in absurd (omega arith)))
+same_rank (NameKey i) (EdgeKey e) = sym (false_from_ne_true (i * 2 + 1 == e * 2) (λ t. let same = eqb-true (i * 2 + 1) (e * 2) t in absurd (omega arith)))
+same_rank (NameKey i) (NameKey j) =
+    same_test (i == j) (i * 2 + 1 == j * 2 + 1) (λ t. let same = eqb-true i j t in eq-eqb (i * 2 + 1) (j * 2 + 1) (omega arith))
+    (λ t. let same = eqb-true (i * 2 + 1) (j * 2 + 1) t in eq-eqb i j (omega arith))
+
+-- keys in order, each once, ascend
+pub keys_ascend : (keys : List LinkKey) → IsSortedByKey key_rank nat_cmp keys → IsStrictlySortedBy key_cmp (dedup of_key.ghosts.eq keys)
+keys_ascend keys sorted =
+    IsStrictlySortedBy-dedup (on_total key_rank nat_cmp_total) (λ x y. same_rank x y ∙ unsigned_ties (key_rank x) (key_rank y)) keys sorted

@@ -1,5 +1,6 @@
 -- A plan of a reaction leads to the host after it, and what is carried out of it is a step there.
 use Rattle.std.proofs.Common.{◌≡◌, ◌⊎◌, ℕ, ◌+◌, ◌<◌, ◌≤◌, ◌^◌, ◌++◌, [], is_some, not, true, Some, Option, Less, unwrap_or, option_map, List, length, map, filter, refl, sym, ap, subst, ◌∙◌, inl, inr, arith}
+use Rattle.std.proofs.lemmas.List.{length-append}
 use Rattle.slab.specs.Slab.{get}
 use Rattle.bg_lists.specs.Lists.{Mem, At}
 use Rattle.bg_lists.proofs.Ascents.{Ascending-from_sorted, one_place}
@@ -39,12 +40,14 @@ use Rattle.bg_index.specs.declared.entries.NameEntry.{NameEntry}
 use Rattle.bg_index.specs.declared.entries.NodeEntry.{NodeEntry}
 use Rattle.bg_index.specs.declared.entries.RegionEntry.{RegionEntry}
 use Rattle.bg_index.specs.declared.entries.Slot.{Slot}
+use Rattle.bg_index.specs.declared.plans.Bundle.{Bundle}
 use Rattle.bg_index.specs.declared.plans.LinkKey.{LinkKey}
 use Rattle.bg_index.specs.declared.plans.LinkKey.TheVariants.{Edge as EdgeKey, Name as NameKey}
 use Rattle.bg_index.specs.declared.plans.Plan.{Plan}
 use Rattle.bg_index.specs.Indexed.{no_row, row_at, edges_of, host_of, IsIndex}
-use Rattle.bg_index.specs.Plans.{moved, new_rows, host_planned, IsKeyOf, IsPlan, ChildrenSet, set_children, same_children, PointsSet, set_points, same_points, IsStaying, IsStayingEdge, IsCarriedOut}
+use Rattle.bg_index.specs.Plans.{moved, new_rows, host_planned, points_left, IsKeyOf, IsPlan, ChildrenSet, set_children, same_children, PointsSet, set_points, same_points, IsStaying, IsStayingEdge, IsCarriedOut}
 use Rattle.bg_index.specs.Steps.{AreChildren, ChildrenFrom, as_before, made_anew, RegionFrom, region_before, region_anew, PointsFrom, points_before, kept_and_new, IsStep}
+use Rattle.bg_index.proofs.TiedLaws.{length-filter_le}
 
 -- ---- where a plan leads
 
@@ -198,9 +201,24 @@ module _ (old new : Index) (rule : RuleParts) (nodes : List ℕ) (boundary : Bou
   not_set link list lost got same = points_before lost (λ row m least k. got row (new_row row m least) k) same
 
   -- points that are set are few where those before were
-  points_few : (key : LinkKey) (before list : List Point) → length before < 2 ^ 32 → PointsSet plan key before list → length list < 2 ^ 32
-  points_few key before list few (set_points {bundle} k same is) = subst (λ (ps : List Point). length ps < 2 ^ 32) (sym is) (is_plan.bundles_are.few bundle k)
-  points_few key before list few (same_points none is) = subst (λ (ps : List Point). length ps < 2 ^ 32) (sym is) few
+  points_few : (key : LinkKey) (link : Link) (before list : List Point) → IsKeyOf host.big.outer key link → before ≡ points_of (links_of host.big) link
+      → length before < 2 ^ 32 → PointsSet plan key before list → length list < 2 ^ 32
+  points_few key link before list its are few (set_points {bundle} k same is) =
+      let most = is_plan.bundles_are.few bundle link k (subst (λ (b : LinkKey). IsKeyOf host.big.outer b link) (sym same) its) in
+      let less = length-filter_le (stays_at (λ node. not (is_among node gone))) before in
+      let count = ap length is ∙ length-append (points_left gone before) bundle.arriving.items in
+      let many = ap length are in
+      omega arith
+  points_few key link before list its are few (same_points none is) = subst (λ (ps : List Point). length ps < 2 ^ 32) (sym is) few
+
+  -- points that are set are those that stay and those of the new rows
+  points_kept : (key : LinkKey) (link : Link) (before list : List Point) (bundle : Bundle) → IsKeyOf host.big.outer key link
+      → before ≡ points_of (links_of host.big) link → Mem bundle plan.bundles.items → bundle.key ≡ key
+      → list ≡ points_left gone before ++ bundle.arriving.items → PointsFrom host rule nodes after.big gone (new_rows plan) link list
+  points_kept key link before list bundle its are m same is =
+      kept_and_new (is ∙ ap (λ (ps : List Point). points_left gone ps ++ bundle.arriving.items) are
+      ∙ ap (λ (ps : List Point). points_left gone (points_of (links_of host.big) link) ++ ps)
+      (is_plan.bundles_are.arriving bundle link m (subst (λ (b : LinkKey). IsKeyOf host.big.outer b link) (sym same) its)))
 
   used_above : (made : EdgeEntry) → Mem made plan.used.items → host.next_edge ≤ made.edge
   used_above made m =
@@ -227,8 +245,8 @@ module _ (old new : Index) (rule : RuleParts) (nodes : List ℕ) (boundary : Bou
       → PointsSet plan (EdgeKey entry.edge) was.points.items entry.points.items
       → PointsFrom host rule nodes after.big gone (new_rows plan) (Edge entry.edge) entry.points.items
   staying_points entry m was stood same (set_points {bundle} k key list) =
-      kept_and_new (list ∙ is_plan.bundles_are.points bundle (Edge entry.edge) k
-      (subst (λ b. IsKeyOf host.big.outer b (Edge entry.edge)) (sym key) refl))
+      points_kept (EdgeKey entry.edge) (Edge entry.edge) was.points.items entry.points.items bundle refl
+      ((is_index.tied.edges_are was stood).points ∙ ap (λ e. points_of (links_of host.big) (Edge e)) same) k key list
   staying_points entry m was stood same (same_points none list) =
       let there : Mem entry.edge host.big.edges = Mem-same same (Mem-map (λ (e : EdgeEntry). e.edge) stood) in
       not_set (Edge entry.edge) entry.points.items
@@ -264,7 +282,8 @@ module _ (old new : Index) (rule : RuleParts) (nodes : List ℕ) (boundary : Bou
   edge_few : (entry : EdgeEntry) → IsStayingEdge old plan entry.edge entry.points.items
       ⊎ ((made : EdgeEntry) × Mem made plan.used.items × (made.edge ≡ entry.edge) × (entry.points.items ≡ made.points.items))
       → length entry.points.items < 2 ^ 32
-  edge_few entry (inl staying) = points_few (EdgeKey entry.edge) staying.was.points.items entry.points.items
+  edge_few entry (inl staying) = points_few (EdgeKey entry.edge) (Edge entry.edge) staying.was.points.items entry.points.items refl
+      ((is_index.tied.edges_are staying.was staying.stood).points ∙ ap (λ e. points_of (links_of host.big) (Edge e)) staying.number)
       (is_index.tied.edges_are staying.was staying.stood).few staying.points
   edge_few entry (inr w) = subst (λ (ps : List Point). length ps < 2 ^ 32) (sym w.3) (is_plan.used_are.few w.0 w.1)
 
@@ -280,8 +299,8 @@ module _ (old new : Index) (rule : RuleParts) (nodes : List ℕ) (boundary : Bou
       → PointsSet plan (NameKey at) was.points.items entry.points.items
       → PointsFrom host rule nodes after.big gone (new_rows plan) (Outer name) entry.points.items
   name_from at name was entry a b (set_points {bundle} k key list) =
-      kept_and_new (list ∙ is_plan.bundles_are.points bundle (Outer name) k
-      (subst (λ c. IsKeyOf host.big.outer c (Outer name)) (sym key) (name, a, refl)))
+      points_kept (NameKey at) (Outer name) was.points.items entry.points.items bundle (name, a, refl)
+      (is_index.tied.names_are at name was a b).points k key list
   name_from at name was entry a b (same_points none list) =
       not_set (Outer name) entry.points.items
       (λ row k dropped l. elim (is_plan.bundles_are.lost row (Outer name) k dropped l) [
@@ -316,7 +335,8 @@ module _ (old new : Index) (rule : RuleParts) (nodes : List ℕ) (boundary : Bou
         names_few = λ entry m. let b = At-from_Mem m in
             let w = At-total old.names.items b.0 (subst (λ n. b.0 < n) done.names_many (At-below b.1)) in
             let v = At-total host.big.outer b.0 (subst (λ n. b.0 < n) (done.names_many ∙ is_index.tied.names_many) (At-below b.1)) in
-            points_few (NameKey b.0) w.0.points.items entry.points.items (is_index.tied.names_are b.0 v.0 w.0 v.1 w.1).few (done.names_are b.0 w.0 entry w.1 b.1);
+            let tied = is_index.tied.names_are b.0 v.0 w.0 v.1 w.1 in
+            points_few (NameKey b.0) (Outer v.0) w.0.points.items entry.points.items (v.0, v.1, refl) tied.points tied.few (done.names_are b.0 w.0 entry w.1 b.1);
         controls_ascend = done.controls_ascend;
         controls_are = done.controls_are;
         each_there = λ row m. done.each_there row (subst (λ (rows : List NodeRow). Mem row rows) (sym done.rows) m);

@@ -29,7 +29,7 @@ module _ (host : HostState) (rule : RuleParts) (nodes : List ℕ) (plan : Plan) 
   pub plan_reacts : Reacts host rule nodes (host_planned host plan)
   plan_reacts = planned_reacts host rule nodes is.boundary plan is_host is_rule occurs is.is_boundary is.is_plan
 
-  pub plan_touches : (changed : List ℕ) → IsStrictlySortedBy nat_cmp changed → ((node : ℕ) → Mem node changed ↔ Mem node (noted plan))
+  pub plan_touches : (changed : List ℕ) → IsStrictlySortedBy nat_cmp changed → ((node : ℕ) → Mem node changed ↔ Mem node (noted host.big plan))
       → IsTouched host.big (host_planned host plan).big plan.gone.items changed
   plan_touches changed up are =
       planned_touched host rule nodes is.boundary plan is_host is_rule occurs is.is_boundary is.is_plan is.within changed up are
@@ -42,6 +42,9 @@ module _ (host : HostState) (rule : RuleParts) (nodes : List ℕ) (plan : Plan) 
   names_there at m =
       At-below (bundled_name host rule nodes plan.gone.items plan.idle.items (new_rows plan) plan.bundles.items is.is_plan.bundles_are at m).1
 
+  pub gone_up : IsStrictlySortedBy nat_cmp plan.gone.items
+  gone_up = is.is_plan.gone_ascends
+
   -- the host that is planned
   module _ (new : HostState) (done : new ≡ host_planned host plan) where
     pub done_reacts : Reacts host rule nodes new
@@ -51,7 +54,7 @@ module _ (host : HostState) (rule : RuleParts) (nodes : List ℕ) (plan : Plan) 
     done_within = subst IsWithinLimits (sym done) is.within
 
     pub done_touched : (gone changed : List ℕ) → gone ≡ plan.gone.items → IsStrictlySortedBy nat_cmp changed
-        → ((node : ℕ) → Mem node changed ↔ Mem node (noted plan)) → IsTouched host.big new.big gone changed
+        → ((node : ℕ) → Mem node changed ↔ Mem node (noted host.big plan)) → IsTouched host.big new.big gone changed
     done_touched gone changed same_gone up are =
         subst (λ (h : HostState). IsTouched host.big h.big gone changed) (sym done)
         (subst (λ nodes_gone. IsTouched host.big (host_planned host plan).big nodes_gone changed) (sym same_gone) (plan_touches changed up are))

@@ -24,29 +24,29 @@ Up xs = Ascending (λ x y. nat_cmp x y ≡ Less) xs
 
 -- ---- where a test begins to fail, the list has two parts
 
-module _ (test : ℕ → Bool) (numbers : List ℕ) (at : ℕ) (inside : at ≤ length numbers)
+module _ {X : Type 0} (test : X → Bool) (numbers : List X) (at : ℕ) (inside : at ≤ length numbers)
     (point : IsPartitionPoint (λ y. test y ≡ true) (λ y. test y ≡ false) numbers at) where
-  passes : (x : ℕ) → Mem x (take at numbers) → test x ≡ true
+  passes : (x : X) → Mem x (take at numbers) → test x ≡ true
   passes x m =
       let w = At-from_Mem m in
       let front : w.0 < at = omega (arith, At-below w.1, length-take-le at numbers inside) in
       let e : get_or numbers w.0 x ≡ x = sym (get_or-take at numbers w.0 x front) ∙ get_or-At (take at numbers) x w.1 in
       subst (λ z. test z ≡ true) e (point.0 w.0 x (omega arith) front)
 
-  fails : (x : ℕ) → Mem x (drop at numbers) → test x ≡ false
+  fails : (x : X) → Mem x (drop at numbers) → test x ≡ false
   fails x m =
       let w = At-from_Mem m in
       let within : at + w.0 < length numbers = omega (arith, At-below w.1, length-drop at numbers) in
       let e : get_or numbers (at + w.0) x ≡ x = sym (get_or-drop at numbers w.0 x) ∙ get_or-At (drop at numbers) x w.1 in
       subst (λ z. test z ≡ false) e (point.1 (at + w.0) x (omega arith) within)
 
-  front_is : take at numbers ≡ filter test numbers
+  pub front_is : take at numbers ≡ filter test numbers
   front_is =
       sym (ap (filter test) (sym (take-append-drop at numbers)) ∙ filter-append test (take at numbers) (drop at numbers)
       ∙ ap (λ xs. xs ++ filter test (drop at numbers)) (filter_all test (take at numbers) passes)
       ∙ ap (λ xs. take at numbers ++ xs) (filter_none test (drop at numbers) fails) ∙ append-nil (take at numbers))
 
-  back_is : (other : ℕ → Bool) → ((x : ℕ) → other x ≡ not (test x)) → drop at numbers ≡ filter other numbers
+  pub back_is : (other : X → Bool) → ((x : X) → other x ≡ not (test x)) → drop at numbers ≡ filter other numbers
   back_is other turned =
       sym (ap (filter other) (sym (take-append-drop at numbers)) ∙ filter-append other (take at numbers) (drop at numbers)
       ∙ ap (λ xs. xs ++ filter other (drop at numbers)) (filter_none other (take at numbers) (λ x m. turned x ∙ ap not (passes x m)))

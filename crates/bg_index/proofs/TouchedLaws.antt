@@ -1,21 +1,23 @@
 -- What a plan notes is what the reaction touches.
-use Rattle.std.proofs.Common.{◌≡◌, ◌↔◌, ◌⊎◌, ℕ, ◌+◌, ◌<◌, ◌≤◌, ◌++◌, ◌∷◌, [], not, IsTrue, true, List, map, filter, nat_cmp, refl, sym, ap, subst, ◌∙◌, inl, inr, arith}
+use Rattle.std.proofs.Common.{◌≡◌, ◌↔◌, ◌⊎◌, ℕ, ◌+◌, ◌<◌, ◌≤◌, ◌++◌, ◌∷◌, [], not, IsTrue, true, unwrap_or, option_map, List, map, filter, nat_cmp, refl, sym, ap, subst, ◌∙◌, inl, inr, arith}
 use Rattle.std.specs.List.{list_all}
 use Rattle.std.specs.List.Sorted.{IsStrictlySortedBy}
 use Rattle.bg_lists.specs.Lists.{Mem, here, there, At}
 use Rattle.bg_lists.proofs.Members.{Mem-append_cases, Mem-append_left, Mem-append_right, Mem-cons_cases, Mem-filter, Mem-map, Mem-same, Mem-unfilter, Mem-unmap}
-use Rattle.bg_lists.proofs.Places.{At-from_Mem}
+use Rattle.bg_lists.proofs.Places.{At-from_Mem, slice_get-At}
 use Rattle.bg_lists.proofs.Words.{All-member, list_all-member}
 use Rattle.bg_base.specs.declared.names.Place.{Place}
 use Rattle.bg_base.specs.declared.names.Place.TheVariants.{Node, Region}
 use Rattle.bg_base.specs.declared.names.Link.{Link}
-use Rattle.bg_base.specs.declared.names.Link.TheVariants.{Edge}
+use Rattle.bg_base.specs.declared.names.Link.TheVariants.{Edge, Outer}
+use Rattle.bg_base.specs.declared.names.Name.{Name}
+use Rattle.bg_base.specs.declared.big.Big.{Big}
 use Rattle.bg_base.specs.declared.big.NodeRow.{NodeRow}
 use Rattle.bg_base.specs.Bigraph.{has_link, has_place}
 use Rattle.bg_base.proofs.Counted.{Mem-counted}
 use Rattle.bg_base.proofs.LookUps.{member_from_has_edge, row_from_has}
 use Rattle.bg_link.specs.declared.graph.Point.{Point}
-use Rattle.bg_link.specs.declared.graph.Point.TheVariants.{Port, Inner}
+use Rattle.bg_link.specs.declared.graph.Point.TheVariants.{Port}
 use Rattle.bg_link.specs.Links.{links_of, points_of}
 use Rattle.bg_rewriting.specs.Boundaries.{Boundary, IsBoundary}
 use Rattle.bg_rewriting.specs.Keeping.{ports_on, stays_at}
@@ -36,13 +38,16 @@ use Rattle.bg_rules.proofs.Patterns.{same_node_row}
 use Rattle.bg_rules.proofs.Upwards.{is_among-member, is_among-none}
 use Rattle.bg_index.specs.declared.entries.NodeEntry.{NodeEntry}
 use Rattle.bg_index.specs.declared.plans.Bundle.{Bundle}
+use Rattle.bg_index.specs.declared.plans.LinkKey.{LinkKey}
+use Rattle.bg_index.specs.declared.plans.LinkKey.TheVariants.{Edge as EdgeKey, Name as NameKey}
 use Rattle.bg_index.specs.declared.plans.Move.{Move}
 use Rattle.bg_index.specs.declared.plans.Nest.{Nest}
 use Rattle.bg_index.specs.declared.plans.Plan.{Plan}
 use Rattle.bg_index.specs.Indexed.{edges_of}
-use Rattle.bg_index.specs.Noting.{place_noted, nests_noted, bundles_noted, noted}
-use Rattle.bg_index.specs.Plans.{moved, new_rows, host_planned, points_after, IsPlan}
-use Rattle.bg_index.specs.PortNodes.{port_node, port_nodes}
+use Rattle.bg_index.specs.Noting.{place_noted, nests_noted, link_at, points_bundled, bundles_noted, noted}
+use Rattle.bg_index.specs.Plans.{moved, new_rows, host_planned, points_left, points_after, IsKeyOf, IsPlan}
+use Rattle.bg_index.specs.PortNodes.{port_nodes}
+use Rattle.bg_index.proofs.PointLaws.{point_in, point_in_points}
 use Rattle.bg_index.proofs.PlanLaws.{planned_reacts, planned_host}
 
 -- ---- members of what is noted
@@ -66,40 +71,31 @@ nest_of (nest ∷ nests) m =
       | inr k ↦ (let w = nest_of nests k in (w.0, there w.1, w.2))
     ]
 
-pub point_in : {node index : ℕ} (points : List Point) → Mem (Port node index) points → Mem node (port_nodes points)
-point_in [] m = elim m [ ]
-point_in {node} (other ∷ points) (here same) =
-    Mem-append_left (port_node other) (port_nodes points) (subst (λ p. Mem node (port_node p)) (sym same) (here refl))
-point_in (other ∷ points) (there m) = Mem-append_right (port_node other) (port_nodes points) (point_in points m)
+module _ (host : Big) (gone : List ℕ) where
+  bundle_in : {bundle : Bundle} {node : ℕ} (bundles : List Bundle) → Mem bundle bundles → Mem node (port_nodes (points_bundled host gone bundle))
+      → Mem node (bundles_noted host gone bundles)
+  bundle_in [] m k = elim m [ ]
+  bundle_in {node = node} (other ∷ bundles) (here same) k =
+      Mem-append_left (port_nodes (points_bundled host gone other)) (bundles_noted host gone bundles)
+      (subst (λ (b : Bundle). Mem node (port_nodes (points_bundled host gone b))) (sym same) k)
+  bundle_in (other ∷ bundles) (there m) k =
+      Mem-append_right (port_nodes (points_bundled host gone other)) (bundles_noted host gone bundles) (bundle_in bundles m k)
 
-port_is : {node : ℕ} (point : Point) → Mem node (port_node point) → (index : ℕ) × (point ≡ Port node index)
-port_is (Port other index) m = elim (Mem-cons_cases m) [ inl e ↦ (index, ap (λ n. Port n index) e) | inr k ↦ elim k [ ] ]
-port_is (Inner name) m = elim m [ ]
+  bundle_of : {node : ℕ} (bundles : List Bundle) → Mem node (bundles_noted host gone bundles)
+      → (bundle : Bundle) × Mem bundle bundles × Mem node (port_nodes (points_bundled host gone bundle))
+  bundle_of [] m = elim m [ ]
+  bundle_of (bundle ∷ bundles) m =
+      elim (Mem-append_cases (port_nodes (points_bundled host gone bundle)) (bundles_noted host gone bundles) m) [
+        | inl k ↦ (bundle, here refl, k)
+        | inr k ↦ (let w = bundle_of bundles k in (w.0, there w.1, w.2))
+      ]
 
-pub point_in_points : {node : ℕ} (points : List Point) → Mem node (port_nodes points) → (index : ℕ) × Mem (Port node index) points
-point_in_points [] m = elim m [ ]
-point_in_points (point ∷ points) m =
-    elim (Mem-append_cases (port_node point) (port_nodes points) m) [
-      | inl k ↦ (let w = port_is point k in (w.0, here w.1))
-      | inr k ↦ (let w = point_in_points points k in (w.0, there w.1))
-    ]
+-- the link with the key of a link is that
+link_is : (outer : List Name) (key : LinkKey) (link : Link) → IsKeyOf outer key link → link_at outer key ≡ link
+link_is outer (EdgeKey edge) link e = sym e
+link_is outer (NameKey at) link w = ap (λ o. unwrap_or (option_map Outer o) (Edge 0)) (slice_get-At outer w.1) ∙ sym w.2
 
-bundle_in : {bundle : Bundle} {node : ℕ} (bundles : List Bundle) → Mem bundle bundles → Mem node (port_nodes bundle.points.items) → Mem node (bundles_noted bundles)
-bundle_in [] m k = elim m [ ]
-bundle_in {node = node} (other ∷ bundles) (here same) k =
-    Mem-append_left (port_nodes other.points.items) (bundles_noted bundles)
-    (subst (λ (b : Bundle). Mem node (port_nodes b.points.items)) (sym same) k)
-bundle_in (other ∷ bundles) (there m) k = Mem-append_right (port_nodes other.points.items) (bundles_noted bundles) (bundle_in bundles m k)
-
-bundle_of : {node : ℕ} (bundles : List Bundle) → Mem node (bundles_noted bundles) → (bundle : Bundle) × Mem bundle bundles × Mem node (port_nodes bundle.points.items)
-bundle_of [] m = elim m [ ]
-bundle_of (bundle ∷ bundles) m =
-    elim (Mem-append_cases (port_nodes bundle.points.items) (bundles_noted bundles) m) [
-      | inl k ↦ (bundle, here refl, k)
-      | inr k ↦ (let w = bundle_of bundles k in (w.0, there w.1, w.2))
-    ]
-
-module _ (plan : Plan) where
+module _ (big : Big) (plan : Plan) where
   abbrev entry_numbers : List ℕ
   entry_numbers = map (λ (entry : NodeEntry). entry.row.id) plan.entries.items
 
@@ -107,24 +103,25 @@ module _ (plan : Plan) where
   move_numbers = map (λ (move : Move). move.node) plan.moves.items
 
   abbrev others : List ℕ
-  others = nests_noted plan.nests.items ++ bundles_noted plan.bundles.items
+  others = nests_noted plan.nests.items ++ bundles_noted big plan.gone.items plan.bundles.items
 
-  noted_entry : {entry : NodeEntry} → Mem entry plan.entries.items → Mem entry.row.id (noted plan)
+  noted_entry : {entry : NodeEntry} → Mem entry plan.entries.items → Mem entry.row.id (noted big plan)
   noted_entry m = Mem-append_left entry_numbers (move_numbers ++ others) (Mem-map (λ (entry : NodeEntry). entry.row.id) m)
 
-  noted_move : {move : Move} → Mem move plan.moves.items → Mem move.node (noted plan)
+  noted_move : {move : Move} → Mem move plan.moves.items → Mem move.node (noted big plan)
   noted_move m = Mem-append_right entry_numbers (move_numbers ++ others) (Mem-append_left move_numbers others (Mem-map (λ (move : Move). move.node) m))
 
-  noted_nest : {nest : Nest} {node : ℕ} → Mem nest plan.nests.items → nest.place ≡ Node node → Mem node (noted plan)
+  noted_nest : {nest : Nest} {node : ℕ} → Mem nest plan.nests.items → nest.place ≡ Node node → Mem node (noted big plan)
   noted_nest m e =
       Mem-append_right entry_numbers (move_numbers ++ others) (Mem-append_right move_numbers others
-      (Mem-append_left (nests_noted plan.nests.items) (bundles_noted plan.bundles.items) (nest_in plan.nests.items m e)))
+      (Mem-append_left (nests_noted plan.nests.items) (bundles_noted big plan.gone.items plan.bundles.items) (nest_in plan.nests.items m e)))
 
-  noted_bundle : {bundle : Bundle} {node index : ℕ} → Mem bundle plan.bundles.items → Mem (Port node index) bundle.points.items → Mem node (noted plan)
+  noted_bundle : {bundle : Bundle} {node index : ℕ} → Mem bundle plan.bundles.items → Mem (Port node index) (points_bundled big plan.gone.items bundle)
+      → Mem node (noted big plan)
   noted_bundle {bundle} m k =
       Mem-append_right entry_numbers (move_numbers ++ others) (Mem-append_right move_numbers others
-      (Mem-append_right (nests_noted plan.nests.items) (bundles_noted plan.bundles.items)
-      (bundle_in plan.bundles.items m (point_in bundle.points.items k))))
+      (Mem-append_right (nests_noted plan.nests.items) (bundles_noted big plan.gone.items plan.bundles.items)
+      (bundle_in big plan.gone.items plan.bundles.items m (point_in (points_bundled big plan.gone.items bundle) k))))
 
 module _ (host : HostState) (rule : RuleParts) (nodes : List ℕ) (boundary : Boundary) (plan : Plan) (is_host : IsHost host) (is_rule : IsRule rule)
     (occurs : Occurs host.big rule.redex nodes) (is_boundary : IsBoundary host.big rule nodes boundary)
@@ -185,10 +182,10 @@ module _ (host : HostState) (rule : RuleParts) (nodes : List ℕ) (boundary : Bo
         | inr w ↦ w.4 (subst (IsDropped host.big rule nodes) (e ∙ sym w.2) dropped)
       ]
 
-  new_row_noted : {row : NodeRow} → Mem row (new_rows plan) → Mem row.id (noted plan)
+  new_row_noted : {row : NodeRow} → Mem row (new_rows plan) → Mem row.id (noted host.big plan)
   new_row_noted {row} m =
       let w = Mem-unmap (λ (entry : NodeEntry). entry.row) plan.entries.items m in
-      Mem-same (ap (λ (r : NodeRow). r.id) w.2) (noted_entry plan w.1)
+      Mem-same (ap (λ (r : NodeRow). r.id) w.2) (noted_entry host.big plan w.1)
 
   -- ---- points after
 
@@ -198,6 +195,14 @@ module _ (host : HostState) (rule : RuleParts) (nodes : List ℕ) (boundary : Bo
       (points_are host.big link is_host.numbered.ground.no_inner)
       ∙ sym (ports_after host.big.nodes (new_rows plan) (λ node. not (is_among node gone)) (moved plan.moves.items) (λ row. refl) (λ row. refl) (λ row. refl) link)
       ∙ sym (points_are after.big link after_host.numbered.ground.no_inner)
+
+  -- the points that a link is to have are those after
+  bundled_now : (bundle : Bundle) (link : Link) → Mem bundle plan.bundles.items → IsKeyOf host.big.outer bundle.key link
+      → points_bundled host.big gone bundle ≡ points_of (links_of after.big) link
+  bundled_now bundle link m is =
+      ap (λ l. points_left gone (points_of (links_of host.big) l) ++ bundle.arriving.items) (link_is host.big.outer bundle.key link is)
+      ∙ ap (λ (ps : List Point). points_left gone (points_of (links_of host.big) link) ++ ps) (is_plan.bundles_are.arriving bundle link m is)
+      ∙ points_now link
 
   -- an edge on a port of a row after is an edge after
   pub edge_after : {row : NodeRow} {edge : ℕ} → Mem row after.big.nodes → Mem (Edge edge) row.links → Mem edge after.big.edges
@@ -231,14 +236,14 @@ module _ (host : HostState) (rule : RuleParts) (nodes : List ℕ) (boundary : Bo
 
   -- a row with a link whose points are planned is noted
   tied_noted : {row : NodeRow} {link : Link} {bundle : Bundle} → Mem row after.big.nodes → Mem link row.links → Mem bundle plan.bundles.items
-      → bundle.points.items ≡ points_after host gone (new_rows plan) link → Mem row.id (noted plan)
-  tied_noted {row} {link} {bundle} m k n are =
+      → IsKeyOf host.big.outer bundle.key link → Mem row.id (noted host.big plan)
+  tied_noted {row} {link} {bundle} m k n is =
       let w = tied_point after.big m k in
-      noted_bundle plan n (subst (λ (ps : List Point). Mem (Port row.id w.0) ps) (sym (are ∙ points_now link)) w.1)
+      noted_bundle host.big plan n (subst (λ (ps : List Point). Mem (Port row.id w.0) ps) (sym (bundled_now bundle link n is)) w.1)
 
   -- ---- what is marked is noted
 
-  marked_noted : (row : NodeRow) → Mem row after.big.nodes → IsMarked host rule nodes boundary after.big row → Mem row.id (noted plan)
+  marked_noted : (row : NodeRow) → Mem row after.big.nodes → IsMarked host rule nodes boundary after.big row → Mem row.id (noted host.big plan)
   marked_noted row m (is_new least) =
       elim (origin m) [
         | inl k ↦ new_row_noted k
@@ -246,12 +251,12 @@ module _ (host : HostState) (rule : RuleParts) (nodes : List ℕ) (boundary : Bo
       ]
   marked_noted row m (is_moved {below} {image} n e f k) =
       let w = is_plan.moves_are.all below image n f k (was_kept m n e) in
-      Mem-same (w.2 ∙ e) (noted_move plan w.1)
-  marked_noted row m (is_round k) = let w = is_plan.nests_are.all (Node row.id) k in noted_nest plan w.1 w.2
+      Mem-same (w.2 ∙ e) (noted_move host.big plan w.1)
+  marked_noted row m (is_round k) = let w = is_plan.nests_are.all (Node row.id) k in noted_nest host.big plan w.1 w.2
   marked_noted row m (lost_point {link} {other} l n dropped k) =
       elim (is_plan.bundles_are.lost other link n dropped k) [
         | inl w ↦ absurd (idle_gone m (Mem-same w.1 l) w.2)
-        | inr w ↦ tied_noted m l w.1 (is_plan.bundles_are.points w.0 link w.1 w.2)
+        | inr w ↦ tied_noted m l w.1 w.2
       ]
   marked_noted row m (got_point {link} {other} l n least k) =
       elim (origin n) [
@@ -263,7 +268,7 @@ module _ (host : HostState) (rule : RuleParts) (nodes : List ℕ) (boundary : Bo
                 let more = w.2 in
                 absurd (omega (arith, less, more)))
           ]
-          | inr w ↦ tied_noted m l w.1 (is_plan.bundles_are.points w.0 link w.1 w.2)
+          | inr w ↦ tied_noted m l w.1 w.2
         ]
       ]
 
@@ -323,11 +328,12 @@ module _ (host : HostState) (rule : RuleParts) (nodes : List ℕ) (boundary : Bo
       let w = round_row round in
       (moved plan.moves.items w.0, there_after w.1 w.3, w.2, is_round (subst (λ n. Mem (Node n) boundary.places) (sym w.2) round))
 
-  bundle_marks : {bundle : Bundle} {node index : ℕ} → Mem bundle plan.bundles.items → Mem (Port node index) bundle.points.items → Marks node
+  bundle_marks : {bundle : Bundle} {node index : ℕ} → Mem bundle plan.bundles.items → Mem (Port node index) (points_bundled host.big gone bundle)
+      → Marks node
   bundle_marks {bundle} {node} {index} m k =
       let t = is_plan.bundles_are.touched bundle m in
       let w = point_node after.big t.0 after_host.numbered.ground.no_inner
-      (subst (λ (ps : List Point). Mem (Port node index) ps) (is_plan.bundles_are.points bundle t.0 m t.1 ∙ points_now t.0) k) in
+      (subst (λ (ps : List Point). Mem (Port node index) ps) (bundled_now bundle t.0 m t.1) k) in
       elim t.2 [
         | inl v ↦ (w.0, w.1, w.2, lost_point w.3 v.1 v.2 v.3)
         | inr v ↦ (
@@ -340,21 +346,21 @@ module _ (host : HostState) (rule : RuleParts) (nodes : List ℕ) (boundary : Bo
         )
       ]
 
-  noted_marks : (node : ℕ) → Mem node (noted plan) → Marks node
+  noted_marks : (node : ℕ) → Mem node (noted host.big plan) → Marks node
   noted_marks node m =
-      elim (Mem-append_cases (entry_numbers plan) (move_numbers plan ++ others plan) m) [
+      elim (Mem-append_cases (entry_numbers host.big plan) (move_numbers host.big plan ++ others host.big plan) m) [
         | inl k ↦ (let w = Mem-unmap (λ (entry : NodeEntry). entry.row.id) plan.entries.items k in entry_marks w.1 w.2)
-        | inr n ↦ elim (Mem-append_cases (move_numbers plan) (others plan) n) [
+        | inr n ↦ elim (Mem-append_cases (move_numbers host.big plan) (others host.big plan) n) [
           | inl k ↦ (let w = Mem-unmap (λ (move : Move). move.node) plan.moves.items k in move_marks w.1 w.2)
-          | inr l ↦ elim (Mem-append_cases (nests_noted plan.nests.items) (bundles_noted plan.bundles.items) l) [
+          | inr l ↦ elim (Mem-append_cases (nests_noted plan.nests.items) (bundles_noted host.big gone plan.bundles.items) l) [
             | inl k ↦ (let w = nest_of plan.nests.items k in nest_marks w.1 w.2)
-            | inr k ↦ (let w = bundle_of plan.bundles.items k in
-                let v = point_in_points w.0.points.items w.2 in bundle_marks w.1 v.1)
+            | inr k ↦ (let w = bundle_of host.big gone plan.bundles.items k in
+                let v = point_in_points (points_bundled host.big gone w.0) w.2 in bundle_marks w.1 v.1)
           ]
         ]
       ]
 
-  module _ (changed : List ℕ) (up : IsStrictlySortedBy nat_cmp changed) (are : (node : ℕ) → Mem node changed ↔ Mem node (noted plan)) where
+  module _ (changed : List ℕ) (up : IsStrictlySortedBy nat_cmp changed) (are : (node : ℕ) → Mem node changed ↔ Mem node (noted host.big plan)) where
     marked : AreMarked host rule nodes boundary after.big changed
     marked = record { marked = λ row m is. (are row.id).1 (marked_noted row m is); each = λ node m. noted_marks node ((are node).0 m) }
 

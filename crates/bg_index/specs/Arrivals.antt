@@ -1,5 +1,5 @@
 -- The points of new rows, by the keys of their links; and the keys of links that lose or get points.
-use Rattle.std.specs.Prelude.{◌≡◌, ℕ, ◌+◌, ◌*◌, ◌<◌, ◌^◌, ◌==◌, Bool, true, not, List, [], ◌∷◌, ◌++◌, length, map, filter, nat_lt}
+use Rattle.std.specs.Prelude.{◌≡◌, ℕ, ◌+◌, ◌<◌, ◌^◌, ◌==◌, Bool, true, not, List, [], ◌∷◌, ◌++◌, length, map, filter, nat_lt}
 use Rattle.std.specs.List.{position_or_len}
 use Rattle.std.specs.List.Sorted.{IsNonDecreasingBy}
 use Rattle.std.specs.Ordering.{is_eq}
@@ -11,7 +11,7 @@ use Rattle.bg_base.specs.declared.big.NodeRow.{NodeRow}
 use Rattle.bg_base.specs.declared.big.Big.{Big}
 use Rattle.bg_base.specs.Order.{name_cmp}
 use Rattle.bg_link.specs.declared.graph.Point.{Point}
-use Rattle.bg_link.specs.Links.{port_row, ports_in}
+use Rattle.bg_link.specs.Links.{port_row, ports_in, links_of, points_of}
 use Rattle.bg_rules.specs.Instantiation.{is_among}
 use Rattle.bg_rules.specs.Reaction.{HostState}
 use Rattle.bg_index.specs.declared.point_arrivals.Arrival.{Arrival}
@@ -19,15 +19,10 @@ use Rattle.bg_index.specs.declared.entries.EdgeEntry.{EdgeEntry}
 use Rattle.bg_index.specs.declared.plans.Bundle.{Bundle}
 use Rattle.bg_index.specs.declared.plans.LinkKey.{LinkKey}
 use Rattle.bg_index.specs.declared.plans.LinkKey.TheVariants.{Edge as EdgeKey, Name as NameKey}
-use Rattle.bg_index.specs.Plans.{IsKeyOf, points_after}
+use Rattle.bg_index.specs.Plans.{IsKeyOf, key_rank}
 use Rattle.bg_index.specs.Tied.{links_at}
 
 -- ---- keys
-
--- the position of a key among all keys
-abbrev pub key_rank : LinkKey → ℕ
-key_rank (EdgeKey edge) = edge * 2
-key_rank (NameKey at) = at * 2 + 1
 
 -- the key of a link, where these are the outer names
 abbrev pub key_of : List Name → Link → LinkKey
@@ -86,12 +81,11 @@ abbrev pub is_old : ℕ → LinkKey → Bool
 is_old next (EdgeKey edge) = nat_lt edge next
 is_old next (NameKey at) = true
 
--- the link with the key, with the points that it is to have
-pub record IsBundleAt (host : HostState) (gone : List ℕ) (arrivals : List Arrival) (key : LinkKey) (bundle : Bundle) : Type 0 where
+-- the link with the key, with the points that arrive at it
+pub record IsBundleAt (host : HostState) (arrivals : List Arrival) (key : LinkKey) (bundle : Bundle) : Type 0 where
   pub is_key : bundle.key ≡ key
-  pub points : (new : List NodeRow) (link : Link) → AreArrivals host.big.outer new arrivals → IsKeyOf host.big.outer key link
-      → bundle.points.items ≡ points_after host gone new link
-  pub few : length bundle.points.items < 2 ^ 32
+  pub arriving : bundle.arriving.items ≡ points_arriving arrivals key
+  pub few : (link : Link) → IsKeyOf host.big.outer key link → length (points_of (links_of host.big) link) + length bundle.arriving.items < 2 ^ 32
 
-abbrev pub AreBundlesAt : HostState → List ℕ → List Arrival → List Bundle → Type 0
-AreBundlesAt host gone arrivals bundles = (bundle : Bundle) → Mem bundle bundles → IsBundleAt host gone arrivals bundle.key bundle
+abbrev pub AreBundlesAt : HostState → List Arrival → List Bundle → Type 0
+AreBundlesAt host arrivals bundles = (bundle : Bundle) → Mem bundle bundles → IsBundleAt host arrivals bundle.key bundle

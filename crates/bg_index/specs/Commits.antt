@@ -9,6 +9,7 @@ use Rattle.bg_base.specs.declared.names.Place.{Place}
 use Rattle.bg_base.specs.declared.names.Place.TheVariants.{Node, Region}
 use Rattle.bg_base.specs.declared.big.NodeRow.{NodeRow}
 use Rattle.bg_link.specs.declared.graph.Point.{Point}
+use Rattle.bg_link.specs.Rows.{point_cmp}
 use Rattle.bg_rules.specs.Lookups.{nodes_with}
 use Rattle.bg_rules.specs.Instantiation.{is_among}
 use Rattle.bg_index.specs.declared.entries.ControlEntry.{ControlEntry}
@@ -25,20 +26,31 @@ use Rattle.bg_index.specs.declared.plans.Move.{Move}
 use Rattle.bg_index.specs.declared.plans.Nest.{Nest}
 use Rattle.bg_index.specs.declared.plans.Plan.{Plan}
 use Rattle.bg_index.specs.Indexed.{slot_cmp, rows_of, edges_of}
-use Rattle.bg_index.specs.Plans.{move_cmp, moved, rows_after}
+use Rattle.bg_index.specs.Plans.{bundle_cmp, move_cmp, moved, points_left, rows_after}
+use Rattle.bg_index.specs.PortNodes.{HasRoomBeside, KeptPoints, port_nodes}
 
 -- ---- what the change asks of a plan
 
 abbrev pub entry_cmp : NodeEntry → NodeEntry → Ordering
 entry_cmp = on (λ (entry : NodeEntry). entry.row.id) nat_cmp
 
--- its lists of numbers ascend, and its new nodes stand above all that are there
+-- these points ascend, and those that arrive are ports of nodes above theirs
+pub record AreBelow (before arriving : List Point) : Type 0 where
+  pub ascend : IsStrictlySortedBy point_cmp before
+  pub above : (node other : ℕ) → Mem node (port_nodes before) → Mem other (port_nodes arriving) → node < other
+
+-- its lists of numbers and links ascend, and its new nodes stand above all that are there
 pub record IsReady (index : Index) (plan : Plan) : Type 0 where
   pub gone_ascends : IsStrictlySortedBy nat_cmp plan.gone.items
   pub idle_ascends : IsStrictlySortedBy nat_cmp plan.idle.items
   pub moves_ascend : IsStrictlySortedBy move_cmp plan.moves.items
   pub new_ascend : IsStrictlySortedBy entry_cmp plan.entries.items
   pub above : (slot : Slot) (entry : NodeEntry) → Mem slot index.slots.items → Mem entry plan.entries.items → slot.node < entry.row.id
+  pub bundles_ascend : IsStrictlySortedBy bundle_cmp plan.bundles.items
+  pub edge_points : (entry : EdgeEntry) (bundle : Bundle) → Mem entry index.edges.items → Mem bundle plan.bundles.items → bundle.key ≡ EdgeKey entry.edge
+      → AreBelow entry.points.items bundle.arriving.items
+  pub name_points : (at : ℕ) (entry : NameEntry) (bundle : Bundle) → At entry at index.names.items → Mem bundle plan.bundles.items → bundle.key ≡ NameKey at
+      → AreBelow entry.points.items bundle.arriving.items
 
 -- ---- lists beside lists
 
@@ -175,28 +187,46 @@ AreRoomy rows all controls = (row : NodeRow) → Mem row rows → HasRoomy row.c
 abbrev pub edge_key : EdgeEntry → ℕ
 edge_key entry = entry.edge
 
--- the points of a link are those of a bundle for it, or those before where none is
-pub data IsBundled (bundles : List Bundle) (key : LinkKey) (before list : List Point) : Type 0 where
-  by_bundle : {bundle : Bundle} → Mem bundle bundles → bundle.key ≡ key → list ≡ bundle.points.items → IsBundled bundles key before list
-  by_no_bundle : ((bundle : Bundle) → Mem bundle bundles → bundle.key ≡ key → ⊥) → list ≡ before → IsBundled bundles key before list
+-- points that ascend can take those that arrive: these are ports of nodes above theirs, and there is room for them
+pub record CanTake (kept : KeptPoints) (arriving : List Point) : Type 0 where
+  pub below : AreBelow kept.items arriving
+  pub room : HasRoomBeside kept arriving
 
-abbrev pub IsEdgeBundled : List Bundle → EdgeEntry → EdgeEntry → Type 0
-IsEdgeBundled bundles was entry = IsBundled bundles (EdgeKey entry.edge) was.points.items entry.points.items
+-- so can the edges of these bundles
+abbrev pub EdgesCanTake : List EdgeEntry → List Bundle → Type 0
+EdgesCanTake edges bundles =
+    (entry : EdgeEntry) (bundle : Bundle) → Mem entry edges → Mem bundle bundles → bundle.key ≡ EdgeKey entry.edge
+    → CanTake entry.points bundle.arriving.items
 
-abbrev pub IsNameBundled : List Bundle → ℕ → NameEntry → NameEntry → Type 0
-IsNameBundled bundles at was entry = IsBundled bundles (NameKey at) was.points.items entry.points.items
+-- and the outer names
+abbrev pub NamesCanTake : List NameEntry → List Bundle → Type 0
+NamesCanTake names bundles =
+    (at : ℕ) (entry : NameEntry) (bundle : Bundle) → At entry at names → Mem bundle bundles → bundle.key ≡ NameKey at
+    → CanTake entry.points bundle.arriving.items
+
+-- the points of a link are those that stay and then those of a bundle for it, or those before where none is
+pub data IsBundled (gone : List ℕ) (bundles : List Bundle) (key : LinkKey) (was kept : KeptPoints) : Type 0 where
+  by_bundle : {bundle : Bundle} → Mem bundle bundles → bundle.key ≡ key → kept.items ≡ points_left gone was.items ++ bundle.arriving.items
+      → IsBundled gone bundles key was kept
+  by_no_bundle : ((bundle : Bundle) → Mem bundle bundles → bundle.key ≡ key → ⊥) → kept ≡ was → IsBundled gone bundles key was kept
+
+abbrev pub IsEdgeBundled : List ℕ → List Bundle → EdgeEntry → EdgeEntry → Type 0
+IsEdgeBundled gone bundles was entry = IsBundled gone bundles (EdgeKey entry.edge) was.points entry.points
+
+abbrev pub IsNameBundled : List ℕ → List Bundle → ℕ → NameEntry → NameEntry → Type 0
+IsNameBundled gone bundles at was entry = IsBundled gone bundles (NameKey at) was.points entry.points
 
 -- an edge that stood before, with its points
-pub record IsEdgeLeft (old : List EdgeEntry) (bundles : List Bundle) (entry : EdgeEntry) : Type 0 where
+pub record IsEdgeLeft (old : List EdgeEntry) (gone : List ℕ) (bundles : List Bundle) (entry : EdgeEntry) : Type 0 where
   pub was : EdgeEntry
   pub stood : Mem was old
   pub number : was.edge ≡ entry.edge
-  pub points : IsEdgeBundled bundles was entry
+  pub points : IsEdgeBundled gone bundles was entry
 
 -- edges were taken out, given other points, and put behind
-pub record AreEdgesAfter (old : List EdgeEntry) (idle : List ℕ) (bundles : List Bundle) (used new : List EdgeEntry) : Type 0 where
+pub record AreEdgesAfter (old : List EdgeEntry) (idle gone : List ℕ) (bundles : List Bundle) (used new : List EdgeEntry) : Type 0 where
   pub edges : edges_of new ≡ filter (λ edge. not (is_among edge idle)) (edges_of old) ++ edges_of used
-  pub are : (entry : EdgeEntry) → Mem entry new → IsEdgeLeft old bundles entry ⊎ Mem entry used
+  pub are : (entry : EdgeEntry) → Mem entry new → IsEdgeLeft old gone bundles entry ⊎ Mem entry used
 
 -- ---- room
 
@@ -210,3 +240,17 @@ pub record IsRoomier (was entry : ControlEntry) : Type 0 where
   pub nodes : entry.nodes.items ≡ was.nodes.items
   pub count : vec_len entry.nodes ≡ vec_len was.nodes
   pub capacity : vec_capacity was.nodes ≤ vec_capacity entry.nodes
+
+-- points that are as before, with as much room
+pub record ArePointsRoomier (was kept : KeptPoints) : Type 0 where
+  pub items : kept.items ≡ was.items
+  pub points : was.point_capacity ≤ kept.point_capacity
+  pub nodes : was.node_capacity ≤ kept.node_capacity
+
+-- so of an edge
+abbrev pub IsEdgeRoomier : EdgeEntry → EdgeEntry → Type 0
+IsEdgeRoomier was entry = ArePointsRoomier was.points entry.points
+
+-- so of an outer name
+abbrev pub IsNameRoomier : ℕ → NameEntry → NameEntry → Type 0
+IsNameRoomier at was entry = ArePointsRoomier was.points entry.points

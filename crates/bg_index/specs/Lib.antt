@@ -6,6 +6,7 @@ pub mod Copying
 pub mod Going
 pub mod Growth
 pub mod Indexed
+pub mod Leaving
 pub mod Making
 pub mod Noting
 pub mod Plans

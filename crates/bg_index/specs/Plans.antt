@@ -1,5 +1,5 @@
 -- What a reaction is to leave of an indexed host, made before anything is changed; and a host that was changed so.
-use Rattle.std.specs.Prelude.{◌≡◌, ◌⊎◌, ℕ, ◌<◌, ◌≤◌, ◌+◌, ◌^◌, ◌==◌, not, Some, unwrap_or, option_map, find, List, [], ◌++◌, length, map, filter, vec_len, vec_capacity}
+use Rattle.std.specs.Prelude.{◌≡◌, ◌⊎◌, ℕ, ◌<◌, ◌≤◌, ◌+◌, ◌*◌, ◌^◌, ◌==◌, not, Some, unwrap_or, option_map, find, List, [], ◌++◌, length, map, filter, vec_len, vec_capacity}
 use Rattle.std.specs.List.Sorted.{IsStrictlySortedBy}
 use Rattle.std.specs.Ordering.{nat_cmp, on}
 use Rattle.std.specs.declared.cmp.Ordering.{Ordering}
@@ -45,6 +45,7 @@ use Rattle.bg_index.specs.declared.plans.NodeChanges.{NodeChanges}
 use Rattle.bg_index.specs.declared.plans.Plan.{Plan}
 use Rattle.bg_index.specs.declared.reading.Reading.{Reading}
 use Rattle.bg_index.specs.Indexed.{slot_cmp, control_cmp, rows_of, edges_of}
+use Rattle.bg_index.specs.PortNodes.{HasRoomBeside}
 use Rattle.bg_index.specs.Readings.{IsReading}
 use Rattle.bg_index.specs.Steps.{AreChildren}
 
@@ -104,21 +105,38 @@ pub record AreUsed (host : HostState) (rule : RuleParts) (new : List NodeRow) (u
   pub points : (entry : EdgeEntry) → Mem entry used → entry.points.items ≡ ports_on (Edge entry.edge) new
   pub few : (entry : EdgeEntry) → Mem entry used → length entry.points.items < 2 ^ 32
 
+-- the position of a key among all keys
+abbrev pub key_rank : LinkKey → ℕ
+key_rank (EdgeKey edge) = edge * 2
+key_rank (NameKey at) = at * 2 + 1
+
+abbrev pub key_cmp : LinkKey → LinkKey → Ordering
+key_cmp = on key_rank nat_cmp
+
+abbrev pub bundle_cmp : Bundle → Bundle → Ordering
+bundle_cmp = on (λ (bundle : Bundle). bundle.key) key_cmp
+
 -- the key is that of the link, where these are the outer names
 abbrev pub IsKeyOf : List Name → LinkKey → Link → Type 0
 IsKeyOf outer (EdgeKey edge) link = link ≡ Edge edge
 IsKeyOf outer (NameKey at) link = (name : Name) × At name at outer × (link ≡ Outer name)
 
+-- the points that are not on nodes that are gone
+abbrev pub points_left : List ℕ → List Point → List Point
+points_left gone points = filter (stays_at (λ node. not (is_among node gone))) points
+
 -- the points of a link of the host that stay, and then those of the new rows
 abbrev pub points_after : HostState → List ℕ → List NodeRow → Link → List Point
-points_after host gone new link = filter (stays_at (λ node. not (is_among node gone))) (points_of (links_of host.big) link) ++ ports_on link new
+points_after host gone new link = points_left gone (points_of (links_of host.big) link) ++ ports_on link new
 
--- each link of the host that a node which is dropped or a new one is tied to is there, unless it becomes idle, with the
--- points that are to be tied to it; and no other link
+-- each link of the host that a node which is dropped or a new one is tied to is there once, unless it becomes idle, with the
+-- points of the new rows on it; and no other link
 pub record AreBundles (host : HostState) (rule : RuleParts) (nodes : List ℕ) (gone idle : List ℕ) (new : List NodeRow) (bundles : List Bundle) : Type 0 where
-  pub points : (bundle : Bundle) (link : Link) → Mem bundle bundles → IsKeyOf host.big.outer bundle.key link
-      → bundle.points.items ≡ points_after host gone new link
-  pub few : (bundle : Bundle) → Mem bundle bundles → length bundle.points.items < 2 ^ 32
+  pub ascend : IsStrictlySortedBy bundle_cmp bundles
+  pub arriving : (bundle : Bundle) (link : Link) → Mem bundle bundles → IsKeyOf host.big.outer bundle.key link
+      → bundle.arriving.items ≡ ports_on link new
+  pub few : (bundle : Bundle) (link : Link) → Mem bundle bundles → IsKeyOf host.big.outer bundle.key link
+      → length (points_of (links_of host.big) link) + length bundle.arriving.items < 2 ^ 32
   pub lost : (row : NodeRow) (link : Link) → Mem row host.big.nodes → IsDropped host.big rule nodes row.id → Mem link row.links
       → ((edge : ℕ) × (link ≡ Edge edge) × Mem edge idle) ⊎ ((bundle : Bundle) × Mem bundle bundles × IsKeyOf host.big.outer bundle.key link)
   pub got : (row : NodeRow) (link : Link) → Mem row new → Mem link row.links
@@ -165,6 +183,18 @@ pub record IsPlan (host : HostState) (rule : RuleParts) (nodes : List ℕ) (boun
 
 -- ---- the change
 
+-- the edges of these bundles have room for the points that arrive
+abbrev pub EdgesHaveRoom : List EdgeEntry → List Bundle → Type 0
+EdgesHaveRoom edges bundles =
+    (entry : EdgeEntry) (bundle : Bundle) → Mem entry edges → Mem bundle bundles → bundle.key ≡ EdgeKey entry.edge
+    → HasRoomBeside entry.points bundle.arriving.items
+
+-- so have the outer names
+abbrev pub NamesHaveRoom : List NameEntry → List Bundle → Type 0
+NamesHaveRoom names bundles =
+    (at : ℕ) (entry : NameEntry) (bundle : Bundle) → At entry at names → Mem bundle bundles → bundle.key ≡ NameKey at
+    → HasRoomBeside entry.points bundle.arriving.items
+
 -- there is room for all that is to be put behind, and 32 bits tell where in the slab it goes
 pub record HasRoom (index : Index) (plan : Plan) : Type 0 where
   pub nodes : HasRoomFor index.nodes (length plan.entries.items)
@@ -174,15 +204,18 @@ pub record HasRoom (index : Index) (plan : Plan) : Type 0 where
   pub controls : (entry : NodeEntry) → Mem entry plan.entries.items → (control : ControlEntry) × Mem control index.controls.items
       × (control.control ≡ entry.row.control)
       × (vec_len control.nodes + length (nodes_with entry.row.control (new_rows plan)) ≤ vec_capacity control.nodes)
+  pub edge_points : EdgesHaveRoom index.edges.items plan.bundles.items
+  pub name_points : NamesHaveRoom index.names.items plan.bundles.items
 
 -- the children of a place: those that are planned for it, or those before where none are
 pub data ChildrenSet (plan : Plan) (place : Place) (before list : List ℕ) : Type 0 where
   set_children : {nest : Nest} → Mem nest plan.nests.items → nest.place ≡ place → list ≡ nest.children.items → ChildrenSet plan place before list
   same_children : ((nest : Nest) → Mem nest plan.nests.items → nest.place ≡ place → ⊥) → list ≡ before → ChildrenSet plan place before list
 
--- the points of a link, likewise
+-- the points of a link: those that stay and then those that are planned to arrive, or those before where none are planned
 pub data PointsSet (plan : Plan) (key : LinkKey) (before list : List Point) : Type 0 where
-  set_points : {bundle : Bundle} → Mem bundle plan.bundles.items → bundle.key ≡ key → list ≡ bundle.points.items → PointsSet plan key before list
+  set_points : {bundle : Bundle} → Mem bundle plan.bundles.items → bundle.key ≡ key → list ≡ points_left plan.gone.items before ++ bundle.arriving.items
+      → PointsSet plan key before list
   same_points : ((bundle : Bundle) → Mem bundle plan.bundles.items → bundle.key ≡ key → ⊥) → list ≡ before → PointsSet plan key before list
 
 -- a node that stood before, with what lies in it

@@ -1,11 +1,10 @@
 -- What a plan tells of a reaction.
-use Rattle.std.specs.Prelude.{◌≡◌, ◌↔◌, ℕ, ◌==◌, not, unwrap_or, option_map, slice_get, List, [], ◌∷◌, ◌++◌, length, map, filter, Bool}
+use Rattle.std.specs.Prelude.{◌≡◌, ◌↔◌, ℕ, ◌==◌, not, List, [], ◌∷◌, ◌++◌, length, map, filter, Bool}
 use Rattle.std.specs.List.Sorted.{IsStrictlySortedBy}
 use Rattle.std.specs.Ordering.{nat_cmp}
 use Rattle.bg_lists.specs.Lists.{Mem}
-use Rattle.bg_base.specs.declared.names.Name.{Name}
 use Rattle.bg_base.specs.declared.names.Link.{Link}
-use Rattle.bg_base.specs.declared.names.Link.TheVariants.{Edge, Outer}
+use Rattle.bg_base.specs.declared.names.Link.TheVariants.{Edge}
 use Rattle.bg_base.specs.declared.big.Big.{Big}
 use Rattle.bg_link.specs.Links.{links_of, degree_of}
 use Rattle.bg_rules.specs.Decomposition.{Occurs}
@@ -20,7 +19,7 @@ use Rattle.bg_index.specs.declared.plans.LinkKey.TheVariants.{Edge as EdgeKey, N
 use Rattle.bg_index.specs.declared.plans.Move.{Move}
 use Rattle.bg_index.specs.declared.plans.Plan.{Plan}
 use Rattle.bg_index.specs.Indexed.{edges_of}
-use Rattle.bg_index.specs.Noting.{nests_noted}
+use Rattle.bg_index.specs.Noting.{name_at, nests_noted}
 use Rattle.bg_index.specs.Plans.{IsReactionPlan}
 
 -- a plan of a reaction of the host by some rule
@@ -70,10 +69,6 @@ names_bundled (bundle ∷ bundles) = name_keyed bundle.key ++ names_bundled bund
 -- the edges that get other points, those that go, and those that come
 abbrev pub edges_relinked : Plan → List ℕ
 edges_relinked plan = edges_bundled plan.bundles.items ++ (plan.idle.items ++ edges_of plan.used.items)
-
--- the outer name at the position; an edge stands for it where none is there
-abbrev pub name_at : List Name → ℕ → Link
-name_at outer at = unwrap_or (option_map Outer (slice_get outer at)) (Edge 0)
 
 -- a link with its degree
 abbrev pub told_of : Big → Link → Relinked

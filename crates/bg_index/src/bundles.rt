@@ -1,5 +1,5 @@
 //! The points that the links of a host are to have after a reaction.
-ghost use Rattle.std.specs.Prelude.{◌≡◌, ◌⊎◌, ◌++◌, ℕ, List, IfOk, OnOk, IsTrue, filter, map, not};
+ghost use Rattle.std.specs.Prelude.{◌≡◌, ◌⊎◌, ◌+◌, ◌<◌, ◌^◌, ◌++◌, ℕ, List, IfOk, OnOk, IsTrue, filter, map};
 ghost use Rattle.std.specs.List.Sorted.{IsStrictlySortedBy, IsNonDecreasingBy};
 ghost use Rattle.std.specs.Ordering.{nat_cmp};
 ghost use Rattle.bg_lists.specs.Lists.{Mem as Member};
@@ -9,32 +9,25 @@ ghost use Rattle.bg_index.specs.declared.plans.LinkKey.{LinkKey as Key};
 ghost use Rattle.bg_index.specs.declared.reading.Reading.{Reading as ReadingValue};
 ghost use Rattle.bg_index.specs.Arrivals as defined;
 ghost use Rattle.bg_index.specs.Arrivals.{AreArrivals};
-ghost use Rattle.bg_index.specs.Plans.{IsRead, AreNewRows, AreBundles};
+ghost use Rattle.bg_index.specs.Plans.{IsRead, AreNewRows, AreBundles, key_cmp};
 ghost use Rattle.bg_index.specs.Readings.{boundary_of};
 ghost use Rattle.bg_place.specs.Places.{places_of, has_node};
-ghost use Rattle.bg_rewriting.specs.Keeping.{stays_at};
 ghost use Rattle.bg_rewriting.specs.Making.{AreDropped};
-ghost use Rattle.bg_rules.specs.Hosts.{IsHost};
-ghost use Rattle.bg_rules.specs.Instantiation.{is_among};
 ghost use Rattle.bg_rules.specs.Rules.{RuleParts};
 
 use crate::IndexedHost;
-use crate::idle::is_staying;
 use crate::keys::rank;
-use crate::making::point_copies;
 use crate::plans::{Bundle, LinkKey};
 use crate::point_arrivals::{Arrival, push_arriving};
 use crate::sets::is_none_of;
 use crate::tied_points::TiedPoints;
 use bg_base::Link;
-use bg_link::Point;
 use bg_lists::{Mem, OutOfMemory};
 use std::alloc::Global;
 
-/// The links of the host that a node which is gone or a new one is tied to, without those that become idle, each with the
-/// points that stay and then those of the new rows, which are the arrivals. Costs time n log n in the number of ports of these
-/// nodes, with a search of each among the nodes and links of the host, and time m log g, and memory m, in the number of the
-/// points of these links and of the nodes that are gone.
+/// The links of the host that a node which is gone or a new one is tied to, without those that become idle, each once, with the
+/// points of the new rows on it, which are the arrivals. Costs time n log n, and memory n, in the number of ports of these
+/// nodes, with a search of each among the nodes and links of the host.
 pub fn bundles_of(
     alloc: Global,
     host: &IndexedHost,
@@ -42,8 +35,6 @@ pub fn bundles_of(
     idle: &[u32],
     arrivals: &[Arrival],
 ) -> Mem<Vec<Bundle>>
-    requires host { IsHost host.now }
-    requires gone_ascends { IsStrictlySortedBy nat_cmp gone.now }
     requires gone_there { (node : ℕ) → Member node gone.now → IsTrue (has_node (places_of host.now.big) node) }
     requires idle_ascends { IsStrictlySortedBy nat_cmp idle.now }
     requires rise { IsNonDecreasingBy defined.arrival_rank arrivals.now }
@@ -54,7 +45,7 @@ pub fn bundles_of(
 {
     let lost = lost_keys(alloc, host, gone, idle)?;
     let keys = keys_of(lost, arrivals, host.next_edge())?;
-    let bundles = bundles_at(alloc, host, gone, arrivals, &keys)?;
+    let bundles = bundles_at(alloc, host, arrivals, &keys)?;
     Ok(bundles)
 }
 
@@ -102,8 +93,9 @@ fn is_kept(idle: &[u32], key: LinkKey) -> bool
     }
 }
 
-/// These keys, and those of arrivals that are keys of a host whose edges are below that number, each once.
+/// These keys, and those of arrivals that are keys of a host whose edges are below that number, in order, each once.
 fn keys_of(lost: Vec<LinkKey>, arrivals: &[Arrival], next: u32) -> Mem<Vec<LinkKey>>
+    ensures ascending { IfOk result (λ keys. IsStrictlySortedBy key_cmp keys.items) }
     ensures lost { IfOk result (λ keys. (key : Key) → Member key lost.items → Member key keys.items) }
     ensures got { IfOk result (λ keys. (key : Key) → Member key (map defined.arrival_key arrivals.now) → IsTrue (defined.is_old next key)
         → Member key keys.items) }
@@ -140,6 +132,7 @@ fn is_old(next: u32, key: LinkKey) -> bool
 
 /// The keys in order, each once. Takes no memory; costs time n log n.
 fn key_set(mut keys: Vec<LinkKey>) -> Vec<LinkKey>
+    ensures ascending { IsStrictlySortedBy key_cmp result.items }
     ensures into { (key : Key) → Member key keys.items → Member key result.items }
     ensures back { (key : Key) → Member key result.items → Member key keys.items }
 {
@@ -148,56 +141,42 @@ fn key_set(mut keys: Vec<LinkKey>) -> Vec<LinkKey>
     keys
 }
 
-/// The links with these keys, each with the points that it is to have.
+/// The links with these keys, each with the points that arrive at it.
 fn bundles_at(
     alloc: Global,
     host: &IndexedHost,
-    gone: &[u32],
     arrivals: &[Arrival],
     keys: &[LinkKey],
 ) -> Mem<Vec<Bundle>>
-    requires host { IsHost host.now }
-    requires gone_ascends { IsStrictlySortedBy nat_cmp gone.now }
     requires rise { IsNonDecreasingBy defined.arrival_rank arrivals.now }
     ensures keys { IfOk result (λ bundles. map (λ (bundle : BundleValue). bundle.key) bundles.items ≡ keys.now) }
-    ensures are { IfOk result (λ bundles. defined.AreBundlesAt host.now gone.now arrivals.now bundles.items) }
+    ensures are { IfOk result (λ bundles. defined.AreBundlesAt host.now arrivals.now bundles.items) }
 {
     let mut bundles = Vec::new(alloc);
     for key in keys {
-        let bundle = bundle_at(alloc, host, gone, arrivals, *key)?;
+        let bundle = bundle_at(alloc, host, arrivals, *key)?;
         bundles.push(bundle)?;
     }
     Ok(bundles)
 }
 
-/// The link with the key, with the points that stay and those that arrive, where 32 bits can count them.
-fn bundle_at(
-    alloc: Global,
-    host: &IndexedHost,
-    gone: &[u32],
-    arrivals: &[Arrival],
-    key: LinkKey,
-) -> Mem<Bundle>
-    requires host { IsHost host.now }
-    requires gone_ascends { IsStrictlySortedBy nat_cmp gone.now }
+/// The link with the key, with the points that arrive at it, where 32 bits can count all that it has then.
+fn bundle_at(alloc: Global, host: &IndexedHost, arrivals: &[Arrival], key: LinkKey) -> Mem<Bundle>
     requires rise { IsNonDecreasingBy defined.arrival_rank arrivals.now }
-    ensures { IfOk result (λ bundle. defined.IsBundleAt host.now gone.now arrivals.now key bundle) }
+    ensures { IfOk result (λ bundle. defined.IsBundleAt host.now arrivals.now key bundle) }
 {
-    let mut points = staying(alloc, host.points_at(key), gone)?;
+    let mut points = Vec::new(alloc);
     push_arriving(alloc, arrivals, key, &mut points)?;
-    if points.len() > u32::MAX as usize {
+    if !are_few(host.points_at(key).len(), points.len()) {
         return Err(OutOfMemory);
     }
-    let tied = TiedPoints::of(alloc, points)?;
-    Ok(Bundle { key, points: tied })
+    let arriving = TiedPoints::of(alloc, points)?;
+    Ok(Bundle { key, arriving })
 }
 
-/// Copies of the points that are not on nodes that are gone.
-fn staying(alloc: Global, points: &[Point], gone: &[u32]) -> Mem<Vec<Point>>
-    requires gone_ascends { IsStrictlySortedBy nat_cmp gone.now }
-    ensures { IfOk result (λ made. made.items ≡ filter (stays_at (λ node. not (is_among node gone.now))) points.now) }
+/// Whether 32 bits can count so many and so many more.
+fn are_few(count: usize, more: usize) -> bool
+    ensures { IsTrue result → count + more < 2 ^ 32 }
 {
-    let mut made = point_copies(alloc, points)?;
-    made.retain(|point| is_staying(point, gone));
-    Ok(made)
+    count.saturating_add(more) <= u32::MAX as usize
 }

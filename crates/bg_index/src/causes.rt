@@ -5,6 +5,7 @@ ghost use Rattle.std.specs.List.Sorted.{IsStrictlySortedBy};
 ghost use Rattle.std.specs.Ordering.{nat_cmp};
 ghost use Rattle.bg_lists.specs.Lists.{Mem as Member};
 ghost use Rattle.bg_index.specs.Indexed.{edges_of};
+ghost use Rattle.bg_index.specs.Noting as noting;
 ghost use Rattle.bg_index.specs.Telling as telling;
 
 use crate::IndexedHost;
@@ -208,7 +209,7 @@ fn tell_names(
 /// The outer name at that position, as a link.
 fn name_link(alloc: Global, host: &IndexedHost, at: u32) -> Mem<Link>
     requires there { at < length host.now.big.outer }
-    ensures { IfOk result (λ link. link ≡ telling.name_at host.now.big.outer at) }
+    ensures { IfOk result (λ link. link ≡ noting.name_at host.now.big.outer at) }
 {
     let name = host.name(at).copy(alloc)?;
     Ok(Link::Outer(name))

@@ -40,7 +40,14 @@ pub fn carry_out(index: &mut Index, plan: Plan)
         nests,
         entries,
     );
-    change_links(&mut index.edges, &mut index.names, &idle, bundles, used);
+    change_links(
+        &mut index.edges,
+        &mut index.names,
+        &idle,
+        &gone,
+        bundles,
+        used,
+    );
     index.next_node = next_node;
     index.next_edge = next_edge;
 }

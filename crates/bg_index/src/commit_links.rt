@@ -1,33 +1,39 @@
-//! Edges are taken out, given other points, and put behind the others; names are given other points. Takes no memory.
+//! Edges are taken out, and put behind the others; the points of edges and names are changed. Takes no memory.
 ghost use Rattle.std.specs.Prelude.{◌≡◌, ◌+◌, ◌<◌, ◌≤◌, ◌==◌, ◌++◌, ◌∷◌, [], not, length, take, drop, filter, vec_len, vec_capacity};
 ghost use Rattle.std.specs.List.Sorted.{IsStrictlySortedBy};
 ghost use Rattle.std.specs.Ordering.{nat_cmp};
 ghost use Rattle.bg_index.specs.declared.entries.EdgeEntry.{EdgeEntry as EdgeValue};
 ghost use Rattle.bg_index.specs.declared.plans.LinkKey.TheVariants.{Edge as EdgeKey, Name as NameKey};
-ghost use Rattle.bg_index.specs.Commits.{AreBeside, AreEdgesAfter, AreFrom, IsEdgeBundled, IsNameBundled, edge_key};
+ghost use Rattle.bg_index.specs.Commits.{AreBeside, AreEdgesAfter, AreFrom, CanTake, EdgesCanTake, IsEdgeBundled, IsNameBundled, NamesCanTake, edge_key};
 ghost use Rattle.bg_index.specs.Indexed.{edge_cmp};
+ghost use Rattle.bg_index.specs.Plans.{bundle_cmp, points_left};
 ghost use Rattle.bg_rules.specs.Instantiation.{is_among};
 
 use crate::entries::{EdgeEntry, NameEntry};
 use crate::leaving::{is_cheaper_singly, stays};
 use crate::plans::{Bundle, LinkKey};
 
-/// Takes the idle edges out, sets the points of links, and puts the used edges behind.
+/// Takes the idle edges out, changes the points of links, and puts the used edges behind.
 pub fn change_links(
     edges: &mut Vec<EdgeEntry>,
     names: &mut Vec<NameEntry>,
     idle: &[u32],
+    gone: &[u32],
     bundles: Vec<Bundle>,
     used: Vec<EdgeEntry>,
 )
     requires ascending { IsStrictlySortedBy edge_cmp edges.old.items }
     requires idle_ascends { IsStrictlySortedBy nat_cmp idle.now }
+    requires gone_ascends { IsStrictlySortedBy nat_cmp gone.now }
+    requires bundles_ascend { IsStrictlySortedBy bundle_cmp bundles.items }
+    requires edges_take { EdgesCanTake edges.old.items bundles.items }
+    requires names_take { NamesCanTake names.old.items bundles.items }
     requires room { vec_len edges.old + length used.items ≤ vec_capacity edges.old }
-    ensures edges { AreEdgesAfter edges.old.items idle.now bundles.items used.items edges.new.items }
-    ensures names { AreBeside (IsNameBundled bundles.items) names.old.items names.new.items }
+    ensures edges { AreEdgesAfter edges.old.items idle.now gone.now bundles.items used.items edges.new.items }
+    ensures names { AreBeside (IsNameBundled gone.now bundles.items) names.old.items names.new.items }
 {
     drop_edges(edges, idle);
-    set_bundles(edges, names, bundles);
+    change_bundles(edges, names, gone, bundles);
     push_edges(edges, used);
 }
 
@@ -89,63 +95,95 @@ fn take_edge_at(edges: &mut Vec<EdgeEntry>, at: usize)
     let _taken = edges.remove(at);
 }
 
-/// Sets the points of links.
-fn set_bundles(edges: &mut Vec<EdgeEntry>, names: &mut Vec<NameEntry>, bundles: Vec<Bundle>)
+/// Changes the points of links.
+fn change_bundles(
+    edges: &mut Vec<EdgeEntry>,
+    names: &mut Vec<NameEntry>,
+    gone: &[u32],
+    bundles: Vec<Bundle>,
+)
     requires ascending { IsStrictlySortedBy edge_cmp edges.old.items }
-    ensures edges { AreFrom edge_key (IsEdgeBundled bundles.items) edges.old.items edges.new.items }
-    ensures names { AreBeside (IsNameBundled bundles.items) names.old.items names.new.items }
+    requires gone_ascends { IsStrictlySortedBy nat_cmp gone.now }
+    requires bundles_ascend { IsStrictlySortedBy bundle_cmp bundles.items }
+    requires edges_take { EdgesCanTake edges.old.items bundles.items }
+    requires names_take { NamesCanTake names.old.items bundles.items }
+    ensures edges { AreFrom edge_key (IsEdgeBundled gone.now bundles.items) edges.old.items edges.new.items }
+    ensures names { AreBeside (IsNameBundled gone.now bundles.items) names.old.items names.new.items }
     ensures count { vec_len edges.new ≡ vec_len edges.old }
     ensures capacity { vec_capacity edges.new ≡ vec_capacity edges.old }
 {
     for bundle in bundles {
-        set_bundle(edges, names, bundle);
+        change_bundle(edges, names, gone, bundle);
     }
 }
 
-/// Sets the points of a link.
-fn set_bundle(edges: &mut Vec<EdgeEntry>, names: &mut Vec<NameEntry>, bundle: Bundle)
+/// Changes the points of a link.
+fn change_bundle(
+    edges: &mut Vec<EdgeEntry>,
+    names: &mut Vec<NameEntry>,
+    gone: &[u32],
+    bundle: Bundle,
+)
     requires ascending { IsStrictlySortedBy edge_cmp edges.old.items }
-    ensures edges { AreFrom edge_key (IsEdgeBundled (bundle ∷ [])) edges.old.items edges.new.items }
-    ensures names { AreBeside (IsNameBundled (bundle ∷ [])) names.old.items names.new.items }
+    requires gone_ascends { IsStrictlySortedBy nat_cmp gone.now }
+    requires edges_take { EdgesCanTake edges.old.items (bundle ∷ []) }
+    requires names_take { NamesCanTake names.old.items (bundle ∷ []) }
+    ensures edges { AreFrom edge_key (IsEdgeBundled gone.now (bundle ∷ [])) edges.old.items edges.new.items }
+    ensures names { AreBeside (IsNameBundled gone.now (bundle ∷ [])) names.old.items names.new.items }
     ensures count { vec_len edges.new ≡ vec_len edges.old }
     ensures capacity { vec_capacity edges.new ≡ vec_capacity edges.old }
 {
     match bundle.key {
-        LinkKey::Edge(edge) => set_edge(edges, edge, bundle),
-        LinkKey::Name(at) => set_name(names, at, bundle),
+        LinkKey::Edge(edge) => change_edge(edges, edge, gone, bundle),
+        LinkKey::Name(at) => change_name(names, at, gone, bundle),
     }
 }
 
-/// Sets the points of the edge of the bundle.
-fn set_edge(edges: &mut Vec<EdgeEntry>, edge: u32, bundle: Bundle)
+/// Changes the points of the edge of the bundle.
+fn change_edge(edges: &mut Vec<EdgeEntry>, edge: u32, gone: &[u32], bundle: Bundle)
     requires ascending { IsStrictlySortedBy edge_cmp edges.old.items }
+    requires gone_ascends { IsStrictlySortedBy nat_cmp gone.now }
+    requires take { EdgesCanTake edges.old.items (bundle ∷ []) }
     requires key { bundle.key ≡ EdgeKey edge }
-    ensures edges { AreFrom edge_key (IsEdgeBundled (bundle ∷ [])) edges.old.items edges.new.items }
+    ensures edges { AreFrom edge_key (IsEdgeBundled gone.now (bundle ∷ [])) edges.old.items edges.new.items }
     ensures count { vec_len edges.new ≡ vec_len edges.old }
     ensures capacity { vec_capacity edges.new ≡ vec_capacity edges.old }
 {
     match edges.binary_search_by_key(&edge, |entry| entry.edge) {
-        Ok(at) => set_points(&mut edges[at], bundle),
+        Ok(at) => change_points(&mut edges[at], gone, bundle),
         Err(_) => {}
     }
 }
 
-/// Gives the edge the points of the bundle.
-fn set_points(entry: &mut EdgeEntry, bundle: Bundle)
+/// Changes the points of the edge.
+fn change_points(entry: &mut EdgeEntry, gone: &[u32], bundle: Bundle)
+    requires gone_ascends { IsStrictlySortedBy nat_cmp gone.now }
+    requires take { CanTake entry.old.points bundle.arriving.items }
     ensures edge { entry.new.edge ≡ entry.old.edge }
-    ensures points { entry.new.points.items ≡ bundle.points.items }
+    ensures points { entry.new.points.items ≡ points_left gone.now entry.old.points.items ++ bundle.arriving.items }
 {
-    entry.points = bundle.points;
+    entry.points.change(gone, bundle.arriving);
 }
 
-/// Sets the points of the outer name of the bundle.
-fn set_name(names: &mut Vec<NameEntry>, at: u32, bundle: Bundle)
+/// Changes the points of the outer name of the bundle.
+fn change_name(names: &mut Vec<NameEntry>, at: u32, gone: &[u32], bundle: Bundle)
+    requires gone_ascends { IsStrictlySortedBy nat_cmp gone.now }
+    requires take { NamesCanTake names.old.items (bundle ∷ []) }
     requires key { bundle.key ≡ NameKey at }
-    ensures { AreBeside (IsNameBundled (bundle ∷ [])) names.old.items names.new.items }
+    ensures { AreBeside (IsNameBundled gone.now (bundle ∷ [])) names.old.items names.new.items }
 {
     if let Some(entry) = names.get_mut(at as usize) {
-        entry.points = bundle.points;
+        change_points_of_name(entry, gone, bundle);
     }
+}
+
+/// Changes the points of the outer name.
+fn change_points_of_name(entry: &mut NameEntry, gone: &[u32], bundle: Bundle)
+    requires gone_ascends { IsStrictlySortedBy nat_cmp gone.now }
+    requires take { CanTake entry.old.points bundle.arriving.items }
+    ensures { entry.new.points.items ≡ points_left gone.now entry.old.points.items ++ bundle.arriving.items }
+{
+    entry.points.change(gone, bundle.arriving);
 }
 
 /// Puts edges behind the others, where there is room for them.

@@ -3,7 +3,8 @@ ghost use Rattle.std.specs.Prelude.{◌≡◌, ◌<◌, ◌^◌, length};
 ghost use Rattle.std.specs.List.Sorted.{IsStrictlySortedBy};
 ghost use Rattle.bg_base.specs.Order.{name_cmp};
 ghost use Rattle.bg_base.specs.declared.names.Link.TheVariants.{Outer};
-ghost use Rattle.bg_index.specs.Arrivals.{key_of, key_rank};
+ghost use Rattle.bg_index.specs.Arrivals.{key_of};
+ghost use Rattle.bg_index.specs.Plans.{key_rank};
 
 use crate::plans::LinkKey;
 use bg_base::Name;

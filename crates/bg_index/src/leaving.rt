@@ -1,5 +1,5 @@
 //! Numbers that are left out of a list.
-ghost use Rattle.std.specs.Prelude.{◌≡◌, ◌+◌, ◌<◌, ◌++◌, true, not, length, take, drop, filter, vec_capacity};
+ghost use Rattle.std.specs.Prelude.{◌≡◌, ◌==◌, ◌+◌, ◌<◌, ◌++◌, true, not, length, take, drop, filter, vec_capacity};
 ghost use Rattle.std.specs.List.Sorted.{IsStrictlySortedBy};
 ghost use Rattle.std.specs.Ordering.{nat_cmp};
 ghost use Rattle.bg_lists.specs.Lists.{Mem};
@@ -8,14 +8,14 @@ ghost use Rattle.bg_rules.specs.Instantiation.{is_among};
 
 use crate::sets::is_none_of;
 
-/// In the time in which one item is looked at, so many are moved up: fewer than so many are best taken out one by one, wherever
-/// they stand.
+/// In the time in which one item is looked at, or searched, so many are moved up: fewer than so many are best taken out of a long
+/// list one by one, wherever they stand.
 const FEW: usize = 16;
 
-/// Whether it costs less to take so many items out one by one, each by moving up what stands behind it, at most so many items,
-/// than to look at all items of the list once.
+/// Whether it costs less to take so many items out one by one, each by a search and by moving up what stands behind it, at most so
+/// many items, than to look at all items of the list once.
 pub fn is_cheaper_singly(gone: usize, behind: usize, all: usize) -> bool {
-    gone.saturating_mul(behind) < FEW.saturating_mul(all)
+    gone.saturating_mul(behind.saturating_add(FEW)) < FEW.saturating_mul(all)
 }
 
 /// Whether the number is none of those that are gone, which ascend. Logarithmic.
@@ -45,6 +45,51 @@ pub fn leave_out(numbers: &mut Vec<u32>, number: u32, gone: &[u32])
                 keep(numbers, gone);
             }
         }
+        Err(_) => {}
+    }
+}
+
+/// Leaves all numbers that are gone out of a list that ascends: one by one where that costs less, else by a pass over all.
+pub fn leave_out_all(numbers: &mut Vec<u32>, gone: &[u32])
+    requires numbers_ascend { IsStrictlySortedBy nat_cmp numbers.old.items }
+    requires gone_ascend { IsStrictlySortedBy nat_cmp gone.now }
+    ensures kept { numbers.new.items ≡ filter (λ number. not (is_among number gone.now)) numbers.old.items }
+    ensures capacity { vec_capacity numbers.new ≡ vec_capacity numbers.old }
+{
+    if is_cheaper_singly(gone.len(), behind_first(numbers, gone), numbers.len()) {
+        take_each(numbers, gone);
+    } else {
+        keep(numbers, gone);
+    }
+}
+
+/// How many numbers stand behind the first of these, or are that. Logarithmic.
+fn behind_first(numbers: &[u32], gone: &[u32]) -> usize {
+    match gone.first() {
+        Some(first) => numbers.len() - numbers.partition_point(|number| *number < *first),
+        None => 0,
+    }
+}
+
+/// Takes these numbers out one by one.
+fn take_each(numbers: &mut Vec<u32>, gone: &[u32])
+    requires numbers_ascend { IsStrictlySortedBy nat_cmp numbers.old.items }
+    ensures kept { numbers.new.items ≡ filter (λ number. not (is_among number gone.now)) numbers.old.items }
+    ensures capacity { vec_capacity numbers.new ≡ vec_capacity numbers.old }
+{
+    for number in gone {
+        take_number(numbers, *number);
+    }
+}
+
+/// Takes the number out.
+fn take_number(numbers: &mut Vec<u32>, number: u32)
+    requires numbers_ascend { IsStrictlySortedBy nat_cmp numbers.old.items }
+    ensures kept { numbers.new.items ≡ filter (λ other. not (other == number)) numbers.old.items }
+    ensures capacity { vec_capacity numbers.new ≡ vec_capacity numbers.old }
+{
+    match numbers.binary_search(&number) {
+        Ok(at) => take_at(numbers, at),
         Err(_) => {}
     }
 }

@@ -25,6 +25,7 @@ mod keys;
 mod late;
 mod laws;
 mod leaving;
+mod leaving_points;
 mod link_names;
 mod making;
 mod moves;

@@ -37,7 +37,7 @@ use std::alloc::Global;
 
 /// What the rule is to leave of the host, at the nodes of the map. It refuses with `Full` where that passes a limit: nodes
 /// and counters are counted before anything is made, edges before the lists of children and points. Costs what
-/// `react_in_place` costs.
+/// `react_telling_causes` costs, but for what carrying it out moves.
 pub fn plan_of(
     alloc: Global,
     host: &IndexedHost,

@@ -25,11 +25,11 @@ pub enum LinkKey {
     Name(u32),
 }
 
-/// A link, and the points that are to be tied to it.
+/// A link from which the points on nodes that are gone are taken, and the points that are put behind those that stay.
 #[derive(Drop)]
 pub struct Bundle {
     pub key: LinkKey,
-    pub points: TiedPoints,
+    pub arriving: TiedPoints,
 }
 
 /// What goes, moves and comes of the nodes.

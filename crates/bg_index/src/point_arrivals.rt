@@ -3,6 +3,7 @@ ghost use Rattle.std.specs.Prelude.{◌≡◌, ◌==◌, ◌++◌, ◌<◌, ◌^
 ghost use Rattle.std.specs.List.Sorted.{IsNonDecreasingBy};
 ghost use Rattle.bg_index.specs.declared.point_arrivals.Arrival.{Arrival as ArrivalValue};
 ghost use Rattle.bg_index.specs.Arrivals as defined;
+ghost use Rattle.bg_index.specs.Plans.{key_rank};
 ghost use Rattle.bg_link.specs.Links.{ports_from};
 
 use crate::IndexedHost;
@@ -83,7 +84,7 @@ fn push_points(alloc: Global, arrivals: &[Arrival], points: &mut Vec<Point>) -> 
 /// Those that arrive at the link, by two binary searches.
 fn arriving(arrivals: &[Arrival], key: LinkKey) -> &[Arrival]
     requires rise { IsNonDecreasingBy defined.arrival_rank arrivals.now }
-    ensures { result.now ≡ filter (λ (arrival : ArrivalValue). defined.arrival_rank arrival == defined.key_rank key) arrivals.now }
+    ensures { result.now ≡ filter (λ (arrival : ArrivalValue). defined.arrival_rank arrival == key_rank key) arrivals.now }
 {
     let wanted = rank(key);
     let start = arrivals.partition_point(|arrival| rank(arrival.key) < wanted);

@@ -1,31 +1,37 @@
 //! Room for what a plan puts behind, taken before anything is changed.
-ghost use Rattle.std.specs.Prelude.{◌≡◌, ◌≤◌, ◌+◌, ◌^◌, ◌==◌, ℕ, List, OnOk, IfOk, filter, length, map, vec_len, vec_capacity};
+ghost use Rattle.std.specs.Prelude.{◌≡◌, ◌≤◌, ◌+◌, ◌^◌, ◌==◌, ◌∷◌, [], ℕ, List, OnOk, IfOk, filter, length, map, vec_len, vec_capacity};
 ghost use Rattle.std.specs.List.Sorted.{IsNonDecreasingBy, IsStrictlySortedBy};
 ghost use Rattle.slab.specs.Slab.{get, HasRoomFor};
+ghost use Rattle.bg_lists.specs.Lists.{At, Mem as Member};
 ghost use Rattle.bg_base.specs.declared.big.NodeRow.{NodeRow as NodeRowValue};
+ghost use Rattle.bg_index.specs.declared.entries.EdgeEntry.{EdgeEntry as EdgeEntryValue};
+ghost use Rattle.bg_index.specs.declared.entries.NameEntry.{NameEntry as NameEntryValue};
 ghost use Rattle.bg_index.specs.declared.entries.NodeEntry.{NodeEntry as NodeEntryValue};
-ghost use Rattle.bg_index.specs.Commits.{AreRoomy, AreRoomier, HasRoomy};
+ghost use Rattle.bg_index.specs.Commits.{AreBeside, AreFrom, ArePointsRoomier, AreRoomy, AreRoomier, HasRoomy, IsEdgeRoomier, IsNameRoomier, edge_key};
 ghost use Rattle.bg_index.specs.Arriving.{rows_in};
-ghost use Rattle.bg_index.specs.Indexed.{AreSorted, IsIndex, control_cmp, host_of};
-ghost use Rattle.bg_index.specs.Plans.{HasRoom};
+ghost use Rattle.bg_index.specs.Indexed.{AreSorted, IsIndex, control_cmp, edge_cmp, host_of};
+ghost use Rattle.bg_index.specs.Plans.{EdgesHaveRoom, HasRoom, NamesHaveRoom};
+ghost use Rattle.bg_index.specs.PortNodes.{HasRoomBeside};
 ghost use Rattle.bg_rules.specs.Lookups.{nodes_with};
 
 use crate::controls::control_at;
-use crate::entries::{ControlEntry, EdgeEntry, Index, NodeEntry, Slot};
-use crate::plans::Plan;
+use crate::entries::{ControlEntry, EdgeEntry, Index, NameEntry, NodeEntry, Slot};
+use crate::plans::{Bundle, LinkKey, Plan};
+use crate::tied_points::TiedPoints;
 use bg_lists::{Mem, OutOfMemory};
 use slab::Slab;
 use std::alloc::Global;
 
 /// Room for all that the plan puts behind. What is seen does not change, also where there is no memory. Costs time n log n
-/// in the number of new nodes, with a search of the control of each among those of the host, and moving what has to lie
-/// elsewhere; memory in proportion to the new nodes and edges.
+/// in the number of new nodes, with a search of the control of each among those of the host and of each link that gets points,
+/// and moving what has to lie elsewhere; memory in proportion to the new nodes, edges and points.
 pub fn make_room(alloc: Global, index: &mut Index, plan: &Plan) -> Mem<()>
     requires index { IsIndex index.old }
     ensures index { IsIndex index.new }
     ensures same { host_of index.new ≡ host_of index.old }
     ensures room { OnOk result (HasRoom index.new plan.now) }
 {
+    make_points(&mut index.edges, &mut index.names, &plan.bundles)?;
     let more_nodes = plan.entries.len();
     let more_edges = plan.used.len();
     make_lists(
@@ -37,6 +43,78 @@ pub fn make_room(alloc: Global, index: &mut Index, plan: &Plan) -> Mem<()>
     )?;
     make_controls(alloc, &mut index.controls, &plan.entries)?;
     Ok(())
+}
+
+/// Room for the points that arrive at links.
+fn make_points(
+    edges: &mut Vec<EdgeEntry>,
+    names: &mut Vec<NameEntry>,
+    bundles: &[Bundle],
+) -> Mem<()>
+    requires ascending { IsStrictlySortedBy edge_cmp edges.old.items }
+    ensures edges { AreFrom edge_key IsEdgeRoomier edges.old.items edges.new.items }
+    ensures names { AreBeside IsNameRoomier names.old.items names.new.items }
+    ensures edge_room { OnOk result (EdgesHaveRoom edges.new.items bundles.now) }
+    ensures name_room { OnOk result (NamesHaveRoom names.new.items bundles.now) }
+{
+    for bundle in bundles {
+        make_bundle(edges, names, bundle)?;
+    }
+    Ok(())
+}
+
+/// Room for the points that arrive at a link.
+fn make_bundle(edges: &mut Vec<EdgeEntry>, names: &mut Vec<NameEntry>, bundle: &Bundle) -> Mem<()>
+    requires ascending { IsStrictlySortedBy edge_cmp edges.old.items }
+    ensures edges { AreFrom edge_key IsEdgeRoomier edges.old.items edges.new.items }
+    ensures names { AreBeside IsNameRoomier names.old.items names.new.items }
+    ensures edge_room { OnOk result (EdgesHaveRoom edges.new.items (bundle.now ∷ [])) }
+    ensures name_room { OnOk result (NamesHaveRoom names.new.items (bundle.now ∷ [])) }
+{
+    match bundle.key {
+        LinkKey::Edge(edge) => make_edge(edges, edge, &bundle.arriving),
+        LinkKey::Name(at) => make_name(names, at, &bundle.arriving),
+    }
+}
+
+/// Room for these points at the edge.
+fn make_edge(edges: &mut Vec<EdgeEntry>, edge: u32, arriving: &TiedPoints) -> Mem<()>
+    requires ascending { IsStrictlySortedBy edge_cmp edges.old.items }
+    ensures edges { AreFrom edge_key IsEdgeRoomier edges.old.items edges.new.items }
+    ensures room { OnOk result ((entry : EdgeEntryValue) → Member entry edges.new.items → entry.edge ≡ edge → HasRoomBeside entry.points arriving.now.items) }
+{
+    match edges.binary_search_by_key(&edge, |entry| entry.edge) {
+        Ok(at) => make_edge_points(&mut edges[at], arriving),
+        Err(_) => Ok(()),
+    }
+}
+
+/// Room for these points at the edge.
+fn make_edge_points(entry: &mut EdgeEntry, arriving: &TiedPoints) -> Mem<()>
+    ensures edge { entry.new.edge ≡ entry.old.edge }
+    ensures points { IsEdgeRoomier entry.old entry.new }
+    ensures room { OnOk result (HasRoomBeside entry.new.points arriving.now.items) }
+{
+    entry.points.make_room(arriving)
+}
+
+/// Room for these points at the outer name at the position.
+fn make_name(names: &mut Vec<NameEntry>, at: u32, arriving: &TiedPoints) -> Mem<()>
+    ensures names { AreBeside IsNameRoomier names.old.items names.new.items }
+    ensures room { OnOk result ((entry : NameEntryValue) → At entry at names.new.items → HasRoomBeside entry.points arriving.now.items) }
+{
+    match names.get_mut(at as usize) {
+        Some(entry) => make_name_points(entry, arriving),
+        None => Ok(()),
+    }
+}
+
+/// Room for these points at the outer name.
+fn make_name_points(entry: &mut NameEntry, arriving: &TiedPoints) -> Mem<()>
+    ensures points { ArePointsRoomier entry.old.points entry.new.points }
+    ensures room { OnOk result (HasRoomBeside entry.new.points arriving.now.items) }
+{
+    entry.points.make_room(arriving)
 }
 
 /// Room for so many more nodes and edges; 32 bits tell where in the slab a node goes.

@@ -26,9 +26,9 @@ impl IndexedHost {
     /// It refuses with `Full` where the host would pass one of its limits: more than 65,536 nodes or edges, or a counter
     /// above 2,147,483,648. All that may fail is done before anything is changed, so at a refusal the host stays as it was.
     /// Costs time n log n in the size of the rule, the copies that are made or dropped, the nodes that move, and the points of
-    /// the links that lose or get one; besides, the numbers of the children of the places in which an image lies are copied,
-    /// and nodes and edges that go are taken out of lists whose other items move up. A part for which one entry asks is not
-    /// walked. Memory in proportion to the first, and to those children.
+    /// the links that lose or get one, whose nodes it tells; besides, the numbers of the children of the places in which an image
+    /// lies are copied, and nodes, edges and points that go are taken out of lists whose other items move up. A part for which
+    /// one entry asks is not walked. Memory in proportion to the first, and to those children.
     pub fn react_in_place(
         &mut self,
         alloc: Global,
@@ -45,14 +45,15 @@ impl IndexedHost {
         let _ = &self.index;
         let _pattern = rule.redex();
         let plan = plan_of(alloc, self, rule, map)?;
-        let touched = touched_by(alloc, &plan)?;
+        let touched = touched_by(alloc, self, &plan)?;
         self.follow(alloc, plan)?;
         Ok(touched)
     }
 
     /// The same reaction, with the same refusals, that tells why nodes are touched in place of which. The nodes that have a
-    /// port on a link whose points are others are not listed, so that a link of many points costs no more than its own list;
-    /// for the rest it costs as `react_in_place`.
+    /// port on a link whose points are others are not listed, and the points that stay are not looked at: of a link that loses
+    /// or gets points those that go are searched and taken out, what stands behind moves up, and those that come are put behind.
+    /// For the rest it costs as `react_in_place`.
     pub fn react_telling_causes(
         &mut self,
         alloc: Global,

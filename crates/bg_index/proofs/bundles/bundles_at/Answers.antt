@@ -18,7 +18,7 @@ loop-key-preserved c =
           ∙ ap (λ (xs : List LinkKey). xs ++ bundle.key ∷ []) before
           ∙ ap (λ (k : LinkKey). take at keys ++ k ∷ []) number
           ∙ sym (take_more keys at (EdgeKey 0) c.loop-key-test.true),
-      subst (AreBundlesAt c.args.host.now c.args.gone.now c.args.arrivals.now) (sym c.in_ok-push.ensures.items)
-          (all_more (λ (b : Bundle). IsBundleAt c.args.host.now c.args.gone.now c.args.arrivals.now b.key b) c.loop-key.bundles.items bundle c.loop-key.invariant.1
-          (subst (λ (k : LinkKey). IsBundleAt c.args.host.now c.args.gone.now c.args.arrivals.now k bundle) (sym number) c.in_ok-bundle.ensures)),
+      subst (AreBundlesAt c.args.host.now c.args.arrivals.now) (sym c.in_ok-push.ensures.items)
+          (all_more (λ (b : Bundle). IsBundleAt c.args.host.now c.args.arrivals.now b.key b) c.loop-key.bundles.items bundle c.loop-key.invariant.1
+          (subst (λ (k : LinkKey). IsBundleAt c.args.host.now c.args.arrivals.now k bundle) (sym number) c.in_ok-bundle.ensures)),
     )

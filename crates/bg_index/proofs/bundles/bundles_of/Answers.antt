@@ -15,4 +15,5 @@ returns c = λ rule nodes reading new read gone_are arrivals_are new_are.
       | inl k ↦ inl (subst (λ (xs : List LinkKey). Mem key xs) c.in_ok-lost.ensures k)
       | inr k ↦ inr k
     ])
+    c.in_ok-keys.ensures.ascending
     (c.in_ok-bundles.ensures.keys ∙ c.deref.ensures.value) c.in_ok-bundles.ensures.are

@@ -1,10 +1,10 @@
 use Rattle.std.proofs.Common.{List, map, refl, sym, subst}
 use Rattle.bg_index.specs.declared.entries.Index.{Index}
 use Rattle.bg_index.specs.declared.entries.NodeEntry.{NodeEntry}
-use Rattle.bg_index.specs.Commits.{AreEdgesAfter, AreFrom, AreHeld, AreNodesAfter, AreRoomy, HasMore, IsTakenOut, control_key}
+use Rattle.bg_index.specs.Commits.{AreBeside, AreEdgesAfter, AreFrom, AreHeld, AreNodesAfter, AreRoomy, HasMore, IsNameBundled, IsTakenOut, control_key}
 use Rattle.bg_index.specs.Indexed.{host_of}
 use Rattle.bg_index.specs.Plans.{new_rows}
-use Rattle.bg_index.proofs.CarryLaws.{carried, index_held, index_roomy}
+use Rattle.bg_index.proofs.CarryLaws.{carried, edges_take, index_held, index_roomy, names_take}
 use Rattle.bg_index.proofs.CommitControlLaws.{roomy_out}
 use Rattle.bg_index.proofs.IndexLaws.{edges_up}
 use Rattle.bg_index.proofs.KeyLaws.{from_ascends}
@@ -31,6 +31,12 @@ change_nodes-requires-clause-held c = index_held c.args.index.now c.requires.ind
 pub change_links-requires-clause-ascending : goal.change_links-requires-clause-ascending
 change_links-requires-clause-ascending c = edges_up c.args.index.now c.requires.index (host_of c.args.index.now) refl
 
+pub change_links-requires-clause-edges_take : goal.change_links-requires-clause-edges_take
+change_links-requires-clause-edges_take c = edges_take c.args.index.now c.args.plan c.requires.room c.requires.ready
+
+pub change_links-requires-clause-names_take : goal.change_links-requires-clause-names_take
+change_links-requires-clause-names_take c = names_take c.args.index.now c.args.plan c.requires.room c.requires.ready
+
 pub returns : goal.returns
 returns c =
     let new : Index = record {
@@ -53,6 +59,10 @@ returns c =
     (subst (λ moves. AreNodesAfter c.args.index.now.nodes c.args.index.now.slots.items c.deref-4.result.now moves c.args.plan.nests.items c.args.plan.entries.items
     c.change_nodes.new.nodes c.change_nodes.new.slots.items) c.deref-5.ensures.value c.change_nodes.ensures.nodes))
     c.change_nodes.ensures.regions
-    (subst (λ idle. AreEdgesAfter c.args.index.now.edges.items idle c.args.plan.bundles.items c.args.plan.used.items c.change_links.new.edges.items)
-    c.deref-6.ensures.value c.change_links.ensures.edges)
-    c.change_links.ensures.names refl refl refl
+    (subst (λ idle. AreEdgesAfter c.args.index.now.edges.items idle c.args.plan.gone.items c.args.plan.bundles.items c.args.plan.used.items c.change_links.new.edges.items)
+    c.deref-6.ensures.value
+    (subst (λ gone. AreEdgesAfter c.args.index.now.edges.items c.deref-6.result.now gone c.args.plan.bundles.items c.args.plan.used.items c.change_links.new.edges.items)
+    c.deref-7.ensures.value c.change_links.ensures.edges))
+    (subst (λ gone. AreBeside (IsNameBundled gone c.args.plan.bundles.items) c.args.index.now.names.items c.change_links.new.names.items) c.deref-7.ensures.value
+    c.change_links.ensures.names)
+    refl refl refl
