@@ -1,7 +1,10 @@
 pub mod Apart
 pub mod Behind
 pub mod Faults
+pub mod Framing
 pub mod InPlace
 pub mod Moved
+pub mod Operated
+pub mod Put
+pub mod Stacked
 pub mod Trees
-pub mod Turned

@@ -33,7 +33,7 @@ use Rattle.bg_algebra.proofs.Beside.{apart_names}
 use Rattle.bg_base.specs.Composition.{inner_names}
 use Rattle.bg_base.specs.Products.{inner_closed}
 use Rattle.bg_builder.specs.Inside.{inner_by}
-use Rattle.bg_builder.specs.Parts.{inner_row, inner_rows}
+use Rattle.bg_builder.specs.Frames.{inner_row, inner_rows}
 
 -- ---- outer names
 
@@ -51,6 +51,14 @@ names_in_tree names keys up keys_up same =
     same_ascending (Less-not_back name_cmp_total) keys names (Ascending-from_sorted keys keys_up) (Ascending-from_sorted names up)
     (λ x m. member_from_any x names (sym (same x) ∙ any_from_member x keys m))
     (λ x m. member_from_any x keys (same x ∙ any_from_member x names m))
+
+-- a tree with the names of a list has their set
+pub set_in_tree : (names keys : List Name) → IsStrictlySortedBy name_cmp keys
+    → ((q : Name) → list_any (eq_by_cmp name_cmp q) keys ≡ list_any (eq_by_cmp name_cmp q) names) → keys ≡ set_of name_cmp names
+set_in_tree names keys up same =
+    sym (set_of-same name_cmp_total same_name names keys (Ascending-from_sorted keys up)
+    (λ x m. member_from_any x keys (same x ∙ any_from_member x names m))
+    (λ x m. member_from_any x names (sym (same x) ∙ any_from_member x keys m)))
 
 -- a tree with the names of both has their set
 pub names_of_both : (xs ys keys : List Name) → IsStrictlySortedBy name_cmp keys → IsUnion (eq_by_cmp name_cmp) xs ys keys → keys ≡ set_of name_cmp (xs ++ ys)

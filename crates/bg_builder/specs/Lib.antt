@@ -1,4 +1,4 @@
-pub mod Numbers
-pub mod Parts
-pub mod Inside
 pub mod Behind
+pub mod Frames
+pub mod Inside
+pub mod Numbers

@@ -1,65 +1,53 @@
-//! A name of a bigraph in the making closed.
-ghost use Rattle.std.specs.Prelude.{◌≡◌, ◌∷◌, true, IfOk};
+//! A name of the topmost bigraph of a stack closed.
+ghost use Rattle.std.specs.Prelude.{◌≡◌, ◌≤◌, ◌∷◌, ◌++◌, true, length, take, drop, reverse, IfOk, OnOk};
 ghost use Rattle.bg_base.specs.Bigraph.{IsValid};
 ghost use Rattle.bg_base.specs.Products as product;
-ghost use Rattle.bg_builder.specs.Behind as behind;
-ghost use Rattle.bg_builder.specs.Numbers as numbers;
-ghost use Rattle.bg_builder.specs.Parts.{big_of};
+ghost use Rattle.bg_builder.specs.Frames.{rows_of, below, top_of, AreKept, IsWithin, IsLaid, stack_of, IsStack};
+ghost use Rattle.bg_builder.specs.Numbers.{top, under, top_behind, lies_behind};
 
-use crate::Builder;
-use crate::conditions::has_outer;
-use crate::inside::close_rows;
-use crate::parts::Parts;
+use crate::frames::{Frame, put_one, take_one};
+use crate::lists::Lists;
 use crate::tables::{inner_closed, names_without};
-use bg_algebra::AlgebraFault;
+use crate::tails::close_nodes;
 use bg_base::Name;
 use bg_lists::Mem;
 use std::alloc::Global;
 
-impl Builder {
-    ghost use Rattle.std.specs.Prelude.{◌≡◌, ◌↔◌, true, List, [], ◌∷◌, IsSome, IsNone, IfOk, IfErr, OnOk, IsErrOf, Contains};
-    ghost use Rattle.bg_base.specs.Bigraph.{outer_of};
-    ghost use Rattle.bg_base.specs.Products as product;
-    ghost use Rattle.bg_builder.specs.Numbers as numbers;
-
-    /// The bigraph with the outer name made the edge `edge` (Milner, chapter 3: closure). What was tied to the name is
-    /// tied to the edge, which is there also where nothing was. The edges of this bigraph lie behind that one. It
-    /// refuses by `NoSuchName`, number 16, where the name is no outer name. Costs time in proportion to the bigraph;
-    /// rows that the name is not tied to stay as they are.
-    pub fn close(self, alloc: Global, name: &Name, edge: u32) -> Result<Builder, AlgebraFault>
-        requires new { numbers.lies_behind edge self ≡ true }
-        ensures closed { IfOk result (λ whole. whole ≡ product.close self name.now edge) }
-        ensures defined { OnOk result (IsSome (outer_of self.outer name.now)) }
-        ensures name_there { IsErrOf result AlgebraFault.NoSuchName ↔ IsNone (outer_of self.outer name.now) }
-        ensures no_other { IfErr result (λ fault. Contains (AlgebraFault.NoSuchName ∷ AlgebraFault.OutOfMemory ∷ []) fault) }
-    {
-        let Builder { parts: f } = self;
-        if !has_outer(&f, name) {
-            return Err(AlgebraFault::NoSuchName);
-        }
-        Ok(close_whole(alloc, f, name, edge)?)
-    }
+/// The topmost bigraph with the name made the edge, in its place.
+#[tactic(auto, using(crate::proofs::Stacked::one_there))]
+pub(crate) fn put_closed(
+    alloc: Global,
+    lists: &mut Lists,
+    frames: &mut Vec<Frame>,
+    name: &Name,
+    edge: u32,
+) -> Mem<()>
+    requires kept { AreKept (rows_of lists.old) (reverse frames.old.items) }
+    requires new { top_behind edge (stack_of lists.old frames.old.items) ≡ true }
+    ensures { OnOk result (IsStack lists.new frames.new.items
+        (product.close (top (stack_of lists.old frames.old.items)) name.now edge ∷ under (stack_of lists.old frames.old.items))) }
+{
+    let Some(f) = take_one(frames) else {
+        unreachable!();
+    };
+    let whole = closed(alloc, lists, f, name, edge)?;
+    put_one(frames, whole)?;
+    Ok(())
 }
 
-/// The bigraph with the name closed.
-fn close_whole(alloc: Global, f: Parts, name: &Name, edge: u32) -> Mem<Builder>
-    requires valid { IsValid (big_of f) }
-    requires new { numbers.lies_behind edge (big_of f) ≡ true }
-    ensures { IfOk result (λ whole. whole ≡ product.close (big_of f) name.now edge) }
+/// The topmost bigraph with the name made the edge, in front of all edges.
+fn closed(alloc: Global, lists: &mut Lists, f: Frame, name: &Name, edge: u32) -> Mem<Frame>
+    requires within { IsWithin (rows_of lists.old) f }
+    requires valid { IsValid (top_of (rows_of lists.old) f) }
+    requires new { lies_behind edge (top_of (rows_of lists.old) f) ≡ true }
+    ensures { IfOk result (λ whole. IsLaid (rows_of lists.new) whole (below (rows_of lists.old) f)
+        (product.close (top_of (rows_of lists.old) f) name.now edge)) }
 {
-    let parts = closed(alloc, f, name, edge)?;
-    let whole = Builder::from_parts(parts)?;
-    Ok(whole)
-}
-
-/// The parts with the name made the edge, in front of all edges.
-fn closed(alloc: Global, mut f: Parts, name: &Name, edge: u32) -> Mem<Parts>
-    ensures { IfOk result (λ whole. big_of whole ≡ behind.closed name.now edge (big_of f)) }
-{
-    close_rows(alloc, f.nodes.as_mut_slice(), name, edge)?;
-    Ok(Parts {
+    close_nodes(alloc, &mut lists.nodes, f.nodes, name, edge)?;
+    put_edge(&mut lists.edges, f.edges, edge)?;
+    Ok(Frame {
         nodes: f.nodes,
-        edges: in_front(edge, f.edges)?,
+        edges: f.edges,
         sites: f.sites,
         inner: inner_closed(alloc, f.inner, name, edge)?,
         outer: names_without(f.outer, name),
@@ -67,10 +55,11 @@ fn closed(alloc: Global, mut f: Parts, name: &Name, edge: u32) -> Mem<Parts>
     })
 }
 
-/// The edges with that one in front.
-fn in_front(edge: u32, mut edges: Vec<u32>) -> Mem<Vec<u32>>
-    ensures { IfOk result (λ made. made.items ≡ edge ∷ edges.items) }
+/// Puts the edge in front of those from that place on.
+fn put_edge(edges: &mut Vec<u32>, start: usize, edge: u32) -> Mem<()>
+    requires within { start ≤ length edges.old.items }
+    ensures { OnOk result (edges.new.items ≡ take start edges.old.items ++ edge ∷ drop start edges.old.items) }
 {
-    edges.insert(0, edge)?;
-    Ok(edges)
+    edges.insert(start, edge)?;
+    Ok(())
 }

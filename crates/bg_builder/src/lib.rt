@@ -1,23 +1,26 @@
-//! A valid bigraph that others are put to in place, so that a chain of many small operands costs no more than their
-//! rows.
+//! Bigraphs in the making on a stack, where the two topmost ones are put together in place: a chain of many small operands
+//! costs no more than their rows.
 //!
-//! - [`Builder`]: the bigraph in the making. `of` begins with one, `finish` gives it as lists of rows.
-//! - `compose`, `tensor`, `parallel`, `merge`, `nest`, `close`: what `bg_algebra` gives, where the numbers of the right
-//!   operand follow those of the left one (`follows`), or the edges lie behind the one that closes (`lies_behind`).
+//! - [`BigStack`]: the stack. `push`, `push_ion` and `push_atom` put a bigraph on top, `finish` gives the topmost one.
+//! - `compose`, `tensor`, `parallel`, `merge`, `nest`, `close`: what `bg_algebra` gives, where the numbers of the topmost
+//!   bigraph follow those of the second one (`two_follow`), or its edges lie behind the one that closes
+//!   (`lies_behind`).
 //! - [`compose`]: the composition of two bigraphs whose numbers lie in any order.
 #![tactic(auto)]
 
-mod appending;
-mod builder;
+mod big_stack;
 mod closing;
 mod composing;
 mod composition;
-mod conditions;
+mod finishing;
+mod frames;
 mod inside;
+mod lists;
 mod numbering;
-mod parts;
 mod products;
+mod pushing;
 mod tables;
+mod tails;
 
-pub use builder::Builder;
+pub use big_stack::BigStack;
 pub use composition::compose;

@@ -1,33 +1,57 @@
-//! Whether the numbers of one bigraph follow those of another, by their first and last rows.
-ghost use Rattle.std.specs.Prelude.{◌≡◌, option_copied, slice_get};
+//! Whether the numbers of the bigraphs on a stack follow each other, by their first and last rows.
+ghost use Rattle.std.specs.Prelude.{◌≡◌, ◌≤◌, option_copied, reverse, slice_get};
+ghost use Rattle.bg_builder.specs.Frames.{rows_of, below, top_of, bigs_of, AreKept, IsWithin, stack_of};
 ghost use Rattle.bg_builder.specs.Numbers as numbers;
 
-use crate::Builder;
+use crate::frames::Frame;
+use crate::lists::Lists;
+use crate::tails::items_between;
 use bg_base::NodeRow;
 
-impl Builder {
-    ghost use Rattle.std.specs.Prelude.{◌≡◌};
-    ghost use Rattle.bg_builder.specs.Numbers as numbers;
-
-    /// Whether the numbers of the nodes and edges of `right` lie behind those of this bigraph, so that no node and no
-    /// edge is in both. Takes constant time.
-    pub fn follows(&self, right: &Builder) -> bool
-        ensures { result ≡ numbers.follows self.now right.now }
-    {
-        let f = &self.parts;
-        let g = &right.parts;
-        nodes_follow(&f.nodes, &g.nodes) && is_below(f.edges.last(), g.edges.first())
+/// Whether there are two, and the numbers of the topmost one follow those of the second.
+pub(crate) fn two_follow(lists: &Lists, frames: &Vec<Frame>) -> bool
+    requires kept { AreKept (rows_of lists.now) (reverse frames.now.items) }
+    ensures { result ≡ numbers.two_follow (stack_of lists.now frames.now.items) }
+{
+    match frames.as_slice() {
+        [.., f, g] => these_follow(lists, f, g),
+        _ => false,
     }
+}
 
-    /// Whether the numbers of the edges of this bigraph lie behind that one. Takes constant time.
-    pub fn lies_behind(&self, edge: u32) -> bool
-        ensures { result ≡ numbers.lies_behind edge self.now }
-    {
-        let f = &self.parts;
-        match f.edges.first() {
-            Some(other) => edge < *other,
-            None => true,
-        }
+/// Whether the numbers of the topmost bigraph follow those of the second.
+fn these_follow(lists: &Lists, f: &Frame, g: &Frame) -> bool
+    requires g_within { IsWithin (rows_of lists.now) g.now }
+    requires f_within { IsWithin (below (rows_of lists.now) g.now) f.now }
+    ensures { result ≡ numbers.follows (top_of (below (rows_of lists.now) g.now) f.now) (top_of (rows_of lists.now) g.now) }
+{
+    let left = items_between(&lists.nodes, f.nodes, g.nodes);
+    let (_, right) = lists.nodes.as_slice().split_at(g.nodes);
+    let left_edges = items_between(&lists.edges, f.edges, g.edges);
+    let (_, right_edges) = lists.edges.as_slice().split_at(g.edges);
+    nodes_follow(left, right) && is_below(left_edges.last(), right_edges.first())
+}
+
+/// Whether there is one, and its edges lie behind that one.
+pub(crate) fn top_behind(lists: &Lists, frames: &Vec<Frame>, edge: u32) -> bool
+    requires kept { AreKept (rows_of lists.now) (reverse frames.now.items) }
+    ensures { result ≡ numbers.top_behind edge (stack_of lists.now frames.now.items) }
+{
+    match frames.as_slice() {
+        [.., f] => lies_behind(lists, f, edge),
+        _ => false,
+    }
+}
+
+/// Whether the edges of the topmost bigraph lie behind that one.
+fn lies_behind(lists: &Lists, f: &Frame, edge: u32) -> bool
+    requires within { IsWithin (rows_of lists.now) f.now }
+    ensures { result ≡ numbers.lies_behind edge (top_of (rows_of lists.now) f.now) }
+{
+    let (_, edges) = lists.edges.as_slice().split_at(f.edges);
+    match edges.first() {
+        Some(other) => edge < *other,
+        None => true,
     }
 }
 

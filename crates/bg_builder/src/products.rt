@@ -1,129 +1,113 @@
-//! Products of bigraphs in the making: side by side, with names apart or shared, and in one region.
-ghost use Rattle.std.specs.Prelude.{◌≡◌, ◌↔◌, ◌+◌, ◌<◌, ◌^◌, true, IsTrue, IfOk};
-ghost use Rattle.bg_base.specs.Bigraph.{IsValid};
+//! Products of the two topmost bigraphs of a stack: side by side, with names apart or shared, and in one region.
+ghost use Rattle.std.specs.Prelude.{◌≡◌, ◌∷◌, true, reverse, IfOk, OnOk};
 ghost use Rattle.bg_base.specs.Products as product;
-ghost use Rattle.bg_builder.specs.Numbers as numbers;
-ghost use Rattle.bg_builder.specs.Parts.{big_of};
+ghost use Rattle.bg_builder.specs.Frames.{rows_of, below, top_of, AreKept, AreTwo, AreInOne, IsLaid, stack_of, IsStack};
+ghost use Rattle.bg_builder.specs.Numbers.{top, second, others, two_follow};
 
-use crate::Builder;
-use crate::appending::{appended, in_one_region, raised};
-use crate::conditions::{inner_apart, outer_apart};
-use crate::parts::Parts;
-use bg_algebra::AlgebraFault;
-use bg_lists::Mem;
+use crate::frames::{Frame, put_one, take_two};
+use crate::lists::Lists;
+use crate::tables::{inner_of_both, outer_of_both};
+use crate::tails::{merge_nodes, merge_sites, raise_nodes, raise_sites};
+use bg_lists::{Mem, OutOfMemory};
 
-impl Builder {
-    ghost use Rattle.std.specs.Prelude.{◌≡◌, ◌↔◌, ◌+◌, ◌<◌, ◌^◌, true, List, [], ◌∷◌, length, IfOk, IfErr, OnOk, IsErrOf, Contains};
-    ghost use Rattle.bg_base.specs.Products as product;
-    ghost use Rattle.bg_builder.specs.Numbers as numbers;
+/// The parallel product of the two topmost bigraphs in their place.
+#[tactic(auto, using(crate::proofs::Stacked::two_there, crate::proofs::Stacked::two_of))]
+pub(crate) fn put_parallel(lists: &mut Lists, frames: &mut Vec<Frame>) -> Mem<()>
+    requires kept { AreKept (rows_of lists.old) (reverse frames.old.items) }
+    requires follow { two_follow (stack_of lists.old frames.old.items) ≡ true }
+    requires inner { product.InnerApart (second (stack_of lists.old frames.old.items)) (top (stack_of lists.old frames.old.items)) }
+    ensures { OnOk result (IsStack lists.new frames.new.items
+        (product.parallel (second (stack_of lists.old frames.old.items)) (top (stack_of lists.old frames.old.items)) ∷ others (stack_of lists.old frames.old.items))) }
+{
+    let Some((f, g)) = take_two(frames) else {
+        unreachable!();
+    };
+    let whole = beside(lists, f, g)?;
+    put_one(frames, whole)?;
+    Ok(())
+}
 
-    /// The tensor product (Milner, chapter 2): `right` beside this bigraph, its regions and sites after those of this
-    /// one; no name is in both. The numbers of `right` follow those of this bigraph. It refuses by `NamesMeet`, number
-    /// 13, where an inner name is in both or an outer name is in both. The regions of both are to be fewer than 32 bits
-    /// can number. Costs time in proportion to `right`, and for each of its names the logarithm of the number of names
-    /// of this bigraph.
-    pub fn tensor(self, right: Builder) -> Result<Builder, AlgebraFault>
-        requires follows { numbers.follows self right ≡ true }
-        requires regions { self.regions + right.regions < 2 ^ 32 }
-        ensures product { IfOk result (λ whole. whole ≡ product.tensor self right) }
-        ensures defined { OnOk result (product.InnerApart self right × product.OuterApart self right) }
-        ensures names { IsErrOf result AlgebraFault.NamesMeet ↔ ¬ (product.InnerApart self right × product.OuterApart self right) }
-        ensures no_other { IfErr result (λ fault. Contains (AlgebraFault.NamesMeet ∷ AlgebraFault.OutOfMemory ∷ []) fault) }
-    {
-        let Builder { parts: f } = self;
-        let Builder { parts: g } = right;
-        if !names_apart(&f, &g) {
-            return Err(AlgebraFault::NamesMeet);
-        }
-        Ok(tensor_whole(f, g)?)
+/// The tensor product of the two topmost bigraphs in their place.
+pub(crate) fn put_tensor(lists: &mut Lists, frames: &mut Vec<Frame>) -> Mem<()>
+    requires kept { AreKept (rows_of lists.old) (reverse frames.old.items) }
+    requires follow { two_follow (stack_of lists.old frames.old.items) ≡ true }
+    requires inner { product.InnerApart (second (stack_of lists.old frames.old.items)) (top (stack_of lists.old frames.old.items)) }
+    requires outer { product.OuterApart (second (stack_of lists.old frames.old.items)) (top (stack_of lists.old frames.old.items)) }
+    ensures { OnOk result (IsStack lists.new frames.new.items
+        (product.tensor (second (stack_of lists.old frames.old.items)) (top (stack_of lists.old frames.old.items)) ∷ others (stack_of lists.old frames.old.items))) }
+{
+    put_parallel(lists, frames)?;
+    Ok(())
+}
+
+/// The second bigraph with the topmost one beside it.
+fn beside(lists: &mut Lists, f: Frame, g: Frame) -> Mem<Frame>
+    requires two { AreTwo (rows_of lists.old) g f }
+    requires inner { product.InnerApart (top_of (below (rows_of lists.old) g) f) (top_of (rows_of lists.old) g) }
+    ensures { IfOk result (λ whole. IsLaid (rows_of lists.new) whole (below (below (rows_of lists.old) g) f)
+        (product.parallel (top_of (below (rows_of lists.old) g) f) (top_of (rows_of lists.old) g))) }
+{
+    let Some(regions) = f.regions.checked_add(g.regions) else {
+        return Err(OutOfMemory);
+    };
+    raise_nodes(&mut lists.nodes, g.nodes, f.regions);
+    raise_sites(&mut lists.sites, g.sites, f.regions);
+    Ok(Frame {
+        nodes: f.nodes,
+        edges: f.edges,
+        sites: f.sites,
+        inner: inner_of_both(f.inner, g.inner)?,
+        outer: outer_of_both(f.outer, g.outer)?,
+        regions,
+    })
+}
+
+/// The merge product of the two topmost bigraphs in their place.
+#[tactic(auto, using(crate::proofs::Stacked::two_there, crate::proofs::Stacked::two_of))]
+pub(crate) fn put_merged(lists: &mut Lists, frames: &mut Vec<Frame>) -> Mem<()>
+    requires kept { AreKept (rows_of lists.old) (reverse frames.old.items) }
+    requires follow { two_follow (stack_of lists.old frames.old.items) ≡ true }
+    requires inner { product.InnerApart (second (stack_of lists.old frames.old.items)) (top (stack_of lists.old frames.old.items)) }
+    ensures { OnOk result (IsStack lists.new frames.new.items
+        (product.merge (second (stack_of lists.old frames.old.items)) (top (stack_of lists.old frames.old.items)) ∷ others (stack_of lists.old frames.old.items))) }
+{
+    let Some((f, g)) = take_two(frames) else {
+        unreachable!();
+    };
+    let whole = in_one(lists, f, g)?;
+    put_one(frames, whole)?;
+    Ok(())
+}
+
+/// The second bigraph and the topmost one in one region.
+fn in_one(lists: &mut Lists, f: Frame, g: Frame) -> Mem<Frame>
+    requires two { AreTwo (rows_of lists.old) g f }
+    requires inner { product.InnerApart (top_of (below (rows_of lists.old) g) f) (top_of (rows_of lists.old) g) }
+    ensures { IfOk result (λ whole. IsLaid (rows_of lists.new) whole (below (below (rows_of lists.old) g) f)
+        (product.merge (top_of (below (rows_of lists.old) g) f) (top_of (rows_of lists.old) g))) }
+{
+    merge_regions(lists, &f, &g);
+    Ok(Frame {
+        nodes: f.nodes,
+        edges: f.edges,
+        sites: f.sites,
+        inner: inner_of_both(f.inner, g.inner)?,
+        outer: outer_of_both(f.outer, g.outer)?,
+        regions: 1,
+    })
+}
+
+/// Puts the roots and sites of both into region 0. Leaves the rows of the second one alone where it has one region, and
+/// all where each has.
+fn merge_regions(lists: &mut Lists, f: &Frame, g: &Frame)
+    requires two { AreTwo (rows_of lists.old) g.now f.now }
+    ensures { AreInOne (rows_of lists.old) g.now f.now (rows_of lists.new) }
+{
+    if f.regions != 1 {
+        merge_nodes(&mut lists.nodes, f.nodes);
+        merge_sites(&mut lists.sites, f.sites);
+    } else if g.regions != 1 {
+        merge_nodes(&mut lists.nodes, g.nodes);
+        merge_sites(&mut lists.sites, g.sites);
     }
-
-    /// The parallel product (Milner, chapter 3): `right` beside this bigraph as in the tensor product, where an outer
-    /// name that both have is one name. The numbers of `right` follow those of this bigraph. It refuses by
-    /// `InnerNamesMeet`, number 14, where an inner name is in both. It asks as much of their regions, and costs as
-    /// much, as [`Builder::tensor`] does.
-    pub fn parallel(self, right: Builder) -> Result<Builder, AlgebraFault>
-        requires follows { numbers.follows self right ≡ true }
-        requires regions { self.regions + right.regions < 2 ^ 32 }
-        ensures product { IfOk result (λ whole. whole ≡ product.parallel self right) }
-        ensures defined { OnOk result (product.InnerApart self right) }
-        ensures names { IsErrOf result AlgebraFault.InnerNamesMeet ↔ ¬ product.InnerApart self right }
-        ensures no_other { IfErr result (λ fault. Contains (AlgebraFault.InnerNamesMeet ∷ AlgebraFault.OutOfMemory ∷ []) fault) }
-    {
-        let Builder { parts: f } = self;
-        let Builder { parts: g } = right;
-        if !inner_apart(&f, &g) {
-            return Err(AlgebraFault::InnerNamesMeet);
-        }
-        Ok(parallel_whole(f, g)?)
-    }
-
-    /// The merge product (Milner, chapter 3): the parallel product with one region in place of all, also where there
-    /// was none. The numbers of `right` follow those of this bigraph. It refuses as [`Builder::parallel`] does. Costs
-    /// time in proportion to `right`, and for each of its names the logarithm of the number of names of this bigraph;
-    /// where this bigraph has not one region, in proportion to its nodes and sites too.
-    pub fn merge(self, right: Builder) -> Result<Builder, AlgebraFault>
-        requires follows { numbers.follows self right ≡ true }
-        ensures product { IfOk result (λ whole. whole ≡ product.merge self right) }
-        ensures defined { OnOk result (product.InnerApart self right) }
-        ensures names { IsErrOf result AlgebraFault.InnerNamesMeet ↔ ¬ product.InnerApart self right }
-        ensures no_other { IfErr result (λ fault. Contains (AlgebraFault.InnerNamesMeet ∷ AlgebraFault.OutOfMemory ∷ []) fault) }
-    {
-        let Builder { parts: f } = self;
-        let Builder { parts: g } = right;
-        if !inner_apart(&f, &g) {
-            return Err(AlgebraFault::InnerNamesMeet);
-        }
-        Ok(merge_whole(f, g)?)
-    }
-}
-
-/// Whether no inner name and no outer name is in both.
-fn names_apart(f: &Parts, g: &Parts) -> bool
-    ensures { IsTrue result ↔ (product.InnerApart (big_of f.now) (big_of g.now) × product.OuterApart (big_of f.now) (big_of g.now)) }
-{
-    inner_apart(f, g) && outer_apart(f, g)
-}
-
-/// The tensor product where it is defined.
-fn tensor_whole(f: Parts, g: Parts) -> Mem<Builder>
-    requires f_valid { IsValid (big_of f) }
-    requires g_valid { IsValid (big_of g) }
-    requires follows { numbers.follows (big_of f) (big_of g) ≡ true }
-    requires regions { f.regions + g.regions < 2 ^ 32 }
-    requires inner { product.InnerApart (big_of f) (big_of g) }
-    requires outer { product.OuterApart (big_of f) (big_of g) }
-    ensures { IfOk result (λ whole. whole ≡ product.tensor (big_of f) (big_of g)) }
-{
-    let whole = parallel_whole(f, g)?;
-    Ok(whole)
-}
-
-/// The parallel product where it is defined.
-fn parallel_whole(f: Parts, g: Parts) -> Mem<Builder>
-    requires f_valid { IsValid (big_of f) }
-    requires g_valid { IsValid (big_of g) }
-    requires follows { numbers.follows (big_of f) (big_of g) ≡ true }
-    requires regions { f.regions + g.regions < 2 ^ 32 }
-    requires inner { product.InnerApart (big_of f) (big_of g) }
-    ensures { IfOk result (λ whole. whole ≡ product.parallel (big_of f) (big_of g)) }
-{
-    let width = f.regions;
-    let regions = width + g.regions;
-    let parts = appended(f, raised(g, width), regions)?;
-    let whole = Builder::from_parts(parts)?;
-    Ok(whole)
-}
-
-/// The merge product where it is defined.
-fn merge_whole(f: Parts, g: Parts) -> Mem<Builder>
-    requires f_valid { IsValid (big_of f) }
-    requires g_valid { IsValid (big_of g) }
-    requires follows { numbers.follows (big_of f) (big_of g) ≡ true }
-    requires inner { product.InnerApart (big_of f) (big_of g) }
-    ensures { IfOk result (λ whole. whole ≡ product.merge (big_of f) (big_of g)) }
-{
-    let parts = appended(in_one_region(f), in_one_region(g), 1)?;
-    let whole = Builder::from_parts(parts)?;
-    Ok(whole)
 }

@@ -16,11 +16,11 @@ ghost use Rattle.bg_base.specs.declared.names.Name.{Name as NameOf};
 ghost use Rattle.bg_base.specs.declared.big.InnerRow.{InnerRow as RowOfInner};
 ghost use Rattle.bg_lists.specs.Lists.{sort};
 ghost use Rattle.bg_lists.specs.Orders.{before, set_of};
-ghost use Rattle.bg_builder.specs.Parts.{inner_rows};
+ghost use Rattle.bg_builder.specs.Frames.{inner_rows};
 
 use crate::inside::{close_inner, link_inner};
 use bg_base::{InnerRow, Link, Name};
-use bg_lists::Mem;
+use bg_lists::{Mem, copies};
 use std::alloc::{AllocError, Global};
 use std::cmp::Ordering;
 use std::collections::{BTreeMap, BTreeSet};
@@ -31,6 +31,14 @@ pub(crate) fn outer_tree(alloc: Global, names: Vec<Name>) -> Mem<BTreeSet<Name>>
     ensures { IfOk result (λ tree. tree.keys ≡ names.items) }
 {
     let tree = tree_of_names(alloc, names)?;
+    Ok(tree)
+}
+
+/// The names in a search tree, each once. Copies them; costs time n log n in their number.
+pub(crate) fn name_tree(alloc: Global, names: &[Name]) -> Mem<BTreeSet<Name>>
+    ensures { IfOk result (λ tree. tree.keys ≡ set_of name_cmp names.now) }
+{
+    let tree = tree_of_names(alloc, copies(alloc, names)?)?;
     Ok(tree)
 }
 
@@ -149,44 +157,6 @@ fn no_name_in(first: &BTreeSet<Name>, second: &BTreeSet<Name>) -> bool
     ensures { result ≡ list_all (λ (name : NameOf). not (set.contains name_cmp first.now name)) second.now.keys }
 {
     second.iter().all(|name| !first.contains(name))
-}
-
-/// The one list after the other, in the memory of the longer one.
-pub(crate) fn joined<T: Drop>(first: Vec<T>, second: Vec<T>) -> Mem<Vec<T>>
-    ensures { IfOk result (λ whole. whole.items ≡ first.items ++ second.items) }
-{
-    if first.len() < second.len() {
-        put_in_front(first, second)
-    } else {
-        put_behind(first, second)
-    }
-}
-
-/// The one list after the other. Moves the items of the second.
-fn put_behind<T: Drop>(mut first: Vec<T>, mut second: Vec<T>) -> Mem<Vec<T>>
-    ensures { IfOk result (λ whole. whole.items ≡ first.items ++ second.items) }
-{
-    first.append(&mut second)?;
-    Ok(first)
-}
-
-/// The one list after the other. Moves the items of the first, and shifts those of the second.
-#[tactic(auto, using(crate::proofs::Turned::turned_back))]
-fn put_in_front<T: Drop>(mut first: Vec<T>, mut second: Vec<T>) -> Mem<Vec<T>>
-    ensures { IfOk result (λ whole. whole.items ≡ first.items ++ second.items) }
-{
-    let count = second.len();
-    second.append(&mut first)?;
-    Ok(turned(second, count))
-}
-
-/// The items from that place on, and then those before it.
-fn turned<T: Drop>(mut items: Vec<T>, place: usize) -> Vec<T>
-    requires { place ≤ length items.items }
-    ensures { result.items ≡ drop place items.items ++ take place items.items }
-{
-    items.as_mut_slice().rotate_left(place);
-    items
 }
 
 /// Whether the names are the inner names.

@@ -2,7 +2,6 @@ mod Bindings
 mod Follow
 mod Runs
 pub mod Conditions
-mod Told
 pub mod Counting
 pub mod Calls
 pub mod Endings

@@ -5,7 +5,7 @@ use Rattle.bg_base.specs.declared.signature.Control.{Control}
 use Rattle.bg_values.specs.declared.refusal.Refusal.{Refusal}
 use Rattle.bg_values.specs.declared.refusal.Cause.TheVariants.{Unexpected}
 use Rattle.bg_values.specs.Outcome.{◌>>=◌, there_or}
-use Rattle.bg_values.specs.Stacks.{first}
+use Rattle.bg_builder.specs.Numbers.{first}
 use Rattle.bg_values.specs.Names.{Entry}
 use Rattle.bg_terms.specs.declared.shape.ControlEntry.{ControlEntry}
 use Rattle.bg_terms.specs.declared.shape.Shape.{Shape}

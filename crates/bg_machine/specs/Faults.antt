@@ -1,6 +1,5 @@
 -- What an operator tells of a fault of the algebra.
 use Rattle.std.specs.Prelude.{ℕ, Result, Ok, Err}
-use Rattle.bg_base.specs.declared.big.Big.{Big}
 use Rattle.bg_algebra.specs.declared.fault.AlgebraFault.{AlgebraFault}
 use Rattle.bg_algebra.specs.declared.fault.AlgebraFault.TheVariants as algebra
 use Rattle.bg_values.specs.declared.refusal.Cause.{Cause}
@@ -23,7 +22,7 @@ stop_for at algebra.SupportMeets = refused_by Unexpected at
 stop_for at algebra.NoSuchName = refused_by Unexpected at
 stop_for at algebra.OutOfMemory = OutOfMemory
 
--- the bigraph that was made, or what is told of the fault
-abbrev pub told : ℕ → Result Big AlgebraFault → Result Big Stop
-told at (Ok big) = Ok big
+-- what was made, or what is told of the fault
+abbrev pub told : {T : Type 0} → ℕ → Result T AlgebraFault → Result T Stop
+told at (Ok made) = Ok made
 told at (Err fault) = Err (stop_for at fault)

@@ -5,7 +5,7 @@ use Rattle.bg_base.specs.declared.big.Big.{Big}
 use Rattle.bg_base.specs.declared.labels.Value.{Value}
 use Rattle.bg_base.specs.declared.signature.Control.{Control}
 use Rattle.bg_base.specs.declared.names.Name.TheVariants.{Plain}
-use Rattle.bg_builder.specs.Numbers.{follows, lies_behind}
+use Rattle.bg_builder.specs.Numbers.{top, under, second, others, two_follow, top_behind}
 use Rattle.bg_code.specs.declared.operation.Operation.{Operation}
 use Rattle.bg_code.specs.declared.operation.Operation.TheVariants.{Node, Reference, Names, Identity, Merger, Barren, Empty, Count, Enter, Leave, Open, Close, Nest, Join}
 use Rattle.bg_machine.specs.States.{State, pushed, gone_on}
@@ -34,27 +34,28 @@ abbrev pub called : ℕ → Option Running → List Value → State → Result S
 called at (Some running) args s = running args s
 called at None args s = refused UnknownName at
 
--- a bigraph of two that follow each other, on top of what is below them
-abbrev pub joined_onto : ℕ → (Big → Big → Result Big Refusal) → State → Big → Big → Result State Refusal
-joined_onto at operation below f g =
-    if follows f g then pushed below (operation f g >>= λ big. within at big below.reached) else refused Unexpected at
-
--- a bigraph with its name closed by that edge, on top of what is below it
-abbrev pub closed_onto : ℕ → List ℕ → State → ℕ → Big → Result State Refusal
-closed_onto at word below edge big =
-    if lies_behind edge big then pushed below (within at (closed edge (Plain word) big) below.reached) else refused Unexpected at
+-- what is told where code is that of no expression
+abbrev pub unexpected : ℕ → Refusal
+unexpected at = record { cause = Unexpected; token = at }
 
 -- a bigraph of the two on top, in their place; the numbers of the one on top lie behind those of the other
 abbrev pub joined : ℕ → (Big → Big → Result Big Refusal) → State → Result State Refusal
 joined at operation s =
-    there_or Unexpected at (first s.stack) >>= λ g. there_or Unexpected at (first (rest s.stack)) >>= λ f.
-    joined_onto at operation (record s { stack = rest (rest s.stack) }) f g
+    if two_follow s.stack then
+      pushed (record s { stack = others s.stack }) (operation (second s.stack) (top s.stack) >>= λ big. within at big s.reached)
+    else refused Unexpected at
 
--- the bigraph on top with its name closed, by the edge of the innermost closure that is open; its edges lie behind that one
+-- the bigraph on top with its name closed by that edge, behind which its edges lie
+abbrev pub closing_by : ℕ → List ℕ → ℕ → State → Result State Refusal
+closing_by at word edge s =
+    if top_behind edge s.stack then
+      pushed (record s { stack = under s.stack }) (within at (closed edge (Plain word) (top s.stack)) s.reached)
+    else refused Unexpected at
+
+-- the same, by the edge of the innermost closure that is open
 abbrev pub closing : ℕ → List ℕ → State → Result State Refusal
 closing at word s =
-    there_or Unexpected at (first s.edges_open) >>= λ edge. there_or Unexpected at (first s.stack) >>= λ big.
-    closed_onto at word (record s { stack = rest s.stack; edges_open = rest s.edges_open }) edge big
+    there_or Unexpected at (first s.edges_open) >>= λ edge. closing_by at word edge (record s { edges_open = rest s.edges_open })
 
 -- a node of the control, which enters the signature where it is new
 abbrev pub node_made : ℕ → Control → List (List ℕ) → Reached → Come

@@ -1,8 +1,7 @@
 -- States of the machine that evaluates expressions.
-use Rattle.std.specs.Prelude.{ℕ, ◌≤◌, List, ◌∷◌, Result, Ok}
-use Rattle.bg_base.specs.Limits.{most_expression_places}
+use Rattle.std.specs.Prelude.{ℕ, List, ◌∷◌, Result, Ok}
 use Rattle.bg_base.specs.declared.big.Big.{Big}
-use Rattle.bg_base.specs.Bigraph.{IsValid}
+use Rattle.bg_builder.specs.Numbers.{top, second, others}
 use Rattle.bg_values.specs.declared.refusal.Refusal.{Refusal}
 use Rattle.bg_values.specs.Outcome.{◌>>=◌}
 use Rattle.bg_terms.specs.Values.{Reached, Come}
@@ -15,11 +14,6 @@ pub record State : Type 0 where
   pub depth : ℕ
   pub reached : Reached
 
--- a bigraph that may stand on the stack: valid, with at most 65,536 regions
-pub record IsHeld (big : Big) : Type 0 where
-  pub valid : IsValid big
-  pub few_regions : big.regions ≤ most_expression_places
-
 -- the bigraph on top of the stack, and what was reached
 abbrev pub pushed : State → Come → Result State Refusal
 pushed s come = come >>= λ v. Ok (record s { stack = v.0 ∷ s.stack; reached = v.1 })
@@ -27,3 +21,7 @@ pushed s come = come >>= λ v. Ok (record s { stack = v.0 ∷ s.stack; reached =
 -- the state with what was reached
 abbrev pub gone_on : State → Result Reached Refusal → Result State Refusal
 gone_on s reached = reached >>= λ c. Ok (record s { reached = c })
+
+-- what an operation makes of the two bigraphs on top, in their place
+abbrev pub of_two : (Big → Big → Result Big Refusal) → List Big → Result (List Big) Refusal
+of_two operation bigs = operation (second bigs) (top bigs) >>= λ big. Ok (big ∷ others bigs)

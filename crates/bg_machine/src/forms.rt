@@ -1,7 +1,7 @@
 //! The forms of the model language that have no operand.
-ghost use Rattle.std.specs.Prelude.{◌≡◌, true, IfOk};
+ghost use Rattle.std.specs.Prelude.{◌≡◌, ◌∷◌, true, Ok, Err, IfOk, OnOk, MatchResult};
 ghost use Rattle.bg_base.specs.Bigraph.{IsValid};
-ghost use Rattle.bg_builder.specs.Numbers.{lies_behind};
+ghost use Rattle.bg_builder.specs.Numbers.{top, under, top_behind};
 ghost use Rattle.bg_base.specs.Elementary as elementary;
 ghost use Rattle.bg_base.specs.Order.{name_cmp};
 ghost use Rattle.bg_lists.specs.Orders.{set_of};
@@ -9,30 +9,30 @@ ghost use Rattle.bg_base.specs.declared.names.Name.TheVariants as names;
 ghost use Rattle.bg_terms.specs.Values as definition;
 ghost use Rattle.bg_values.specs.Outcome.{Gives};
 
-use bg_algebra::{AlgebraFault, atom, identity, idle, ion, merger};
+use bg_algebra::{AlgebraFault, identity, idle, merger};
 use bg_base::limits::{MOST_EXPRESSION_EDGES, MOST_EXPRESSION_NODES, MOST_EXPRESSION_PLACES};
 use bg_base::{Big, Ident, Kind, Name};
-use bg_builder::Builder;
+use bg_builder::BigStack;
 use bg_link::name_set;
 use bg_lists::{Duplicate, Mem, OutOfMemory, Rows};
 use bg_values::{Cause, LimitWord, Refusal, Stop};
 use std::alloc::Global;
 
-/// The bigraph, where it is within the limits; else it is refused as `TooLarge` (52), with the first limit that it
+/// Whether the bigraph on top is within the limits; else the refusal as `TooLarge` (52), with the first limit that it
 /// exceeds. Takes constant time.
-pub(crate) fn limited(at: u32, big: Builder) -> Result<Builder, Refusal>
-    ensures { result ≡ definition.limited at big }
+pub(crate) fn test_limits(at: u32, stack: &BigStack) -> Result<(), Refusal>
+    ensures { let wanted = definition.limited at (top stack.now) in MatchResult result (λ _. wanted ≡ Ok (top stack.now)) (λ refusal. wanted ≡ Err refusal) }
 {
-    if big.nodes() > MOST_EXPRESSION_NODES {
+    if stack.nodes() > MOST_EXPRESSION_NODES as usize {
         return Err(Refusal::new(Cause::TooLarge(LimitWord::Nodes), at));
     }
-    if big.edges() > MOST_EXPRESSION_EDGES {
+    if stack.edges() > MOST_EXPRESSION_EDGES as usize {
         return Err(Refusal::new(Cause::TooLarge(LimitWord::Edges), at));
     }
-    if big.regions() > MOST_EXPRESSION_PLACES || big.sites() > MOST_EXPRESSION_PLACES {
+    if stack.regions() > MOST_EXPRESSION_PLACES || stack.sites() > MOST_EXPRESSION_PLACES as usize {
         return Err(Refusal::new(Cause::TooLarge(LimitWord::Places), at));
     }
-    Ok(big)
+    Ok(())
 }
 
 /// The names that the words are, in their order. Linear in them.
@@ -90,53 +90,42 @@ pub(crate) fn wide_merger(alloc: Global, at: u32, width: u64) -> Result<Big, Sto
     Ok(big)
 }
 
-/// A node of the control, with a site in it or, where the control is atomic, with nothing. Costs time n log n in its
-/// names.
-pub(crate) fn single(
+/// Puts a node of the control on top, with a site in it or, where the control is atomic, with nothing. Costs time n log n
+/// in its names.
+pub(crate) fn push_single(
     alloc: Global,
+    stack: &mut BigStack,
     kind: Kind,
     control: u32,
     node: u32,
     words: &Rows<Ident>,
-) -> Mem<Big>
-    ensures value { IfOk result (λ big. big ≡ definition.single kind control node (definition.plain_names words.now)) }
-    ensures valid { IfOk result IsValid }
+) -> Mem<()>
+    ensures { OnOk result (stack.new ≡ definition.single kind control node (definition.plain_names words.now) ∷ stack.old) }
 {
     let names = Rows::try_from_vec(plain_names(alloc, words.as_slice())?)?;
     match kind {
-        Kind::Normal => lone_ion(alloc, control, node, &names),
-        Kind::Atomic => lone_atom(alloc, control, node, &names),
+        Kind::Normal => stack.push_ion(alloc, control, node, names),
+        Kind::Atomic => stack.push_atom(alloc, control, node, names),
     }
 }
 
-fn lone_ion(alloc: Global, control: u32, node: u32, names: &Rows<Name>) -> Mem<Big>
-    ensures value { IfOk result (λ big. big ≡ elementary.ion control node names.now) }
-    ensures valid { IfOk result IsValid }
-{
-    let big = ion(alloc, control, node, names.as_slice())?;
-    Ok(big)
-}
-
-fn lone_atom(alloc: Global, control: u32, node: u32, names: &Rows<Name>) -> Mem<Big>
-    ensures value { IfOk result (λ big. big ≡ elementary.atom control node names.now) }
-    ensures valid { IfOk result IsValid }
-{
-    let big = atom(alloc, control, node, names.as_slice())?;
-    Ok(big)
-}
-
-/// `/x F`, by an edge that lies before those of F: F itself where it has no such outer name. Costs time in proportion
-/// to F.
-pub(crate) fn closed(alloc: Global, big: Builder, word: &Ident, edge: u32) -> Mem<Builder>
-    requires new { lies_behind edge big ≡ true }
-    ensures { IfOk result (λ whole. whole ≡ definition.closed edge (names.Plain word.now) big) }
+/// `/x F`, F on top, by an edge that lies before those of F: F itself where it has no such outer name. Costs time in
+/// proportion to F.
+pub(crate) fn close_name(
+    alloc: Global,
+    stack: &mut BigStack,
+    word: &Ident,
+    edge: u32,
+) -> Mem<()>
+    requires new { top_behind edge stack.old ≡ true }
+    ensures { OnOk result (stack.new ≡ definition.closed edge (names.Plain word.now) (top stack.old) ∷ under stack.old) }
 {
     let name = Name::Plain(word.copy(alloc)?);
-    if !big.has_outer(&name) {
-        return Ok(big);
+    if !stack.has_outer(&name) {
+        return Ok(());
     }
-    match big.close(alloc, &name, edge) {
-        Ok(whole) => Ok(whole),
+    match stack.close(alloc, &name, edge) {
+        Ok(()) => Ok(()),
         Err(AlgebraFault::OutOfMemory) => Err(OutOfMemory),
         Err(_) => unreachable!(),
     }

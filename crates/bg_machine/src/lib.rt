@@ -11,7 +11,6 @@ mod ending;
 mod entering;
 mod evaluation;
 mod forms;
-mod held;
 pub mod laws;
 mod machine;
 mod met;

@@ -1,13 +1,14 @@
 //! The state of the machine, and what each operation does with it.
 use crate::entering::enter;
-use crate::forms::{closed, idle_names, limited, single, wide_identity, wide_merger};
-use crate::held::Held;
+use crate::forms::{
+    close_name, idle_names, push_single, test_limits, wide_identity, wide_merger,
+};
 use crate::met::Met;
-use crate::operators::{combined, nested};
+use crate::operators::{combine, nest};
 use bg_algebra::{barren, empty};
 use bg_base::limits::{MOST_DEPTH, MOST_TERMS};
-use bg_base::{Big, Ident, Signature, Value};
-use bg_builder::Builder;
+use bg_base::{Big, Ident, Kind, Signature, Value};
+use bg_builder::BigStack;
 use bg_code::Arguments;
 use bg_lists::Rows;
 use bg_terms::{BinaryOperation, Shape};
@@ -20,7 +21,7 @@ use std::marker::Model;
 /// many nodes, closures and terms. Each node counts as a term, so there are at most as many.
 #[derive(Drop)]
 pub(crate) struct Machine {
-    stack: Stack<Held>,
+    stack: BigStack,
     edges_open: Stack<u32>,
     depth: u32,
     signature: Signature,
@@ -46,13 +47,14 @@ impl Model for Machine {
 }
 
 impl Machine {
-    ghost use Rattle.std.specs.Prelude.{◌≡◌, ◌<◌, ◌≤◌, ◌∷◌, [], IfOk, MatchResult, Ok, Err, Some, slice_get, option_copied};
+    ghost use Rattle.std.specs.Prelude.{◌≡◌, ◌<◌, ◌≤◌, ◌∷◌, [], true, false, IfOk, IfErr, MatchResult, Ok, Err, Some, slice_get, option_copied};
     ghost use Rattle.bg_terms.specs.declared.shape.Shape.{Shape as ShapeValue};
     ghost use Rattle.bg_base.specs.Limits.{most_ports};
     ghost use Rattle.bg_base.specs.Bigraph.{IsValid};
     ghost use Rattle.bg_machine.specs.Machine as definition;
     ghost use Rattle.bg_machine.specs.Calls as calls;
-    ghost use Rattle.bg_machine.specs.States.{pushed, gone_on, IsHeld};
+    ghost use Rattle.bg_builder.specs.Numbers.{two_follow};
+    ghost use Rattle.bg_machine.specs.States.{pushed, gone_on};
     ghost use Rattle.bg_terms.specs.Expansion.{control_of, with_values, node_term};
     ghost use Rattle.bg_terms.specs.Terms as terms;
     ghost use Rattle.bg_terms.specs.Values as values;
@@ -66,7 +68,7 @@ impl Machine {
         ensures { result ≡ record { stack = []; edges_open = []; depth = 0; reached = record { signature = met.signature; nodes = 0; edges = 0; terms = met.terms } } }
     {
         Machine {
-            stack: Stack::new(alloc),
+            stack: BigStack::new(alloc),
             edges_open: Stack::new(alloc),
             depth: 0,
             signature: met.signature,
@@ -82,16 +84,13 @@ impl Machine {
         ensures valid { IfOk result (λ found. IsValid found.0) }
     {
         let Machine {
-            mut stack,
+            stack,
             signature,
             terms,
             ..
         } = self;
-        match stack.pop() {
-            Some(held) => {
-                let big = held.big.finish(alloc)?;
-                Ok((big, Met { signature, terms }))
-            }
+        match stack.finish(alloc)? {
+            Some(big) => Ok((big, Met { signature, terms })),
             None => Err(Stop::refuse(Cause::Unexpected, 0)),
         }
     }
@@ -138,21 +137,13 @@ impl Machine {
         Ok(())
     }
 
-    /// Puts a bigraph on top to which others can be put, where it is within the limits.
-    pub(crate) fn put_new(&mut self, alloc: Global, at: u32, big: Big) -> Result<(), Stop>
+    /// Puts the bigraph on top, where it is within the limits.
+    pub(crate) fn put(&mut self, alloc: Global, at: u32, big: Big) -> Result<(), Stop>
         requires valid { IsValid big }
         ensures { Goes result self.new (pushed self.old (values.within at big self.old.reached)) }
     {
-        let big = Builder::of(alloc, big)?;
-        self.put(at, big)
-    }
-
-    /// Puts the bigraph on top, where it is within the limits.
-    pub(crate) fn put(&mut self, at: u32, big: Builder) -> Result<(), Stop>
-        ensures { Goes result self.new (pushed self.old (values.within at big self.old.reached)) }
-    {
-        let big = limited(at, big)?;
-        self.stack.push(Held { big })?;
+        self.stack.push(alloc, big)?;
+        test_limits(at, &self.stack)?;
         Ok(())
     }
 
@@ -168,7 +159,7 @@ impl Machine {
     {
         self.count(at)?;
         let big = idle_names(alloc, words.as_slice())?;
-        self.put_new(alloc, at, big)
+        self.put(alloc, at, big)
     }
 
     /// `id(n,{x})`
@@ -184,7 +175,7 @@ impl Machine {
     {
         self.count(at)?;
         let big = wide_identity(alloc, at, width, words.as_slice())?;
-        self.put_new(alloc, at, big)
+        self.put(alloc, at, big)
     }
 
     /// `merge(n)`
@@ -194,7 +185,7 @@ impl Machine {
     {
         self.count(at)?;
         let big = wide_merger(alloc, at, width)?;
-        self.put_new(alloc, at, big)
+        self.put(alloc, at, big)
     }
 
     /// `1`
@@ -203,7 +194,7 @@ impl Machine {
         ensures { Goes result self.new (definition.comes_to self.old (terms.barren at)) }
     {
         self.count(at)?;
-        self.put_new(alloc, at, barren(alloc))
+        self.put(alloc, at, barren(alloc))
     }
 
     /// `0`
@@ -212,7 +203,7 @@ impl Machine {
         ensures { Goes result self.new (definition.comes_to self.old (terms.empty at)) }
     {
         self.count(at)?;
-        self.put_new(alloc, at, empty(alloc))
+        self.put(alloc, at, empty(alloc))
     }
 
     /// `K(..){a,b}`
@@ -271,20 +262,24 @@ impl Machine {
         let node = self.nodes;
         let number = enter(alloc, at, shape, args, &mut self.signature)?;
         self.nodes = node + 1;
-        let big = single(alloc, shape.kind, number, node, ports)?;
-        self.put_new(alloc, at, big)
+        self.put_single(alloc, at, shape.kind, number, node, ports)
     }
 
-    /// Takes the bigraph on top.
-    pub(crate) fn take(&mut self, at: u32) -> Result<Builder, Refusal>
-        ensures top { result ≡ there_or causes.Unexpected at (first self.old.stack) }
-        ensures left { self.new ≡ record self.old { stack = rest self.old.stack } }
-        ensures held { IfOk result IsHeld }
+    /// A node of the control on top, where it is within the limits.
+    fn put_single(
+        &mut self,
+        alloc: Global,
+        at: u32,
+        kind: Kind,
+        control: u32,
+        node: u32,
+        ports: &Rows<Ident>,
+    ) -> Result<(), Stop>
+        ensures { Goes result self.new (pushed self.old (values.within at (values.single kind control node (values.plain_names ports.now)) self.old.reached)) }
     {
-        match self.stack.pop() {
-            Some(held) => Ok(held.big),
-            None => Err(Refusal::new(Cause::Unexpected, at)),
-        }
+        push_single(alloc, &mut self.stack, kind, control, node, ports)?;
+        test_limits(at, &self.stack)?;
+        Ok(())
     }
 
     /// Takes the number of the edge of the innermost closure that is open.
@@ -298,6 +293,19 @@ impl Machine {
         }
     }
 
+    /// The refusal where the numbers of the bigraph on top do not lie behind those of the one below it, or there are not
+    /// two: code of no expression.
+    fn test_two(&self, at: u32) -> Result<(), Refusal>
+        ensures { IfOk result (λ _. two_follow self.now.stack ≡ true) }
+        ensures refused { IfErr result (λ refusal. (two_follow self.now.stack ≡ false) × (refusal ≡ definition.unexpected at)) }
+    {
+        if self.stack.two_follow() {
+            Ok(())
+        } else {
+            Err(Refusal::new(Cause::Unexpected, at))
+        }
+    }
+
     /// What the operation makes of the two on top, in their place.
     pub(crate) fn join(
         &mut self,
@@ -307,75 +315,39 @@ impl Machine {
     ) -> Result<(), Stop>
         ensures { Goes result self.new (definition.joined at (values.combined operation at) self.old) }
     {
-        let g = self.take(at)?;
-        let f = self.take(at)?;
-        self.join_these(alloc, operation, at, f, g)
-    }
-
-    /// What the operation makes of these two, on top.
-    fn join_these(
-        &mut self,
-        alloc: Global,
-        operation: BinaryOperation,
-        at: u32,
-        f: Builder,
-        g: Builder,
-    ) -> Result<(), Stop>
-        requires f_held { IsHeld f }
-        requires g_held { IsHeld g }
-        ensures { Goes result self.new (definition.joined_onto at (values.combined operation at) self.old f g) }
-    {
-        if !f.follows(&g) {
-            return Err(Stop::refuse(Cause::Unexpected, at));
-        }
-        let big = combined(alloc, operation, at, f, g)?;
-        self.put(at, big)
+        self.test_two(at)?;
+        combine(alloc, operation, at, &mut self.stack)?;
+        test_limits(at, &self.stack)?;
+        Ok(())
     }
 
     /// The bigraph on top, nested in the one below it, in their place.
     pub(crate) fn nest(&mut self, at: u32, is_atom: bool) -> Result<(), Stop>
         ensures { Goes result self.new (definition.joined at (values.nested at is_atom) self.old) }
     {
-        let g = self.take(at)?;
-        let f = self.take(at)?;
-        self.nest_these(at, is_atom, f, g)
+        self.test_two(at)?;
+        nest(at, is_atom, &mut self.stack)?;
+        test_limits(at, &self.stack)?;
+        Ok(())
     }
 
-    /// The second nested in the first, on top.
-    fn nest_these(&mut self, at: u32, is_atom: bool, f: Builder, g: Builder) -> Result<(), Stop>
-        ensures { Goes result self.new (definition.joined_onto at (values.nested at is_atom) self.old f g) }
-    {
-        if !f.follows(&g) {
-            return Err(Stop::refuse(Cause::Unexpected, at));
-        }
-        let big = nested(at, is_atom, f, g)?;
-        self.put(at, big)
-    }
-
-    /// Closes the name in the bigraph on top.
+    /// Closes the name in the bigraph on top, by the edge of the innermost closure that is open.
     pub(crate) fn close(&mut self, alloc: Global, at: u32, word: &Ident) -> Result<(), Stop>
         ensures { Goes result self.new (definition.closing at word.now self.old) }
     {
         let edge = self.take_edge(at)?;
-        let big = self.take(at)?;
-        self.close_this(alloc, at, word, edge, big)
+        self.close_by(alloc, at, word, edge)
     }
 
-    /// This bigraph with the name closed, on top.
-    fn close_this(
-        &mut self,
-        alloc: Global,
-        at: u32,
-        word: &Ident,
-        edge: u32,
-        big: Builder,
-    ) -> Result<(), Stop>
-        ensures { Goes result self.new (definition.closed_onto at word.now self.old edge big) }
+    /// Closes the name in the bigraph on top by that edge.
+    fn close_by(&mut self, alloc: Global, at: u32, word: &Ident, edge: u32) -> Result<(), Stop>
+        ensures { Goes result self.new (definition.closing_by at word.now edge self.old) }
     {
-        if !big.lies_behind(edge) {
+        if !self.stack.lies_behind(edge) {
             return Err(Stop::refuse(Cause::Unexpected, at));
         }
-        let whole = closed(alloc, big, word, edge)?;
-        self.put(at, whole)
+        close_name(alloc, &mut self.stack, word, edge)?;
+        test_limits(at, &self.stack)?;
+        Ok(())
     }
 }

@@ -1,99 +1,100 @@
-//! The operators of the model language on bigraphs.
-ghost use Rattle.std.specs.Prelude.{◌≡◌, ◌+◌, ◌<◌, ◌^◌, true, false};
-ghost use Rattle.bg_builder.specs.Numbers.{follows};
+//! The operators of the model language on the two bigraphs on top of a stack.
+ghost use Rattle.std.specs.Prelude.{◌≡◌, true, false};
+ghost use Rattle.bg_builder.specs.Numbers.{two_follow};
 ghost use Rattle.bg_machine.specs.Faults as faults;
+ghost use Rattle.bg_machine.specs.States.{of_two};
 ghost use Rattle.bg_terms.specs.declared.shape.BinaryOperation.TheVariants as operations;
 ghost use Rattle.bg_terms.specs.Values as definition;
-ghost use Rattle.bg_values.specs.Outcome.{Gives};
+ghost use Rattle.bg_values.specs.Outcome.{Goes};
 
 use bg_algebra::AlgebraFault;
-use bg_builder::Builder;
+use bg_builder::BigStack;
 use bg_terms::BinaryOperation;
 use bg_values::{Cause, Stop};
 use std::alloc::Global;
 
-/// What the operation makes of two bigraphs, the numbers of the second behind those of the first, or its refusal at the
-/// operator: 11 for `*`, 13 for `+`, 14 for `||` and `|`. Costs time in proportion to the second one, up to a logarithm;
-/// and to the first one where `|` finds it with another number of regions than one.
-pub(crate) fn combined(
+/// What the operation makes of the two bigraphs on top, the numbers of the topmost one behind those of the other, in their
+/// place; or its refusal at the operator: 11 for `*`, 13 for `+`, 14 for `||` and `|`. Costs time in proportion to the
+/// topmost one, up to a logarithm; and to the other one where `|` finds it with another number of regions than one.
+pub(crate) fn combine(
     alloc: Global,
     operation: BinaryOperation,
     at: u32,
-    f: Builder,
-    g: Builder,
-) -> Result<Builder, Stop>
-    requires follows { follows f g ≡ true }
-    requires regions { f.regions + g.regions < 2 ^ 32 }
-    ensures { Gives result (definition.combined operation at f g) }
+    stack: &mut BigStack,
+) -> Result<(), Stop>
+    requires follow { two_follow stack.old ≡ true }
+    ensures { Goes result stack.new (of_two (definition.combined operation at) stack.old) }
 {
     match operation {
-        BinaryOperation::Composition => composed(alloc, at, f, g),
-        BinaryOperation::Tensor => beside(at, f, g),
-        BinaryOperation::Parallel => in_parallel(at, f, g),
-        BinaryOperation::Merge => merged(at, f, g),
+        BinaryOperation::Composition => compose(alloc, at, stack),
+        BinaryOperation::Tensor => put_apart(at, stack),
+        BinaryOperation::Parallel => put_beside(at, stack),
+        BinaryOperation::Merge => merge(at, stack),
     }
 }
 
 /// `G * F`
-fn composed(alloc: Global, at: u32, g: Builder, f: Builder) -> Result<Builder, Stop>
-    requires follows { follows g f ≡ true }
-    ensures { Gives result (definition.combined operations.Composition at g f) }
+#[tactic(auto, using(crate::proofs::Conditions::faces_agree_so, crate::proofs::Conditions::faces_agree_not))]
+fn compose(alloc: Global, at: u32, stack: &mut BigStack) -> Result<(), Stop>
+    requires follow { two_follow stack.old ≡ true }
+    ensures { Goes result stack.new (of_two (definition.combined operations.Composition at) stack.old) }
 {
-    told(at, g.compose(alloc, f))
+    told(at, stack.compose(alloc))
 }
 
 /// `F + G`
-fn beside(at: u32, f: Builder, g: Builder) -> Result<Builder, Stop>
-    requires follows { follows f g ≡ true }
-    requires regions { f.regions + g.regions < 2 ^ 32 }
-    ensures { Gives result (definition.combined operations.Tensor at f g) }
+#[tactic(auto, using(crate::proofs::Conditions::names_meet_so, crate::proofs::Conditions::names_meet_not))]
+fn put_apart(at: u32, stack: &mut BigStack) -> Result<(), Stop>
+    requires follow { two_follow stack.old ≡ true }
+    ensures { Goes result stack.new (of_two (definition.combined operations.Tensor at) stack.old) }
 {
-    told(at, f.tensor(g))
+    told(at, stack.tensor())
 }
 
 /// `F || G`
-fn in_parallel(at: u32, f: Builder, g: Builder) -> Result<Builder, Stop>
-    requires follows { follows f g ≡ true }
-    requires regions { f.regions + g.regions < 2 ^ 32 }
-    ensures { Gives result (definition.combined operations.Parallel at f g) }
+#[tactic(auto, using(crate::proofs::Conditions::inner_meets_so, crate::proofs::Conditions::inner_meets_not))]
+fn put_beside(at: u32, stack: &mut BigStack) -> Result<(), Stop>
+    requires follow { two_follow stack.old ≡ true }
+    ensures { Goes result stack.new (of_two (definition.combined operations.Parallel at) stack.old) }
 {
-    told(at, f.parallel(g))
+    told(at, stack.parallel())
 }
 
 /// `F | G`
-fn merged(at: u32, f: Builder, g: Builder) -> Result<Builder, Stop>
-    requires follows { follows f g ≡ true }
-    ensures { Gives result (definition.combined operations.Merge at f g) }
+#[tactic(auto, using(crate::proofs::Conditions::inner_meets_so, crate::proofs::Conditions::inner_meets_not))]
+fn merge(at: u32, stack: &mut BigStack) -> Result<(), Stop>
+    requires follow { two_follow stack.old ≡ true }
+    ensures { Goes result stack.new (of_two (definition.combined operations.Merge at) stack.old) }
 {
-    told(at, f.merge(g))
+    told(at, stack.merge())
 }
 
 /// `F.G`, the numbers of G behind those of F, or its refusal at the dot: 44 where F is written as an atom, then 17 and
 /// 15. Costs time in proportion to G, up to a logarithm.
-pub(crate) fn nested(at: u32, is_atom: bool, f: Builder, g: Builder) -> Result<Builder, Stop>
-    requires follows { follows f g ≡ true }
-    ensures { Gives result (definition.nested at is_atom f g) }
+pub(crate) fn nest(at: u32, is_atom: bool, stack: &mut BigStack) -> Result<(), Stop>
+    requires follow { two_follow stack.old ≡ true }
+    ensures { Goes result stack.new (of_two (definition.nested at is_atom) stack.old) }
 {
     if is_atom {
         return Err(Stop::refuse(Cause::AtomicHasChild, at));
     }
-    inside(at, f, g)
+    put_inside(at, stack)
 }
 
 /// `F.G`, where F is not written as an atom.
-fn inside(at: u32, f: Builder, g: Builder) -> Result<Builder, Stop>
-    requires follows { follows f g ≡ true }
-    ensures { Gives result (definition.nested at false f g) }
+fn put_inside(at: u32, stack: &mut BigStack) -> Result<(), Stop>
+    requires follow { two_follow stack.old ≡ true }
+    ensures { Goes result stack.new (of_two (definition.nested at false) stack.old) }
 {
-    told(at, f.nest(g))
+    told(at, stack.nest())
 }
 
-/// The bigraph that an operation gives, or what its operator, at that token, tells of the fault.
-fn told(at: u32, made: Result<Builder, AlgebraFault>) -> Result<Builder, Stop>
+/// What was made, or what its operator, at that token, tells of the fault.
+fn told(at: u32, made: Result<(), AlgebraFault>) -> Result<(), Stop>
     ensures { result ≡ faults.told at made }
 {
     match made {
-        Ok(big) => Ok(big),
+        Ok(()) => Ok(()),
         Err(fault) => Err(stop_for(at, fault)),
     }
 }

@@ -1,7 +1,7 @@
 use Rattle.std.proofs.Common.{◌∙◌, ap, subst, sym}
 use Rattle.std.specs.List.Sorted.{IsStrictlySortedBy}
 use Rattle.bg_base.specs.Bigraph.{inner_cmp}
-use Rattle.bg_builder.specs.Parts.{inner_rows}
+use Rattle.bg_builder.specs.Frames.{inner_rows}
 use Rattle.bg_builder.proofs.Trees.{entries_in_tree, keys_ascend}
 use Rattle.bg_builder.proofs.tables.inner_tree.Goals as goal
 

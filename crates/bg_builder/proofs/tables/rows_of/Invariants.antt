@@ -1,5 +1,5 @@
 use Rattle.std.proofs.Common.{◌≡◌}
-use Rattle.bg_builder.specs.Parts.{inner_rows}
+use Rattle.bg_builder.specs.Frames.{inner_rows}
 use Rattle.bg_builder.proofs.tables.rows_of.Given as goal
 
 abbrev pub invariant-loop-name : goal.invariant-loop-name

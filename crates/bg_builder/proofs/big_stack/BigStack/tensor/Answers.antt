@@ -1,0 +1,6 @@
+use Rattle.bg_algebra.specs.declared.fault.AlgebraFault.TheVariants.{NamesMeet}
+use Rattle.bg_builder.proofs.Faults.{memory_or}
+use Rattle.bg_builder.proofs.big_stack.BigStack.tensor.Goals as goal
+
+pub returns-in_err-or_none-clause-no_other : goal.returns-in_err-or_none-clause-no_other
+returns-in_err-or_none-clause-no_other c = memory_or NamesMeet c.from_residual.result c.from_residual.ensures.1

@@ -1,6 +1,0 @@
-use Rattle.bg_algebra.specs.declared.fault.AlgebraFault.TheVariants.{InnerNamesMeet}
-use Rattle.bg_builder.proofs.Faults.{memory_or}
-use Rattle.bg_builder.proofs.builder.Builder.merge.Goals as goal
-
-pub returns-in_err-merge_whole-clause-no_other : goal.returns-in_err-merge_whole-clause-no_other
-returns-in_err-merge_whole-clause-no_other c = memory_or InnerNamesMeet c.from_residual.result c.from_residual.ensures.1
