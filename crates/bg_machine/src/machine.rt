@@ -296,7 +296,7 @@ impl Machine {
     /// The refusal where the numbers of the bigraph on top do not lie behind those of the one below it, or there are not
     /// two: code of no expression.
     fn test_two(&self, at: u32) -> Result<(), Refusal>
-        ensures { IfOk result (λ _. two_follow self.now.stack ≡ true) }
+        ensures follow { IfOk result (λ _. two_follow self.now.stack ≡ true) }
         ensures refused { IfErr result (λ refusal. (two_follow self.now.stack ≡ false) × (refusal ≡ definition.unexpected at)) }
     {
         if self.stack.two_follow() {
