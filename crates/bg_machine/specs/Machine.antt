@@ -10,10 +10,10 @@ use Rattle.bg_code.specs.declared.operation.Operation.{Operation}
 use Rattle.bg_code.specs.declared.operation.Operation.TheVariants.{Node, Reference, Names, Identity, Merger, Barren, Empty, Count, Enter, Leave, Open, Close, Nest, Join}
 use Rattle.bg_machine.specs.States.{State, pushed, gone_on}
 use Rattle.bg_terms.specs.declared.shape.Shape.{Shape}
-use Rattle.bg_terms.specs.Expansion.{control_of}
+use Rattle.bg_terms.specs.Expansion.{control_of_shape}
 use Rattle.bg_terms.specs.Terms as terms
 use Rattle.bg_terms.specs.Terms.{Term}
-use Rattle.bg_terms.specs.Values.{Reached, Come, value, tallied, entered, single, plain_names, within, closed, nested, combined}
+use Rattle.bg_terms.specs.Values.{Reached, Come, value, tallied, entered, single, plain_names, within, name_closed, nested, combined}
 use Rattle.bg_values.specs.declared.refusal.Refusal.{Refusal}
 use Rattle.bg_values.specs.declared.refusal.LimitWord.TheVariants.{Depth}
 use Rattle.bg_values.specs.declared.refusal.Cause.TheVariants.{Unexpected, UnknownName, TooLarge}
@@ -49,7 +49,7 @@ joined at operation s =
 abbrev pub closing_by : ℕ → List ℕ → ℕ → State → Result State Refusal
 closing_by at word edge s =
     if top_behind edge s.stack then
-      pushed (record s { stack = under s.stack }) (within at (closed edge (Plain word) (top s.stack)) s.reached)
+      pushed (record s { stack = under s.stack }) (within at (name_closed edge (Plain word) (top s.stack)) s.reached)
     else refused Unexpected at
 
 -- the same, by the edge of the innermost closure that is open
@@ -65,7 +65,7 @@ node_made at control words c =
 
 -- the node of a shape with these arguments
 abbrev pub node_come : ℕ → Option Shape → List (List ℕ) → List Value → Reached → Come
-node_come at (Some shape) words args c = node_made at (control_of shape args) words c
+node_come at (Some shape) words args c = node_made at (control_of_shape shape args) words c
 node_come at None words args c = refused UnknownName at
 
 -- a node whose arguments come to these values, or are refused

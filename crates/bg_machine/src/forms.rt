@@ -118,7 +118,7 @@ pub(crate) fn close_name(
     edge: u32,
 ) -> Mem<()>
     requires new { top_behind edge stack.old ≡ true }
-    ensures { OnOk result (stack.new ≡ definition.closed edge (names.Plain word.now) (top stack.old) ∷ under stack.old) }
+    ensures { OnOk result (stack.new ≡ definition.name_closed edge (names.Plain word.now) (top stack.old) ∷ under stack.old) }
 {
     let name = Name::Plain(word.copy(alloc)?);
     if !stack.has_outer(&name) {
