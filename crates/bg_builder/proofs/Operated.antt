@@ -64,8 +64,12 @@ module _ (rows new : Rows) (g f whole : Frame) (two : AreTwo rows g f)
       (lies_as_two f.edges g.edges rows.edges new.edges two.f_within.edges two.g_within.edges edges)
       (lies_in_two f.sites g.sites rows.sites new.sites _ two.f_within.sites two.g_within.sites sites)
       ((λ t. record {
-        nodes = upper.nodes ++ map (row_beside f.regions) lower.nodes; edges = upper.edges ++ lower.edges;
-        sites = upper.sites ++ map (place_beside f.regions) lower.sites; inner = inner t; regions = regions t; outer = outer t
+        nodes = upper.nodes ++ map (row_beside f.regions) lower.nodes;
+        edges = upper.edges ++ lower.edges;
+        sites = upper.sites ++ map (place_beside f.regions) lower.sites;
+        inner = inner t;
+        regions = regions t;
+        outer = outer t;
       }) ∙ sym (parallel_behind upper lower two.f_valid two.g_valid two.follow))
 
   pub merge_laid : AreInOne rows g f new
@@ -100,9 +104,12 @@ module _ (rows new : Rows) (g f whole : Frame) (two : AreTwo rows g f)
       (lies_as_two f.edges g.edges rows.edges new.edges two.f_within.edges two.g_within.edges edges)
       (lies_alone f.sites g.sites rows.sites new.sites _ two.f_within.sites two.g_within.sites sites)
       ((λ t. record {
-        nodes = upper.nodes ++ map (row_by upper.inner) (map (row_at upper.sites) lower.nodes); edges = upper.edges ++ lower.edges;
-        sites = map (place_at upper.sites) lower.sites; inner = (inner ∙ ap (λ zs. map (inner_by zs) (inner_rows g.inner.entries)) names_are) t;
-        regions = regions t; outer = outer t
+        nodes = upper.nodes ++ map (row_by upper.inner) (map (row_at upper.sites) lower.nodes);
+        edges = upper.edges ++ lower.edges;
+        sites = map (place_at upper.sites) lower.sites;
+        inner = (inner ∙ ap (λ zs. map (inner_by zs) (inner_rows g.inner.entries)) names_are) t;
+        regions = regions t;
+        outer = outer t;
       }) ∙ sym (compose_behind upper lower two.f_valid two.g_valid two.follow))
 
   pub nest_laid : (own : List Place) → own ≡ upper.sites → upper.inner ≡ []
@@ -118,8 +125,12 @@ module _ (rows new : Rows) (g f whole : Frame) (two : AreTwo rows g f)
       (lies_as_two f.edges g.edges rows.edges new.edges two.f_within.edges two.g_within.edges edges)
       (lies_alone f.sites g.sites rows.sites new.sites _ two.f_within.sites two.g_within.sites sites)
       ((λ t. record {
-        nodes = upper.nodes ++ map (row_at upper.sites) lower.nodes; edges = upper.edges ++ lower.edges;
-        sites = map (place_at upper.sites) lower.sites; inner = inner t; regions = regions t; outer = outer t
+        nodes = upper.nodes ++ map (row_at upper.sites) lower.nodes;
+        edges = upper.edges ++ lower.edges;
+        sites = map (place_at upper.sites) lower.sites;
+        inner = inner t;
+        regions = regions t;
+        outer = outer t;
       }) ∙ sym (nest_behind upper lower two.f_valid two.g_valid two.follow no_inner))
 
 -- the roots and sites of two bigraphs in one region
@@ -186,18 +197,22 @@ pub added_laid : (rows new : Rows) (whole : Frame) (big : Big)
 added_laid rows new whole big nodes_at edges_at sites_at nodes edges sites inner outer regions =
     record {
       within = record {
-            nodes = omega (arith, nodes_at, length_more rows.nodes big.nodes, ap length nodes);
-            edges = omega (arith, edges_at, length_more rows.edges big.edges, ap length edges);
-            sites = omega (arith, sites_at, length_more rows.sites big.sites, ap length sites);
-          };
+        nodes = omega (arith, nodes_at, length_more rows.nodes big.nodes, ap length nodes);
+        edges = omega (arith, edges_at, length_more rows.edges big.edges, ap length edges);
+        sites = omega (arith, sites_at, length_more rows.sites big.sites, ap length sites);
+      };
       under_is =
           let at : below new whole ≡ record { nodes = take (length rows.nodes) (rows.nodes ++ big.nodes); edges = take (length rows.edges) (rows.edges ++ big.edges); sites = take (length rows.sites) (rows.sites ++ big.sites) }
           = λ t. record { nodes = take (nodes_at t) (nodes t); edges = take (edges_at t) (edges t); sites = take (sites_at t) (sites t) } in
           at ∙ (λ t. record { nodes = take_all rows.nodes big.nodes t; edges = take_all rows.edges big.edges t; sites = take_all rows.sites big.sites t });
       big_is =
           let at : top_of new whole ≡ record {
-            nodes = drop (length rows.nodes) (rows.nodes ++ big.nodes); edges = drop (length rows.edges) (rows.edges ++ big.edges);
-            sites = drop (length rows.sites) (rows.sites ++ big.sites); inner = big.inner; regions = big.regions; outer = big.outer
+            nodes = drop (length rows.nodes) (rows.nodes ++ big.nodes);
+            edges = drop (length rows.edges) (rows.edges ++ big.edges);
+            sites = drop (length rows.sites) (rows.sites ++ big.sites);
+            inner = big.inner;
+            regions = big.regions;
+            outer = big.outer;
           }
           = λ t. record { nodes = drop (nodes_at t) (nodes t); edges = drop (edges_at t) (edges t); sites = drop (sites_at t) (sites t); inner = inner t; regions = regions t; outer = outer t } in
           at ∙ (λ t. record { nodes = drop_all rows.nodes big.nodes t; edges = drop_all rows.edges big.edges t; sites = drop_all rows.sites big.sites t; inner = big.inner; regions = big.regions; outer = big.outer });

@@ -21,9 +21,13 @@ laid new under frame nodes edges sites lie_nodes lie_edges lie_sites =
       within = record { nodes = lie_nodes.there; edges = lie_edges.there; sites = lie_sites.there };
       under_is = λ t. record { nodes = lie_nodes.front t; edges = lie_edges.front t; sites = lie_sites.front t };
       big_is = λ t. record {
-            nodes = lie_nodes.back t; edges = lie_edges.back t; sites = lie_sites.back t;
-            inner = inner_rows frame.inner.entries; regions = frame.regions; outer = frame.outer.keys
-          };
+        nodes = lie_nodes.back t;
+        edges = lie_edges.back t;
+        sites = lie_sites.back t;
+        inner = inner_rows frame.inner.entries;
+        regions = frame.regions;
+        outer = frame.outer.keys;
+      };
     }
 
 -- the two topmost frames of a stack
@@ -34,9 +38,10 @@ two_of rows g f frames kept follow =
 -- what a frame makes of a stack
 pub put_on : (new under : Rows) (frame : Frame) (frames : List Frame) (big : Big) → IsLaid new frame under big → IsValid big → AreKept under frames
     → AreKept new (frame ∷ frames) × (bigs_of new (frame ∷ frames) ≡ big ∷ bigs_of under frames)
-put_on new under frame frames big is valid kept =
-    ((is.within, subst IsValid (sym is.big_is) valid, subst (λ rows. AreKept rows frames) (sym is.under_is) kept),
-    λ t. is.big_is t ∷ bigs_of (is.under_is t) frames)
+put_on new under frame frames big is valid kept = (
+  (is.within, subst IsValid (sym is.big_is) valid, subst (λ rows. AreKept rows frames) (sym is.under_is) kept),
+  λ t. is.big_is t ∷ bigs_of (is.under_is t) frames,
+)
 
 -- two frames are there
 some_two : (rows : Rows) (frames : List Frame) → two_follow (bigs_of rows frames) ≡ true → 2 ≤ length frames

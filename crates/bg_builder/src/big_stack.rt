@@ -71,17 +71,37 @@ impl BigStack {
         ensures pushed { OnOk result (self.new ≡ elementary.ion control node names ∷ self.old) }
         ensures emptied { OnErr result (self.new ≡ []) }
     {
-        let done = put_ion(alloc, &mut self.lists, &mut self.frames, control, node, names);
+        let done = put_ion(
+            alloc,
+            &mut self.lists,
+            &mut self.frames,
+            control,
+            node,
+            names,
+        );
         or_none(&mut self.frames, done)
     }
 
     /// Puts a node with nothing in it on top (Milner, chapter 3: atom), as [`bg_algebra::atom`] makes it. Moves the names;
     /// costs time n log n in them. Where memory is wanting no bigraph is left on the stack.
-    pub fn push_atom(&mut self, alloc: Global, control: u32, node: u32, names: Rows<Name>) -> Mem<()>
+    pub fn push_atom(
+        &mut self,
+        alloc: Global,
+        control: u32,
+        node: u32,
+        names: Rows<Name>,
+    ) -> Mem<()>
         ensures pushed { OnOk result (self.new ≡ elementary.atom control node names ∷ self.old) }
         ensures emptied { OnErr result (self.new ≡ []) }
     {
-        let done = put_atom(alloc, &mut self.lists, &mut self.frames, control, node, names);
+        let done = put_atom(
+            alloc,
+            &mut self.lists,
+            &mut self.frames,
+            control,
+            node,
+            names,
+        );
         or_none(&mut self.frames, done)
     }
 

@@ -19,11 +19,7 @@ use std::alloc::Global;
 
 /// The composition of the two topmost bigraphs, the topmost one below, in their place.
 #[tactic(auto, using(crate::proofs::Stacked::two_there, crate::proofs::Stacked::two_of))]
-pub(crate) fn put_composed(
-    alloc: Global,
-    lists: &mut Lists,
-    frames: &mut Vec<Frame>,
-) -> Mem<()>
+pub(crate) fn put_composed(alloc: Global, lists: &mut Lists, frames: &mut Vec<Frame>) -> Mem<()>
     requires kept { AreKept (rows_of lists.old) (reverse frames.old.items) }
     requires follow { two_follow (stack_of lists.old frames.old.items) ≡ true }
     requires faces { composition.FacesAgree (second (stack_of lists.old frames.old.items)) (top (stack_of lists.old frames.old.items)) }

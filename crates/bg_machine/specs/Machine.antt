@@ -42,14 +42,14 @@ unexpected at = record { cause = Unexpected; token = at }
 abbrev pub joined : ℕ → (Big → Big → Result Big Refusal) → State → Result State Refusal
 joined at operation s =
     if two_follow s.stack then
-      pushed (record s { stack = others s.stack }) (operation (second s.stack) (top s.stack) >>= λ big. within at big s.reached)
+    pushed (record s { stack = others s.stack }) (operation (second s.stack) (top s.stack) >>= λ big. within at big s.reached)
     else refused Unexpected at
 
 -- the bigraph on top with its name closed by that edge, behind which its edges lie
 abbrev pub closing_by : ℕ → List ℕ → ℕ → State → Result State Refusal
 closing_by at word edge s =
     if top_behind edge s.stack then
-      pushed (record s { stack = under s.stack }) (within at (name_closed edge (Plain word) (top s.stack)) s.reached)
+    pushed (record s { stack = under s.stack }) (within at (name_closed edge (Plain word) (top s.stack)) s.reached)
     else refused Unexpected at
 
 -- the same, by the edge of the innermost closure that is open

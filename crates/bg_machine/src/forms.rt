@@ -111,12 +111,7 @@ pub(crate) fn push_single(
 
 /// `/x F`, F on top, by an edge that lies before those of F: F itself where it has no such outer name. Costs time in
 /// proportion to F.
-pub(crate) fn close_name(
-    alloc: Global,
-    stack: &mut BigStack,
-    word: &Ident,
-    edge: u32,
-) -> Mem<()>
+pub(crate) fn close_name(alloc: Global, stack: &mut BigStack, word: &Ident, edge: u32) -> Mem<()>
     requires new { top_behind edge stack.old ≡ true }
     ensures { OnOk result (stack.new ≡ definition.name_closed edge (names.Plain word.now) (top stack.old) ∷ under stack.old) }
 {

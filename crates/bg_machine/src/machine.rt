@@ -1,8 +1,6 @@
 //! The state of the machine, and what each operation does with it.
 use crate::entering::enter;
-use crate::forms::{
-    close_name, idle_names, push_single, test_limits, wide_identity, wide_merger,
-};
+use crate::forms::{close_name, idle_names, push_single, test_limits, wide_identity, wide_merger};
 use crate::met::Met;
 use crate::operators::{combine, nest};
 use bg_algebra::{barren, empty};
