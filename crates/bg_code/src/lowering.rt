@@ -21,12 +21,14 @@ use std::alloc::Global;
 
 /// The code of the expression that a tree is. Refuses the first name that cannot stand: at a control with `UnknownName`
 /// (41), `WrongArguments` (45) or `WrongPorts` (43), at a bigraph with `UnknownName` or `WrongArguments`, in arithmetic
-/// with `UnknownName`; or, with `Unexpected` (31), a token that does not spell what the tree says. Linear in the tree.
+/// with `UnknownName`; or, with `Unexpected` (31), a token that does not spell what the tree says. Linear in the tree; the
+/// code takes no more room than it needs, since it is kept.
 pub fn code_of(alloc: Global, visible: &Visible, tree: &SynE) -> Result<Vec<Operation>, Stop>
     ensures { GivesOperations result ((definition.e_read tree.now).1 visible.now) }
 {
     let mut code = Vec::new(alloc);
     lower_e(alloc, visible, tree, &mut code)?;
+    code.shrink_to_fit();
     Ok(code)
 }
 

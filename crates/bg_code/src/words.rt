@@ -48,7 +48,7 @@ fn words_from(
 ) -> Result<Vec<Ident>, Stop>
     ensures { GivesList result (definition.words_at visible.now (first ∷ tokens_of more.now)) }
 {
-    let mut words = Vec::new(alloc);
+    let mut words = Vec::with_capacity(alloc, 1 + more.len())?;
     words.push(word_at(alloc, visible, first)?)?;
     for item in more {
         words.push(word_at(alloc, visible, item.part2)?)?;

@@ -1,7 +1,8 @@
 -- Whole expressions: the numbers of nodes, and numbers in a row, differ; no edge is idle.
-use Rattle.std.proofs.Common.{◌≡◌, ◌||◌, ◌⊎◌, inl, inr, ℕ, Bool, true, false, List, length, map, All, IsTrue, refl, sym, ap, subst, ◌∙◌, Less}
+use Rattle.std.proofs.Common.{arith, ◌≡◌, ◌||◌, ◌⊎◌, inl, inr, ℕ, ◌==◌, if◌then◌else◌, Bool, true, false, List, [], ◌∷◌, length, map, filter, All, IsTrue, refl, sym, ap, subst, ◌∙◌, Less}
 use Rattle.std.proofs.lemmas.Cmp.{nat_cmp_total}
-use Rattle.std.proofs.lemmas.List.{length-map}
+use Rattle.std.proofs.lemmas.Bool.{eqb-true}
+use Rattle.std.proofs.lemmas.List.{length-map, map-id}
 use Rattle.std.specs.List.{IsDistinct, list_any}
 use Rattle.std.specs.Ordering.{nat_cmp, eq_by_cmp}
 use Rattle.bg_algebra.proofs.Changes.{lean_valid, lean_used, port_is_point, inner_is_point}
@@ -9,18 +10,22 @@ use Rattle.bg_algebra.proofs.Renamed.{renamed_numbers, map-along}
 use Rattle.bg_base.specs.declared.big.Big.{Big}
 use Rattle.bg_base.specs.declared.big.NodeRow.{NodeRow}
 use Rattle.bg_base.specs.declared.big.InnerRow.{InnerRow}
-use Rattle.bg_base.specs.declared.names.Link.TheVariants.{Edge}
+use Rattle.bg_base.specs.declared.names.Link.{Link}
+use Rattle.bg_base.specs.declared.names.Link.TheVariants.{Edge, Outer}
+use Rattle.bg_base.specs.declared.names.Place.{Place}
+use Rattle.bg_base.specs.declared.names.Place.TheVariants.{Node, Region}
 use Rattle.bg_base.specs.Bigraph.{IsValid, node_cmp}
 use Rattle.bg_base.specs.Products.{lean, has_point, same_link}
 use Rattle.bg_base.proofs.LookUps.{node_cmp_total}
 use Rattle.bg_base.proofs.Counted.{length-counted, counted_ascends}
 use Rattle.bg_base.proofs.NameLaws.{same_link_from_test}
 use Rattle.bg_base.specs.Elementary.{counted}
-use Rattle.bg_base.specs.Translation.{number_renamed, node_numbers, rename, row_renamed, link_renamed, inner_renamed}
-use Rattle.bg_lists.specs.Lists.{Mem}
+use Rattle.bg_base.specs.Translation.{number_renamed, node_numbers, rename, row_renamed, place_renamed, link_renamed, inner_renamed}
+use Rattle.bg_lists.specs.Lists.{Mem, sort}
 use Rattle.bg_lists.specs.Orders.{before, Ascending}
 use Rattle.bg_lists.proofs.Ascents.{Ascending-from_sorted, Ascending-map, Ascending-unmap}
-use Rattle.bg_lists.proofs.Members.{Mem-map, Mem-unmap}
+use Rattle.bg_lists.proofs.Merges.{sort-none}
+use Rattle.bg_lists.proofs.Members.{Mem-map, Mem-unmap, map_agree}
 use Rattle.bg_lists.proofs.Sorting.{IsDistinct-from_Ascending, Mem-sort, sort-ascending}
 use Rattle.bg_lists.proofs.Words.{All-member, All-from_members, member_from_list_any}
 use Rattle.bg_machine.specs.Whole.{whole}
@@ -101,3 +106,68 @@ whole_used big valid =
     subst (λ e. has_point (whole big) (Edge e) ≡ true) w.2
     (renamed_point (lean big) (node_numbers (lean big).nodes) numbers w.0
     (All-member (λ e. IsTrue (has_point (lean big) (Edge e))) (lean big).edges (lean_used big) w.1)))
+
+-- ---- without edges
+
+no_rows : {A : Type 0} (xs : List A) → length xs ≡ 0 → xs ≡ []
+no_rows [] e = refl
+no_rows (x ∷ xs) e = absurd (omega (arith, e))
+
+own_number : (numbers : List ℕ) (number : ℕ) → number_renamed numbers numbers number ≡ number
+unfolding number_renamed
+own_number [] number = refl
+own_number (x ∷ xs) number = by (x == number) refl (own_number xs number)
+  where
+    by : (b : Bool) → (x == number) ≡ b → number_renamed xs xs number ≡ number → (if b then x else number_renamed xs xs number) ≡ number
+    by true same later = eqb-true x number same
+    by false other later = later
+
+no_number : (number : ℕ) (numbers : List ℕ) → number_renamed [] numbers number ≡ number
+unfolding number_renamed
+no_number number numbers = refl
+
+module _ (big : Big) (valid : IsValid big) (empty : length big.edges ≡ 0) where
+  none : big.edges ≡ []
+  none = no_rows big.edges empty
+
+  link_stays : (edges : List ℕ) (link : Link) → link_renamed big edges link ≡ link
+  link_stays edges (Edge edge) = ap Edge (ap (λ es. number_renamed es edges edge) none ∙ no_number edge edges)
+  link_stays edges (Outer name) = refl
+
+  place_stays : (place : Place) → place_renamed big (node_numbers big.nodes) place ≡ place
+  place_stays (Node node) = ap Node (own_number (node_numbers big.nodes) node)
+  place_stays (Region region) = refl
+
+  row_stays : (edges : List ℕ) (row : NodeRow) → row_renamed big (node_numbers big.nodes) edges row ≡ row
+  row_stays edges row =
+      let id = own_number (node_numbers big.nodes) row.id in
+      let parent = place_stays row.parent in
+      let links = map_agree (link_renamed big edges) (λ link. link) row.links (λ link m. link_stays edges link) ∙ map-id row.links in
+      λ t. record { id = id t; control = row.control; parent = parent t; links = links t }
+
+  inner_stays : (edges : List ℕ) (row : InnerRow) → inner_renamed big edges row ≡ row
+  inner_stays edges row = let link = link_stays edges row.link in λ t. record row { link = link t }
+
+  renamed_stays : rename big (node_numbers big.nodes) [] ≡ big
+  unfolding rename
+  renamed_stays =
+      let nodes = ap (sort (before node_cmp)) (map_agree (row_renamed big (node_numbers big.nodes) []) (λ row. row) big.nodes (λ row m. row_stays [] row) ∙ map-id big.nodes)
+      ∙ sort-ascending node_cmp_total big.nodes (Ascending-from_sorted big.nodes valid.nodes_ascend) in
+      let sites = map_agree (place_renamed big (node_numbers big.nodes)) (λ place. place) big.sites (λ place m. place_stays place) ∙ map-id big.sites in
+      let inner = map_agree (inner_renamed big []) (λ row. row) big.inner (λ row m. inner_stays [] row) ∙ map-id big.inner in
+      let edges = sort-none (before nat_cmp) [] refl ∙ sym none in
+      λ t. record big { nodes = nodes t; edges = edges t; sites = sites t; inner = inner t }
+
+  lean_stays : lean big ≡ big
+  unfolding lean
+  lean_stays =
+      let edges = ap (filter (λ edge. has_point big (Edge edge))) none ∙ sym none in
+      λ t. record big { edges = edges t }
+
+  none_counted : (rename big (node_numbers big.nodes) (counted 0 (length big.edges))) ≡ rename big (node_numbers big.nodes) []
+  unfolding counted
+  none_counted = ap (λ es. rename big (node_numbers big.nodes) (counted 0 (length es))) none
+
+  pub whole_without_edges : whole big ≡ big
+  whole_without_edges =
+      ap (λ (b : Big). rename b (node_numbers b.nodes) (counted 0 (length b.edges))) lean_stays ∙ none_counted ∙ renamed_stays

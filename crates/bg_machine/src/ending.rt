@@ -13,8 +13,22 @@ use bg_lists::Mem;
 use std::alloc::Global;
 
 /// The bigraph of a whole expression, by what its term comes to: its idle edges are dropped, and the others numbered 0,
-/// 1, 2 and so on in their order, which is that of their closures in the expanded text. Costs time n log n in its size.
-pub fn whole(alloc: Global, big: &Big) -> Mem<Big>
+/// 1, 2 and so on in their order, which is that of their closures in the expanded text. One without edges is moved; else it
+/// costs time n log n in its size.
+pub fn whole(alloc: Global, big: Big) -> Mem<Big>
+    requires valid { IsValid big }
+    ensures value { IfOk result (λ made. made ≡ definition.whole big) }
+    ensures valid { IfOk result IsValid }
+    ensures edges_used { IfOk result (λ made. All (λ edge. IsTrue (has_point made (Edge edge))) made.edges) }
+{
+    if big.edges.is_empty() {
+        return Ok(big);
+    }
+    numbered_anew(alloc, &big)
+}
+
+/// The bigraph without its idle edges, and with the others numbered 0, 1, 2 and so on.
+fn numbered_anew(alloc: Global, big: &Big) -> Mem<Big>
     requires valid { IsValid big.now }
     ensures value { IfOk result (λ made. made ≡ definition.whole big.now) }
     ensures valid { IfOk result IsValid }

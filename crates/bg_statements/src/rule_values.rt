@@ -41,9 +41,9 @@ impl Whole {
     ghost use Rattle.bg_statements.specs.Settings.{IsWhole};
 
     /// The bigraph without its idle edges.
-    fn of(alloc: Global, big: &Big) -> Mem<Whole>
-        requires { IsValid big.now }
-        ensures { IfOk result (λ made. made ≡ whole big.now) }
+    fn of(alloc: Global, big: Big) -> Mem<Whole>
+        requires { IsValid big }
+        ensures { IfOk result (λ made. made ≡ whole big) }
     {
         let big = whole(alloc, big)?;
         Ok(Whole { big })
@@ -152,7 +152,7 @@ impl<'a> Setting<'a> {
             before,
         )?;
         *met = after;
-        let whole = Whole::of(alloc, &big)?;
+        let whole = Whole::of(alloc, big)?;
         Ok(whole)
     }
 
