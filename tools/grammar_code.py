@@ -241,7 +241,7 @@ def read_behind(s):
     for start in starts_behind(s)[::-1]:
         i = long_way(s)
         way = WAYS[s][i][start:]
-        contract = f'Reads (λ x. {behind_steps_name(s, start)} x depth) self.now.tokens.now at.old (wants_behind depth symbols.{s} {i} {start}) at.new result'
+        contract = f'ReadsSymbol (λ x. {behind_steps_name(s, start)} x depth) self.now.tokens.now at.old (wants_behind depth symbols.{s} {i} {start}) at.new result'
         parts, values = read_parts(s, way[:GROUP], '        ', start)
         if len(way) > GROUP:
             parts.append(f'        let rest = self.{behind_name(s, start + GROUP)}(at, depth)?;')
@@ -484,7 +484,7 @@ def read_arms(s, type_name, ways, wrap):
 
 
 def read_symbol(s):
-    contract = f'Reads (λ x. {steps_name(s)} x depth) self.now.tokens.now at.old (wants depth symbols.{s}) at.new result'
+    contract = f'ReadsSymbol (λ x. {steps_name(s)} x depth) self.now.tokens.now at.old (wants depth symbols.{s}) at.new result'
     lines = read_head(s, snake(s), f'Syn{s}', contract)
     deeper = ['        let depth = depth + 1;'] if s in DEEPENS else []
     if len(WAYS[s]) == 1:
@@ -504,7 +504,7 @@ def read_list(s):
     lines.append(f'        let way = self.choose(*at, Symbol::{s})?;')
     ways = [w[:-1] for w in WAYS[s]]
     lines += read_arms(s, f'Syn{s}Item', ways, lambda v: f'Ok(Some({v}))' if v else 'Ok(None)') + ['    }', '']
-    contract = f'Reads (λ x. {steps_name(s)} x.items depth) self.now.tokens.now at.old (wants depth symbols.{s}) at.new result'
+    contract = f'ReadsSymbol (λ x. {steps_name(s)} x.items depth) self.now.tokens.now at.old (wants depth symbols.{s}) at.new result'
     lines += read_head(s, snake(s), f'Vec<Syn{s}Item>', contract)
     lines += ['        let mut items = Vec::new(self.alloc);', f'        while let Some(item) = self.{snake(s)}_item(at, depth)? {{',
               '            items.push(item)?;', '        }', '        Ok(items)', '    }']
@@ -523,7 +523,7 @@ def write_readers():
                 'ghost use Rattle.bg_syntax.specs.declared.symbol.Symbol.TheVariants as symbols;',
                 'ghost use Rattle.bg_syntax.specs.Steps.{opens};',
                 f'ghost use Rattle.bg_syntax.specs.{topic.capitalize()}Steps.{{{", ".join(words)}}};',
-                'ghost use Rattle.bg_syntax.specs.Reading.{wants, wants_behind, Reads, ReadsItem};', '',
+                'ghost use Rattle.bg_syntax.specs.Reading.{wants, wants_behind, ReadsSymbol, ReadsItem};', '',
                 'use crate::fault::SyntaxFault;', 'use crate::reader::Reader;', 'use crate::symbol::Symbol;',
                 'use bg_text::TokenKind;', f'use bg_trees::{topic}::{{{", ".join(sorted(names))}}};']
         rust(f'src/read/{topic}.rt', f'Reading. {about}', '\n'.join(head + lines))

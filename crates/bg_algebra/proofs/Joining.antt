@@ -21,14 +21,14 @@ use Rattle.bg_link.specs.declared.graph.PortRow.{PortRow}
 use Rattle.bg_link.specs.declared.graph.Links.{Links}
 use Rattle.bg_link.specs.Links.{port_row, links_of}
 use Rattle.bg_algebra.specs.declared.halves.ControlRow.{ControlRow}
-use Rattle.bg_algebra.specs.Halves.{control_row, control_cmp, joined_row, joined_rows, joined, parent_in_one, places_in_one}
+use Rattle.bg_algebra.specs.Halves.{control_row, control_cmp, joined_row, joined_rows, of_halves, parent_in_one, places_in_one}
 
 joined_rows-parts : (rows : List NodeRow) → joined_rows (map parent_row rows) (map port_row rows) (map control_row rows) ≡ rows
 joined_rows-parts [] = refl
 joined_rows-parts (row ∷ rows) = ap (λ rest. row ∷ rest) (joined_rows-parts rows)
 
 -- the halves and the controls of one bigraph give it
-pub joined-parts : (big : Big) → joined (places_of big) (links_of big) (map control_row big.nodes) ≡ big
+pub joined-parts : (big : Big) → of_halves (places_of big) (links_of big) (map control_row big.nodes) ≡ big
 joined-parts big = let rows = joined_rows-parts big.nodes in λ t. record big { nodes = rows t }
 
 -- one node more
@@ -60,9 +60,9 @@ as_many_controls big places controls p e =
     ap length e ∙ length-map big.nodes control_row ∙ sym (ap (λ (z : Places). length z.parents) p ∙ length-map big.nodes parent_row)
 
 pub joined_is : (big : Big) (places : Places) (links : Links) (controls : List ControlRow) → places ≡ places_of big → links ≡ links_of big
-    → controls ≡ map control_row big.nodes → joined places links controls ≡ big
+    → controls ≡ map control_row big.nodes → of_halves places links controls ≡ big
 joined_is big places links controls p l e =
-    ap (λ z. joined z links controls) p ∙ ap (λ z. joined (places_of big) z controls) l ∙ ap (joined (places_of big) (links_of big)) e ∙ joined-parts big
+    ap (λ z. of_halves z links controls) p ∙ ap (λ z. of_halves (places_of big) z controls) l ∙ ap (of_halves (places_of big) (links_of big)) e ∙ joined-parts big
 
 -- the nodes of a bigraph ascend, and so do their controls
 pub controls_ascend : (rows : List NodeRow) → IsStrictlySortedBy node_cmp rows → IsStrictlySortedBy control_cmp (map control_row rows)

@@ -23,7 +23,7 @@ use Rattle.bg_base.specs.declared.big.InnerRow.{InnerRow}
 use Rattle.bg_base.specs.declared.big.Big.{Big}
 use Rattle.bg_base.specs.declared.signature.Control.{Control}
 use Rattle.bg_base.specs.Bigraph.{IsValid, IsValidUnder, node_cmp, inner_cmp, has_place, has_link, is_atomic}
-use Rattle.bg_base.specs.Translation.{along, node_numbers, place_renamed, link_renamed, row_renamed, inner_renamed, rename}
+use Rattle.bg_base.specs.Translation.{number_renamed, node_numbers, place_renamed, link_renamed, row_renamed, inner_renamed, rename}
 use Rattle.bg_base.proofs.LookUps.{node_cmp_total, has_row, has_edge, has_region, member_from_has_edge, member_from_edge_of, row_from_row_of, row_of-search, edge_of-search}
 use Rattle.bg_base.proofs.Climbs.{at_region}
 use Rattle.bg_algebra.proofs.Parts.{IsPart, IsSound, Fits, valid_from_rows, valid_under_from_rows, row_sound, site_there, inner_link_there, row_fits, site_fits}
@@ -31,35 +31,35 @@ use Rattle.bg_algebra.proofs.Changes.{mapped}
 
 -- ---- the number that stands where another does
 
-along-here : (x y : ℕ) (xs ys : List ℕ) → along (x ∷ xs) (y ∷ ys) x ≡ y
-unfolding along
-along-here x y xs ys = cond-true (x == x) y (along xs ys x) (eq-eqb x x refl)
+along-here : (x y : ℕ) (xs ys : List ℕ) → number_renamed (x ∷ xs) (y ∷ ys) x ≡ y
+unfolding number_renamed
+along-here x y xs ys = cond-true (x == x) y (number_renamed xs ys x) (eq-eqb x x refl)
 
-along-there : (x y old : ℕ) (xs ys : List ℕ) → (x == old) ≡ false → along (x ∷ xs) (y ∷ ys) old ≡ along xs ys old
-unfolding along
-along-there x y old xs ys e = cond-false (x == old) y (along xs ys old) e
+along-there : (x y old : ℕ) (xs ys : List ℕ) → (x == old) ≡ false → number_renamed (x ∷ xs) (y ∷ ys) old ≡ number_renamed xs ys old
+unfolding number_renamed
+along-there x y old xs ys e = cond-false (x == old) y (number_renamed xs ys old) e
 
-pub Mem-along : {x : ℕ} (xs ys : List ℕ) → length xs ≡ length ys → Mem x xs → Mem (along xs ys x) ys
-unfolding along
+pub Mem-along : {x : ℕ} (xs ys : List ℕ) → length xs ≡ length ys → Mem x xs → Mem (number_renamed xs ys x) ys
+unfolding number_renamed
 Mem-along [] ys long m = elim m [ ]
 Mem-along (x ∷ xs) [] long m = absurd (omega arith)
 Mem-along {x = z} (x ∷ xs) (y ∷ ys) long (here e) =
-    subst (λ v. Mem (along (x ∷ xs) (y ∷ ys) v) (y ∷ ys)) e (here (sym (along-here x y xs ys)))
+    subst (λ v. Mem (number_renamed (x ∷ xs) (y ∷ ys) v) (y ∷ ys)) e (here (sym (along-here x y xs ys)))
 Mem-along {x = z} (x ∷ xs) (y ∷ ys) long (there m) =
-    cond_both (x == z) y (along xs ys z) (λ v. Mem v (y ∷ ys)) (λ _. here refl) (λ _. there (Mem-along xs ys (omega arith) m))
+    cond_both (x == z) y (number_renamed xs ys z) (λ v. Mem v (y ∷ ys)) (λ _. here refl) (λ _. there (Mem-along xs ys (omega arith) m))
 
 numbers_apart : (x z : ℕ) → eq_by_cmp nat_cmp x z ≡ false → (x == z) ≡ false
 numbers_apart x z e = eqb-nat_cmp x z ∙ e
 
 -- the numbers of the first list become those of the second
-pub map-along : (xs ys : List ℕ) → length xs ≡ length ys → IsDistinct (eq_by_cmp nat_cmp) xs → map (along xs ys) xs ≡ ys
+pub map-along : (xs ys : List ℕ) → length xs ≡ length ys → IsDistinct (eq_by_cmp nat_cmp) xs → map (number_renamed xs ys) xs ≡ ys
 map-along [] [] long distinct = refl
 map-along [] (y ∷ ys) long distinct = absurd (omega arith)
 map-along (x ∷ xs) [] long distinct = absurd (omega arith)
 map-along (x ∷ xs) (y ∷ ys) long distinct =
     let w = IsDistinct-members (eq_by_cmp nat_cmp) x xs distinct in
     let head = along-here x y xs ys in
-    let tail = map_agree (along (x ∷ xs) (y ∷ ys)) (along xs ys) xs (λ z m. along-there x y z xs ys (numbers_apart x z (w.0 z m)))
+    let tail = map_agree (number_renamed (x ∷ xs) (y ∷ ys)) (number_renamed xs ys) xs (λ z m. along-there x y z xs ys (numbers_apart x z (w.0 z m)))
     ∙ map-along xs ys (omega arith) w.1 in cc
 
 -- ---- members that are apart by a key
@@ -80,7 +80,7 @@ module _ (big : Big) (nodes edges : List ℕ) (valid : IsValid big) (nodes_long 
       let ids = node_numbers big.nodes in
       let up = Ascending-map {Under = λ x y. nat_cmp x y ≡ Less} (λ (row : NodeRow). row.id) big.nodes (λ x y less. less) (Ascending-from_sorted big.nodes valid.nodes_ascend) in
       map-map (row_renamed big nodes edges) (λ (row : NodeRow). row.id) big.nodes
-      ∙ sym (map-map (λ (row : NodeRow). row.id) (along ids nodes) big.nodes)
+      ∙ sym (map-map (λ (row : NodeRow). row.id) (number_renamed ids nodes) big.nodes)
       ∙ map-along ids nodes (length-map big.nodes (λ (row : NodeRow). row.id) ∙ nodes_long) (IsDistinct-from_Ascending ids up)
 
   module _ (nodes_differ : IsDistinct (eq_by_cmp nat_cmp) nodes) (edges_differ : IsDistinct (eq_by_cmp nat_cmp) edges) where
@@ -146,16 +146,16 @@ module _ (big : Big) (nodes edges : List ℕ) (valid : IsValid big) (nodes_long 
 
 -- ---- as a binary search finds it
 
-pub along-at : {x i : ℕ} (xs ys : List ℕ) (d : ℕ) → IsDistinct (eq_by_cmp nat_cmp) xs → length xs ≡ length ys → At x i xs → along xs ys x ≡ get_or ys i d
+pub along-at : {x i : ℕ} (xs ys : List ℕ) (d : ℕ) → IsDistinct (eq_by_cmp nat_cmp) xs → length xs ≡ length ys → At x i xs → number_renamed xs ys x ≡ get_or ys i d
 along-at [] ys d distinct long a = elim a [ ]
 along-at (x ∷ xs) [] d distinct long a = absurd (omega arith)
-along-at (x ∷ xs) (y ∷ ys) d distinct long (at_here e) = subst (λ v. along (x ∷ xs) (y ∷ ys) v ≡ y) e (along-here x y xs ys)
+along-at (x ∷ xs) (y ∷ ys) d distinct long (at_here e) = subst (λ v. number_renamed (x ∷ xs) (y ∷ ys) v ≡ y) e (along-here x y xs ys)
 along-at {x = z} (x ∷ xs) (y ∷ ys) d distinct long (at_there a) =
     let w = IsDistinct-members (eq_by_cmp nat_cmp) x xs distinct in
     along-there x y z xs ys (numbers_apart x z (w.0 z (Mem-from_At a))) ∙ along-at xs ys d w.1 (omega arith) a
 
-pub along-nowhere : (xs ys : List ℕ) (x : ℕ) → (Mem x xs → ⊥) → along xs ys x ≡ x
-unfolding along
+pub along-nowhere : (xs ys : List ℕ) (x : ℕ) → (Mem x xs → ⊥) → number_renamed xs ys x ≡ x
+unfolding number_renamed
 along-nowhere [] ys x none = refl
 along-nowhere (z ∷ zs) [] x none = refl
 along-nowhere (z ∷ zs) (y ∷ ys) x none =
@@ -163,7 +163,7 @@ along-nowhere (z ∷ zs) (y ∷ ys) x none =
 
 pub along-node : (rows : List NodeRow) (ys : List ℕ) (node d : ℕ) → IsStrictlySortedBy node_cmp rows → length rows ≡ length ys → (r : Result ℕ ℕ)
     → IsSearchInRange r (length rows) → IsBinarySearchResult (λ (row : NodeRow). nat_cmp row.id node) rows r
-    → MatchResult r (λ at. along (node_numbers rows) ys node ≡ get_or ys at d) (λ _. along (node_numbers rows) ys node ≡ node)
+    → MatchResult r (λ at. number_renamed (node_numbers rows) ys node ≡ get_or ys at d) (λ _. number_renamed (node_numbers rows) ys node ≡ node)
 along-node rows ys node d up long (Ok at) range answer =
     let w = At-total rows at range in
     let found = row_of-search rows node up (Ok at) range answer in
@@ -180,7 +180,7 @@ along-node rows ys node d up long (Err at) range answer =
 
 pub along-edge : (xs ys : List ℕ) (edge d : ℕ) → IsStrictlySortedBy nat_cmp xs → length xs ≡ length ys → (r : Result ℕ ℕ)
     → IsSearchInRange r (length xs) → IsBinarySearchResult (λ other. nat_cmp other edge) xs r
-    → MatchResult r (λ at. along xs ys edge ≡ get_or ys at d) (λ _. along xs ys edge ≡ edge)
+    → MatchResult r (λ at. number_renamed xs ys edge ≡ get_or ys at d) (λ _. number_renamed xs ys edge ≡ edge)
 along-edge xs ys edge d up long (Ok at) range answer =
     let w = At-total xs at range in
     let found = find-search nat_cmp_total (λ other. other) edge (λ (other : ℕ). other == edge) (λ other. eqb-nat_cmp other edge) xs (Ascending-from_sorted xs up) (Ok at) range answer in

@@ -29,8 +29,8 @@ joined_rows (place ∷ places) [] controls = []
 joined_rows (place ∷ places) (row ∷ ports) [] = []
 joined_rows (place ∷ places) (row ∷ ports) (control ∷ controls) = joined_row place row control ∷ joined_rows places ports controls
 
-abbrev pub joined : Places → Links → List ControlRow → Big
-joined places links controls =
+abbrev pub of_halves : Places → Links → List ControlRow → Big
+of_halves places links controls =
     record {
       nodes = joined_rows places.parents links.ports controls;
       edges = links.edges;

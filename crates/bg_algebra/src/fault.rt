@@ -33,12 +33,12 @@ pub enum AlgebraFault {
 
 impl AlgebraFault {
     ghost use Rattle.std.specs.Prelude.{◌≡◌};
-    ghost use Rattle.bg_algebra.specs.Faults.{number_of};
+    ghost use Rattle.bg_algebra.specs.Faults.{fault_number};
 
     /// The number of the refusal: 11 for `FacesDiffer`, and so on in the order of the variants to 17 for
     /// `HasInnerNames`. Want of memory is no refusal and has none.
     pub fn number(&self) -> Option<u8>
-        ensures { result ≡ number_of self.now }
+        ensures { result ≡ fault_number self.now }
     {
         match self {
             AlgebraFault::FacesDiffer => Some(11),

@@ -36,7 +36,7 @@ pub(crate) fn joined(
 ) -> Mem<Big>
     requires as_many_ports { length links.ports ≡ length places.parents }
     requires as_many_controls { length controls.now ≡ length places.parents }
-    ensures { IfOk result (λ made. made ≡ halves.joined places links controls.now) }
+    ensures { IfOk result (λ made. made ≡ halves.of_halves places links controls.now) }
 {
     let Links {
         edges,

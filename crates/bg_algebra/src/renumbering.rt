@@ -41,7 +41,7 @@ pub fn rename(alloc: Global, big: &Big, nodes: &[u32], edges: &[u32]) -> Mem<Big
 fn new_node(big: &Big, nodes: &[u32], node: u32) -> u32
     requires ascending { IsStrictlySortedBy node_cmp big.now.nodes }
     requires as_many { length big.now.nodes ≡ length nodes.now }
-    ensures { result ≡ translation.along (translation.node_numbers big.now.nodes) nodes.now node }
+    ensures { result ≡ translation.number_renamed (translation.node_numbers big.now.nodes) nodes.now node }
 {
     match big.nodes.binary_search_by_key(&node, |row| row.id) {
         Ok(at) => nodes[at],
@@ -53,7 +53,7 @@ fn new_node(big: &Big, nodes: &[u32], node: u32) -> u32
 fn new_edge(big: &Big, edges: &[u32], edge: u32) -> u32
     requires ascending { IsStrictlySortedBy nat_cmp big.now.edges }
     requires as_many { length big.now.edges ≡ length edges.now }
-    ensures { result ≡ translation.along big.now.edges edges.now edge }
+    ensures { result ≡ translation.number_renamed big.now.edges edges.now edge }
 {
     match big.edges.binary_search(&edge) {
         Ok(at) => edges[at],

@@ -9,14 +9,14 @@ pub record Answer : Type 0 where
   pub text : List ℕ
 
 -- the exit status
-abbrev pub number : Status → ℕ
-number Done = 0
-number Refused = 1
-number WrongWords = 2
-number TooMany = 6
-number NoRun = 7
-number TooLong = 8
-number Unsorted = 9
+abbrev pub status_number : Status → ℕ
+status_number Done = 0
+status_number Refused = 1
+status_number WrongWords = 2
+status_number TooMany = 6
+status_number NoRun = 7
+status_number TooLong = 8
+status_number Unsorted = 9
 
 -- a text and a line feed
 abbrev pub line : List ℕ → List ℕ

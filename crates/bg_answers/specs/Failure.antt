@@ -29,6 +29,6 @@ Tells (Refused refusal) outcome = outcome ≡ Err refusal
 Tells OutOfMemory outcome = Unit {0}
 
 -- the value as view shows it, or the refusal, or want of memory
-abbrev pub Gives : {A B : Type 0} → (A → B) → Result A Failure → Result B Refusal → Type 0
-Gives view (Ok made) outcome = outcome ≡ Ok (view made)
-Gives view (Err failure) outcome = Tells failure outcome
+abbrev pub GivesOrRefuses : {A B : Type 0} → (A → B) → Result A Failure → Result B Refusal → Type 0
+GivesOrRefuses view (Ok made) outcome = outcome ≡ Ok (view made)
+GivesOrRefuses view (Err failure) outcome = Tells failure outcome

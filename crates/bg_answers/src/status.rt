@@ -23,11 +23,11 @@ pub enum Status {
 
 impl Status {
     ghost use Rattle.std.specs.Prelude.{◌≡◌};
-    ghost use Rattle.bg_answers.specs.Answer.{number};
+    ghost use Rattle.bg_answers.specs.Answer.{status_number};
 
     /// The exit status of the program.
     pub fn number(self) -> u8
-        ensures { result ≡ number self }
+        ensures { result ≡ status_number self }
     {
         match self {
             Status::Done => 0,

@@ -15,7 +15,7 @@ use Rattle.bg_base.specs.LabelLaws.{label_cmp_total}
 use Rattle.std.proofs.Math.Seq.{drop-cons}
 use Rattle.std.specs.Map.{lookup}
 use Rattle.std.specs.BTreeMap.{BTreeMap, get, is_at}
-use Rattle.bg_base.specs.Signatures.{same_label, number_of, IsSignature, IsNumbering}
+use Rattle.bg_base.specs.Signatures.{same_label, control_number, IsSignature, IsNumbering}
 
 -- two controls with one label
 abbrev alike : Control → Control → Bool
@@ -38,14 +38,14 @@ none_tail true o e = cc
 none_tail false None e = refl
 none_tail false (Some n) e = cc
 
-none_alike : (controls : List Control) (control : Control) → number_of controls control.label ≡ None → list_any (alike control) controls ≡ false
+none_alike : (controls : List Control) (control : Control) → control_number controls control.label ≡ None → list_any (alike control) controls ≡ false
 none_alike [] control e = refl
 none_alike (c ∷ cs) control e =
-    let head = none_head (alike c control) (number_of cs control.label) e in
-    let tail = none_alike cs control (none_tail (alike c control) (number_of cs control.label) e) in
+    let head = none_head (alike c control) (control_number cs control.label) e in
+    let tail = none_alike cs control (none_tail (alike c control) (control_number cs control.label) e) in
     rw (alike_equiv.symm control c, head) tail
 
-pub one_more_control : (controls : List Control) (control : Control) → IsSignature controls → number_of controls control.label ≡ None
+pub one_more_control : (controls : List Control) (control : Control) → IsSignature controls → control_number controls control.label ≡ None
     → control.arity ≤ most_ports → length controls < most_controls → IsSignature (controls ++ control ∷ [])
 one_more_control controls control kept none arity room =
     record {
@@ -75,21 +75,21 @@ push_case false true n o apart = refl
 push_case false false n o apart = refl
 
 -- the numbers of the labels once a control with a new label stands at the end
-number_of-push : (controls : List Control) (control : Control) (label : Label) → number_of controls control.label ≡ None
-    → number_of (controls ++ control ∷ []) label ≡ cond (same_label control.label label) (Some (length controls)) (number_of controls label)
+number_of-push : (controls : List Control) (control : Control) (label : Label) → control_number controls control.label ≡ None
+    → control_number (controls ++ control ∷ []) label ≡ cond (same_label control.label label) (Some (length controls)) (control_number controls label)
 number_of-push [] control label none = refl
 number_of-push (c ∷ cs) control label none =
-    let head = none_head (alike c control) (number_of cs control.label) none in
-    let tail = none_tail (alike c control) (number_of cs control.label) none in
+    let head = none_head (alike c control) (control_number cs control.label) none in
+    let tail = none_tail (alike c control) (control_number cs control.label) none in
     rw (number_of-push cs control label tail)
-    (push_case (same_label c.label label) (same_label control.label label) (length cs) (number_of cs label)
+    (push_case (same_label c.label label) (same_label control.label label) (length cs) (control_number cs label)
     (λ first second.
     let both : same_label c.label control.label ≡ true =
     label_equiv.symm c.label control.label ∙ label_equiv.congr control.label label c.label second ∙ label_equiv.symm label c.label ∙ first in
     false≢true (sym head ∙ both)))
 
 pub one_more_number : (controls : List Control) (control : Control) (numbers new : BTreeMap Label ℕ) → IsNumbering numbers controls
-    → number_of controls control.label ≡ None
+    → control_number controls control.label ≡ None
     → ((label : Label) → get label_cmp new label ≡ cond (same_label control.label label) (Some (length controls)) (get label_cmp numbers label))
     → IsNumbering new (controls ++ control ∷ [])
 one_more_number controls control numbers new is none updates label =
@@ -98,7 +98,7 @@ one_more_number controls control numbers new is none updates label =
 
 -- the map once a control is put in front of the later ones, whose numbers count on from its own
 abbrev pub IsNumberingFrom : ℕ → BTreeMap Label ℕ → List Control → Type 0
-IsNumberingFrom first numbers controls = (label : Label) → get label_cmp numbers label ≡ option_map (λ n. first + n) (number_of controls label)
+IsNumberingFrom first numbers controls = (label : Label) → get label_cmp numbers label ≡ option_map (λ n. first + n) (control_number controls label)
 
 front_case : (b : Bool) (m : ℕ) (o : Option ℕ)
     → cond b (Some m) (option_map (λ n. suc m + n) o) ≡ option_map (λ n. m + n) (cond b (Some 0) (option_map suc o))
@@ -111,7 +111,7 @@ put_front : (rest : List Control) (control : Control) (m : ℕ) (numbers new : B
     → IsNumberingFrom m new (control ∷ rest)
 put_front rest control m numbers new is updates label =
     updates label ∙ ap (λ o. cond (same_label control.label label) (Some m) o) (is label)
-    ∙ front_case (same_label control.label label) m (number_of rest label)
+    ∙ front_case (same_label control.label label) m (control_number rest label)
 
 pub numbering_turn : (controls : List Control) (n : ℕ) (numbers new : BTreeMap Label ℕ) (control : Control)
     → 0 < n → n ≤ length controls → control ≡ get_or controls (n - 1) control → IsNumberingFrom n numbers (drop n controls)
@@ -133,4 +133,4 @@ from_zero (Some n) = ap Some (zero-add n)
 
 -- a map that numbers all labels from 0
 pub numbering_whole : (controls : List Control) (numbers : BTreeMap Label ℕ) → IsNumberingFrom 0 numbers controls → IsNumbering numbers controls
-numbering_whole controls numbers is label = is label ∙ from_zero (number_of controls label)
+numbering_whole controls numbers is label = is label ∙ from_zero (control_number controls label)

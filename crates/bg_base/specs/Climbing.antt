@@ -20,9 +20,9 @@ pub record IsBelow {F V : Type 0} (is_foothold : F → Type 0) (value : F → V)
   pub row : value_at at ≡ value foothold
 
 -- what is found at a foothold
-abbrev pub IsFound : {F V : Type 0} → (F → Type 0) → (F → V) → (ℕ → V) → (F → ℕ) → F → Found V F → Type 0
-IsFound is_foothold value value_at height foothold (Value known) = known ≡ value foothold
-IsFound is_foothold value value_at height foothold (Row at above) = IsBelow is_foothold value value_at height foothold at above
+abbrev pub IsClimbFound : {F V : Type 0} → (F → Type 0) → (F → V) → (ℕ → V) → (F → ℕ) → F → Found V F → Type 0
+IsClimbFound is_foothold value value_at height foothold (Value known) = known ≡ value foothold
+IsClimbFound is_foothold value value_at height foothold (Row at above) = IsBelow is_foothold value value_at height foothold at above
 
 -- the node whose row stands there
 abbrev pub node_at : List NodeRow → ℕ → ℕ

@@ -18,8 +18,8 @@ IsIndexOf index rows part =
     (node : ℕ) → MatchOption (get nat_cmp index node) (row_of part node ≡ None) (λ at. slice_get rows at ≡ row_of part node)
 
 -- the map leads from each node's number to the position of its first row
-abbrev pub IsIndex : BTreeMap ℕ ℕ → List NodeRow → Type 0
-IsIndex index rows = IsIndexOf index rows rows
+abbrev pub IsRowIndex : BTreeMap ℕ ℕ → List NodeRow → Type 0
+IsRowIndex index rows = IsIndexOf index rows rows
 
 -- the first row of the node, and its position
 pub record IsFirstRow (rows : List NodeRow) (node at : ℕ) (row : NodeRow) : Type 0 where
@@ -45,6 +45,6 @@ AreRooted big marks = AreMarks (λ at. is_rooted big (node_at big.nodes at)) mar
 
 -- what the check keeps at hand for a bigraph: an index of its nodes, and its edges and outer names in order
 pub record IsLookup (big : Big) (nodes : BTreeMap ℕ ℕ) (edges : List ℕ) (outer : List Name) : Type 0 where
-  pub index : IsIndex nodes big.nodes
+  pub index : IsRowIndex nodes big.nodes
   pub edges_sorted : IsSortedCopy nat_cmp big.edges edges
   pub outer_sorted : IsSortedCopy name_cmp big.outer outer

@@ -13,10 +13,10 @@ abbrev pub same_label : Label → Label → Bool
 same_label x y = is_eq (label_cmp x y)
 
 -- the number of the first control with the label: its position, counted from 0
-abbrev pub number_of : List Control → Label → Option ℕ
-number_of [] label = None
-number_of (control ∷ controls) label =
-    if same_label control.label label then Some 0 else option_map suc (number_of controls label)
+abbrev pub control_number : List Control → Label → Option ℕ
+control_number [] label = None
+control_number (control ∷ controls) label =
+    if same_label control.label label then Some 0 else option_map suc (control_number controls label)
 
 -- what a signature keeps: at most 4,096 controls, no arity above 16, no label twice
 pub record IsSignature (controls : List Control) : Type 0 where
@@ -26,7 +26,7 @@ pub record IsSignature (controls : List Control) : Type 0 where
 
 -- the map leads from each label to the number of its control
 abbrev pub IsNumbering : BTreeMap Label ℕ → List Control → Type 0
-IsNumbering numbers controls = (label : Label) → get label_cmp numbers label ≡ number_of controls label
+IsNumbering numbers controls = (label : Label) → get label_cmp numbers label ≡ control_number controls label
 
 -- a signature, and the map by which its controls are found
 pub record IsIndexedSignature (controls : List Control) (numbers : BTreeMap Label ℕ) : Type 0 where

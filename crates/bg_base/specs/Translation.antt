@@ -13,26 +13,26 @@ use Rattle.bg_base.specs.declared.big.Big.{Big}
 use Rattle.bg_base.specs.Bigraph.{node_cmp}
 
 -- the number of the second list that stands where this one first stands in the first list; itself where it does not
-unfoldable pub along : List ℕ → List ℕ → ℕ → ℕ
-along [] new old = old
-along (x ∷ xs) [] old = old
-along (x ∷ xs) (y ∷ ys) old = if x == old then y else along xs ys old
+unfoldable pub number_renamed : List ℕ → List ℕ → ℕ → ℕ
+number_renamed [] new old = old
+number_renamed (x ∷ xs) [] old = old
+number_renamed (x ∷ xs) (y ∷ ys) old = if x == old then y else number_renamed xs ys old
 
 abbrev pub node_numbers : List NodeRow → List ℕ
 node_numbers rows = map (λ (row : NodeRow). row.id) rows
 
 abbrev pub place_renamed : Big → List ℕ → Place → Place
-place_renamed big nodes (Node node) = Node (along (node_numbers big.nodes) nodes node)
+place_renamed big nodes (Node node) = Node (number_renamed (node_numbers big.nodes) nodes node)
 place_renamed big nodes (Region region) = Region region
 
 abbrev pub link_renamed : Big → List ℕ → Link → Link
-link_renamed big edges (Edge edge) = Edge (along big.edges edges edge)
+link_renamed big edges (Edge edge) = Edge (number_renamed big.edges edges edge)
 link_renamed big edges (Outer name) = Outer name
 
 abbrev pub row_renamed : Big → List ℕ → List ℕ → NodeRow → NodeRow
 row_renamed big nodes edges row =
     record {
-      id = along (node_numbers big.nodes) nodes row.id;
+      id = number_renamed (node_numbers big.nodes) nodes row.id;
       control = row.control;
       parent = place_renamed big nodes row.parent;
       links = map (link_renamed big edges) row.links;

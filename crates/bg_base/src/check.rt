@@ -7,7 +7,7 @@ ghost use Rattle.bg_base.specs.Order.{name_cmp};
 ghost use Rattle.bg_base.specs.Bigraph as rule;
 ghost use Rattle.bg_base.specs.Bigraph.{IsValidUnder};
 ghost use Rattle.bg_base.specs.Faults as fault;
-ghost use Rattle.bg_base.specs.Lookup.{IsFirstRow, IsIndex, IsLookup, IsSortedCopy, AreRooted, TellsRoot, has_root};
+ghost use Rattle.bg_base.specs.Lookup.{IsFirstRow, IsRowIndex, IsLookup, IsSortedCopy, AreRooted, TellsRoot, has_root};
 ghost use Rattle.bg_base.specs.Climbing.{node_at};
 ghost use Rattle.bg_base.specs.Faults.{IsAnswer, IsMalformed};
 
@@ -65,7 +65,7 @@ struct Lookup {
 /// Where the first row of each node stands.
 fn index_of(alloc: Global, rows: &[NodeRow]) -> Mem<BTreeMap<u32, u32>>
     requires { length rows.now < 2 ^ 32 }
-    ensures { IfOk result (λ index. IsIndex index rows.now) }
+    ensures { IfOk result (λ index. IsRowIndex index rows.now) }
 {
     let mut index = BTreeMap::new(alloc);
     let mut at = rows.len();
@@ -106,7 +106,7 @@ fn lookup_of(alloc: Global, big: &Big) -> Mem<Lookup>
 
 /// The first row of the node.
 fn find_row<'a>(big: &'a Big, lookup: &Lookup, node: u32) -> Option<&'a NodeRow>
-    requires { IsIndex lookup.now.nodes big.now.nodes }
+    requires { IsRowIndex lookup.now.nodes big.now.nodes }
     ensures { option_copied result ≡ rule.row_of big.entry.now.nodes node }
 {
     match lookup.nodes.get(&node) {
@@ -117,7 +117,7 @@ fn find_row<'a>(big: &'a Big, lookup: &Lookup, node: u32) -> Option<&'a NodeRow>
 
 /// Whether the place is there.
 fn has_place(big: &Big, lookup: &Lookup, place: Place) -> bool
-    requires { IsIndex lookup.now.nodes big.now.nodes }
+    requires { IsRowIndex lookup.now.nodes big.now.nodes }
     ensures { result ≡ rule.has_place big.now place }
 {
     match place {
@@ -182,7 +182,7 @@ fn is_atomic_control(signature: &Signature, control: u32) -> bool
 
 /// Whether the place is a node of an atomic control.
 fn is_atomic(signature: &Signature, big: &Big, lookup: &Lookup, place: Place) -> bool
-    requires { IsIndex lookup.now.nodes big.now.nodes }
+    requires { IsRowIndex lookup.now.nodes big.now.nodes }
     ensures { result ≡ rule.is_atomic signature.now big.now place }
 {
     match place {
@@ -205,7 +205,7 @@ fn arity_of(signature: &Signature, control: u32) -> u32
 }
 
 fn site_code(signature: &Signature, big: &Big, lookup: &Lookup, place: Place) -> u8
-    requires { IsIndex lookup.now.nodes big.now.nodes }
+    requires { IsRowIndex lookup.now.nodes big.now.nodes }
     ensures { result ≡ fault.site_code signature.now big.now place }
 {
     if !has_place(big, lookup, place) {
@@ -224,7 +224,7 @@ fn first_site(
     lookup: &Lookup,
     sites: &[Place],
 ) -> Option<(u32, u8)>
-    requires index { IsIndex lookup.now.nodes big.now.nodes }
+    requires index { IsRowIndex lookup.now.nodes big.now.nodes }
     requires few { length sites.now < 2 ^ 32 }
     ensures { result ≡ fault.first_fault (map (fault.site_code signature.now big.now) sites.now) }
 {
@@ -319,7 +319,7 @@ fn first_edge(edges: &[u32]) -> Option<(u32, u8)>
 
 /// The first row of the node, and its position.
 fn row_at<'a>(big: &'a Big, lookup: &Lookup, node: u32) -> Option<(u32, &'a NodeRow)>
-    requires { IsIndex lookup.now.nodes big.now.nodes }
+    requires { IsRowIndex lookup.now.nodes big.now.nodes }
     ensures { MatchOption result (rule.row_of big.entry.now.nodes node ≡ None)
         (λ found. IsFirstRow big.entry.now.nodes node found.0 found.1.now) }
 {
@@ -351,7 +351,7 @@ impl<'a> Climbable for Roots<'a> {
 
     type Value = bool;
 
-    ghost is_foothold = { λ roots foothold. IsIndex roots.lookup.now.nodes roots.big.now.nodes × TellsRoot roots.big.now foothold.moves foothold.place };
+    ghost is_foothold = { λ roots foothold. IsRowIndex roots.lookup.now.nodes roots.big.now.nodes × TellsRoot roots.big.now foothold.moves foothold.place };
 
     ghost value = { λ roots foothold. has_root roots.big.now foothold.place };
 
@@ -381,7 +381,7 @@ impl<'a> Climbable for Roots<'a> {
 
 /// Whether the node has a root; the rows on the way are marked then, so that none is climbed from twice.
 fn is_rooted(big: &Big, lookup: &Lookup, marks: &mut [Option<bool>], node: u32) -> bool
-    requires index { IsIndex lookup.now.nodes big.now.nodes }
+    requires index { IsRowIndex lookup.now.nodes big.now.nodes }
     requires marks { AreRooted big.now marks.old }
     ensures value { result ≡ rule.is_rooted big.now node }
     ensures marks { AreRooted big.now marks.new }
@@ -458,7 +458,7 @@ fn first_node(
 
 #[tactic(auto, unfolding(crate::specs::Faults::sites_fault))]
 fn sites_fault(signature: &Signature, big: &Big, lookup: &Lookup) -> Option<(u32, u8)>
-    requires { IsIndex lookup.now.nodes big.now.nodes }
+    requires { IsRowIndex lookup.now.nodes big.now.nodes }
     ensures { result ≡ fault.sites_fault signature.now big.now }
 {
     first_site(signature, big, lookup, big.sites.as_slice())

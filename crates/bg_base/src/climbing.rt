@@ -1,7 +1,7 @@
 //! Climbs that leave marks. The value of a place is looked for by going up from it, row by row, and noted at each row on
 //! the way, so that no row is climbed from twice.
 ghost use Rattle.std.specs.Prelude.{◌≡◌, ℕ, IfOk};
-ghost use Rattle.bg_base.specs.Climbing.{AreMarks, IsFound};
+ghost use Rattle.bg_base.specs.Climbing.{AreMarks, IsClimbFound};
 
 use bg_lists::{Mem, mark_at, set_mark};
 use std::alloc::Global;
@@ -38,7 +38,7 @@ pub trait Climbable {
     /// What is found at the foothold.
     fn find(&self, foothold: Self::Foothold) -> Found<Self::Value, Self::Foothold>
         requires { is_foothold self.now foothold }
-        ensures { IsFound (is_foothold self.now) (value self.now) (value_at self.now) (height self.now) foothold result };
+        ensures { IsClimbFound (is_foothold self.now) (value self.now) (value_at self.now) (height self.now) foothold result };
 }
 
 /// The value of the foothold. Climbs until a value or a marked row.

@@ -102,7 +102,7 @@ impl From<OutOfMemory> for SignatureFault {
 impl Signature {
     ghost use Rattle.std.specs.Prelude.{◌≡◌, ◌≢◌, ◌+◌, ◌<◌, ◌≤◌, ◌↔◌, [], ◌∷◌, ◌++◌, length, IfOk, OnErr, IsErrOf, IfSome, Some, None, IsSome, IsNone, slice_get, option_map};
     ghost use Rattle.bg_base.specs.Limits.{most_controls, most_ports};
-    ghost use Rattle.bg_base.specs.Signatures.{number_of, IsSignature};
+    ghost use Rattle.bg_base.specs.Signatures.{control_number, IsSignature};
 
     /// The empty signature. Takes no memory.
     pub fn new(alloc: Global) -> Signature
@@ -128,10 +128,10 @@ impl Signature {
         ensures added { IfOk result (λ _. self.new ≡ self.old ++ (record { label = label; arity = arity; kind = kind }) ∷ []) }
         ensures unchanged { OnErr result (self.new ≡ self.old) }
 
-        ensures duplicate { IsErrOf result SignatureFault.DuplicateControl ↔ IsSome (number_of self.old label) }
-        ensures arity_too_large { IsErrOf result SignatureFault.ArityTooLarge ↔ (IsNone (number_of self.old label) × (most_ports < arity)) }
+        ensures duplicate { IsErrOf result SignatureFault.DuplicateControl ↔ IsSome (control_number self.old label) }
+        ensures arity_too_large { IsErrOf result SignatureFault.ArityTooLarge ↔ (IsNone (control_number self.old label) × (most_ports < arity)) }
         ensures too_many { IsErrOf result SignatureFault.TooManyControls
-            ↔ (IsNone (number_of self.old label) × (arity ≤ most_ports) × (length self.old ≡ most_controls)) }
+            ↔ (IsNone (control_number self.old label) × (arity ≤ most_ports) × (length self.old ≡ most_controls)) }
     {
         if self.find(&label).is_some() {
             return Err(SignatureFault::DuplicateControl);
@@ -152,7 +152,7 @@ impl Signature {
 
     /// The number of the control with the label. Takes no memory; logarithmic in the number of controls.
     pub fn find(&self, label: &Label) -> Option<u32>
-        ensures { result ≡ number_of self.now label.now }
+        ensures { result ≡ control_number self.now label.now }
     {
         self.numbers.get(label).copied()
     }

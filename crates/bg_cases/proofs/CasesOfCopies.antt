@@ -7,7 +7,7 @@ use Rattle.bg_base.specs.declared.big.NodeRow.{NodeRow}
 use Rattle.bg_base.specs.declared.big.Big.{Big}
 use Rattle.bg_base.specs.Composition.{compose}
 use Rattle.bg_base.specs.Elementary.{counted, identity}
-use Rattle.bg_base.specs.Translation.{along, rename}
+use Rattle.bg_base.specs.Translation.{number_renamed, rename}
 use Rattle.bg_base.specs.Products.{tensor, lean}
 use Rattle.bg_rules.specs.Instantiation.{part, late_nodes, number_in_copy, copies_from, instantiate, next_after}
 use Rattle.bg_rules.specs.Reaction.{HostState, recomposed}
@@ -61,5 +61,5 @@ parameter = places (node 1 1 (Region 0) ∷ node 2 2 (Node 1) ∷ []) [] 1
 
 copied_beside : recomposed host rule context parameter
     ≡ places (node 1 1 (Node 3) ∷ node 2 2 (Node 1) ∷ node 3 3 (Region 0) ∷ node 4 1 (Region 0) ∷ node 5 2 (Node 4) ∷ []) [] 1
-unfolding lean compose tensor rename identity counted along instantiate copies_from number_in_copy late_nodes part sort put
+unfolding lean compose tensor rename identity counted number_renamed instantiate copies_from number_in_copy late_nodes part sort put
 copied_beside = refl

@@ -12,7 +12,7 @@ use Rattle.bg_base.specs.declared.big.NodeRow.{NodeRow}
 use Rattle.bg_base.specs.declared.big.Big.{Big}
 use Rattle.bg_base.specs.Elementary.{counted}
 use Rattle.bg_base.specs.Faults.{fault_of, sites_fault, inner_fault, outer_fault, edges_fault, nodes_fault}
-use Rattle.bg_base.specs.Translation.{along}
+use Rattle.bg_base.specs.Translation.{number_renamed}
 use Rattle.bg_base.proofs.LookUps.{tied_numbers}
 use Rattle.bg_rules.specs.Decomposition.{Occurs}
 use Rattle.bg_rules.specs.LocalConditions.{MeetsLocally}
@@ -49,7 +49,7 @@ image_is n image (there (there (here e))) number control =
 image_is n image (there (there (there m))) number control = elim m [ ]
 
 found : (nodes : List ℕ) → MeetsLocally nested_host a_open nodes → Mem nodes ((0 ∷ []) ∷ (1 ∷ []) ∷ [])
-unfolding along
+unfolding number_renamed
 found [] local = let long = local.nodes_new.as_many in absurd (omega (arith, long))
 found (n ∷ []) local =
     let w = local.images (node_a 0 (Region 0)) (here refl) in image_is n w.0 w.1.of_host w.1.same w.2
@@ -57,7 +57,7 @@ found (n ∷ m ∷ rest) local = let long = local.nodes_new.as_many in absurd (o
 
 -- A.id occurs in A.A.B.1 twice: at the outer A, and at the inner A
 at_each_a : AreOccurrences nested_host a_open ((0 ∷ []) ∷ (1 ∷ []) ∷ [])
-unfolding along counted fault_of sites_fault inner_fault outer_fault edges_fault nodes_fault
+unfolding number_renamed counted fault_of sites_fault inner_fault outer_fault edges_fault nodes_fault
 at_each_a =
     let is = pattern_by four_controls a_open refl refl in
     let ground = ground_by four_controls nested_host refl refl in
@@ -95,7 +95,7 @@ in_both_orders m n differ (inr a) (inr b) =
     absurd (not_twice m (subst (λ k. IsDistinct (eq_by_cmp nat_cmp) (m ∷ k ∷ [])) (b ∙ sym a) differ))
 
 found_twins : (nodes : List ℕ) → MeetsLocally twins twins nodes → Mem nodes ((0 ∷ 1 ∷ []) ∷ (1 ∷ 0 ∷ []) ∷ [])
-unfolding along
+unfolding number_renamed
 found_twins [] local = let long = local.nodes_new.as_many in absurd (omega (arith, long))
 found_twins (m ∷ []) local = let long = local.nodes_new.as_many in absurd (omega (arith, long))
 found_twins (m ∷ n ∷ []) local =
@@ -106,7 +106,7 @@ found_twins (m ∷ n ∷ k ∷ rest) local = let long = local.nodes_new.as_many 
 
 -- A.1 | A.1 occurs in itself twice, in both orders of its nodes
 both_orders : AreOccurrences twins twins ((0 ∷ 1 ∷ []) ∷ (1 ∷ 0 ∷ []) ∷ [])
-unfolding along counted fault_of sites_fault inner_fault outer_fault edges_fault nodes_fault
+unfolding number_renamed counted fault_of sites_fault inner_fault outer_fault edges_fault nodes_fault
 both_orders =
     let is = pattern_by four_controls twins refl refl in
     let ground = ground_by four_controls twins refl refl in
@@ -127,7 +127,7 @@ b_alone = in_places (node_b 0 (Region 0) ∷ []) [] 1
 
 -- A.1 does not occur in B.1, at no nodes at all
 nowhere : AreOccurrences b_alone a_alone []
-unfolding along counted fault_of sites_fault inner_fault outer_fault edges_fault nodes_fault
+unfolding number_renamed counted fault_of sites_fault inner_fault outer_fault edges_fault nodes_fault
 nowhere =
     record {
       ascend = asc_nil;

@@ -21,7 +21,7 @@ use Rattle.bg_base.specs.Bigraph.{IsValid, IsGround, inner_cmp, outer_of}
 use Rattle.bg_base.specs.Composition.{compose, inner_names, row_through, link_through}
 use Rattle.bg_base.specs.Elementary.{counted, identity, row_to_itself}
 use Rattle.bg_base.specs.Faults.{fault_of, sites_fault, inner_fault, outer_fault, edges_fault, nodes_fault}
-use Rattle.bg_base.specs.Translation.{along, rename}
+use Rattle.bg_base.specs.Translation.{number_renamed, rename}
 use Rattle.bg_base.specs.Products.{tensor}
 use Rattle.bg_base.proofs.Composed.{length-compose_edges, nodes_apart, Mem-compose_upper, Mem-compose_cases}
 use Rattle.bg_rules.specs.Decomposition.{frame, names_of, IsParameter, Occurs}
@@ -59,7 +59,7 @@ one_more edges names e =
     omega (arith, long, short)
 
 pub inner_name : Fails (with_links (node_a 0 (Region 0) ∷ []) [] (y ∷ []) 1) a_and_inner_name (0 ∷ []) (true ∷ true ∷ true ∷ true ∷ true ∷ false ∷ true ∷ true ∷ [])
-unfolding along counted fault_of sites_fault inner_fault outer_fault edges_fault nodes_fault
+unfolding number_renamed counted fault_of sites_fault inner_fault outer_fault edges_fault nodes_fault
 inner_name =
     record {
       valid = valid_by four_controls _ refl;
@@ -83,11 +83,11 @@ abbrev child : NodeRow
 child = node_k 1 (Node 0) (Outer y)
 
 frame_row : (edges : List ℕ) (names : List Name) → Mem (node_k 0 (Region 0) (Outer (Port 1 0))) (frame k_on_port_name (0 ∷ []) edges names).nodes
-unfolding tensor rename identity along sort put
+unfolding tensor rename identity number_renamed sort put
 frame_row edges names = here refl
 
 frame_only : (edges : List ℕ) (names : List Name) (row : NodeRow) → Mem row (frame k_on_port_name (0 ∷ []) edges names).nodes → row.id ≡ 0
-unfolding tensor rename identity along sort put
+unfolding tensor rename identity number_renamed sort put
 frame_only edges names row m = ap (λ (r : NodeRow). r.id) (sym (the_only (node_k 0 (Region 0) (Outer (Port 1 0))) row m))
 
 -- the parameter has no port 0 of node 1
@@ -130,7 +130,7 @@ never_beside o =
     ]
 
 pub port_name : Fails k_in_k k_on_port_name (0 ∷ []) (true ∷ true ∷ true ∷ true ∷ true ∷ true ∷ false ∷ true ∷ [])
-unfolding along counted fault_of sites_fault inner_fault outer_fault edges_fault nodes_fault
+unfolding number_renamed counted fault_of sites_fault inner_fault outer_fault edges_fault nodes_fault
 port_name =
     record {
       valid = valid_by four_controls _ refl;
@@ -162,7 +162,7 @@ any_image =
     }
 
 local_with_idle_edge : MeetsLocally a_without_edge a_and_idle_edge (0 ∷ [])
-unfolding along
+unfolding number_renamed
 local_with_idle_edge =
     record {
       nodes_new = new_tells a_without_edge a_and_idle_edge (0 ∷ []) refl;
@@ -194,7 +194,7 @@ never_without_edge o =
     omega (arith, all, below, none, one, framed_edges)
 
 idle_edge_without_image : Fails a_without_edge a_and_idle_edge (0 ∷ []) (true ∷ true ∷ true ∷ true ∷ true ∷ true ∷ true ∷ false ∷ [])
-unfolding along counted fault_of sites_fault inner_fault outer_fault edges_fault nodes_fault
+unfolding number_renamed counted fault_of sites_fault inner_fault outer_fault edges_fault nodes_fault
 idle_edge_without_image =
     record {
       valid = valid_by four_controls _ refl;

@@ -14,7 +14,7 @@ use Rattle.bg_base.specs.Bigraph.{IsValid, IsGround}
 use Rattle.bg_base.specs.Composition.{compose}
 use Rattle.bg_base.specs.Elementary.{counted, identity}
 use Rattle.bg_base.specs.Faults.{fault_of, sites_fault, inner_fault, outer_fault, edges_fault, nodes_fault}
-use Rattle.bg_base.specs.Translation.{along, rename}
+use Rattle.bg_base.specs.Translation.{number_renamed, rename}
 use Rattle.bg_base.specs.Products.{same_link, has_point, tensor}
 use Rattle.bg_place.specs.Places.{same_place}
 use Rattle.bg_algebra.specs.Frame.{is_plain}
@@ -40,7 +40,7 @@ pub record Shows (host pattern : Big) (nodes : List ℕ) (met : List Bool) : Typ
 
 -- A.1 || 1 in A.1 || 1: the empty region may lie in each region of the host
 pub empty_region : Shows (in_places (node_a 0 (Region 0) ∷ []) [] 2) (in_places (node_a 0 (Region 0) ∷ []) [] 2) (0 ∷ []) (false ∷ true ∷ true ∷ true ∷ true ∷ true ∷ true ∷ true ∷ [])
-unfolding compose tensor identity rename along counted sort put fault_of sites_fault inner_fault outer_fault edges_fault nodes_fault
+unfolding compose tensor identity rename number_renamed counted sort put fault_of sites_fault inner_fault outer_fault edges_fault nodes_fault
 empty_region =
     record {
       valid = valid_by four_controls _ refl;
@@ -61,7 +61,7 @@ empty_region =
 
 -- A.1 with an idle name x in A.1 with idle names y and z: x may be tied to y or to z
 pub idle_name : Shows (with_links (node_a 0 (Region 0) ∷ []) [] (y ∷ z ∷ []) 1) (with_links (node_a 0 (Region 0) ∷ []) [] (x ∷ []) 1) (0 ∷ []) (true ∷ false ∷ true ∷ true ∷ true ∷ true ∷ true ∷ true ∷ [])
-unfolding compose tensor identity rename along counted sort put fault_of sites_fault inner_fault outer_fault edges_fault nodes_fault
+unfolding compose tensor identity rename number_renamed counted sort put fault_of sites_fault inner_fault outer_fault edges_fault nodes_fault
 idle_name =
     record {
       valid = valid_by four_controls _ refl;
@@ -82,7 +82,7 @@ idle_name =
 
 -- A.(id | id) in A.B.1: the B may lie in the first site or in the second
 pub two_sites_in_one_node : Shows (in_places (node_a 0 (Region 0) ∷ node_b 1 (Node 0) ∷ []) [] 1) (in_places (node_a 0 (Region 0) ∷ []) (Node 0 ∷ Node 0 ∷ []) 1) (0 ∷ []) (true ∷ true ∷ false ∷ true ∷ true ∷ true ∷ true ∷ true ∷ [])
-unfolding compose tensor identity rename along counted sort put fault_of sites_fault inner_fault outer_fault edges_fault nodes_fault
+unfolding compose tensor identity rename number_renamed counted sort put fault_of sites_fault inner_fault outer_fault edges_fault nodes_fault
 two_sites_in_one_node =
     record {
       valid = valid_by four_controls _ refl;
@@ -103,7 +103,7 @@ two_sites_in_one_node =
 
 -- A.1 | id in A.1 | B.1: the B may belong to the context or to the parameter
 pub site_in_a_region : Shows (in_places (node_a 0 (Region 0) ∷ node_b 1 (Region 0) ∷ []) [] 1) (in_places (node_a 0 (Region 0) ∷ []) (Region 0 ∷ []) 1) (0 ∷ []) (true ∷ true ∷ true ∷ false ∷ true ∷ true ∷ true ∷ true ∷ [])
-unfolding compose tensor identity rename along counted sort put fault_of sites_fault inner_fault outer_fault edges_fault nodes_fault
+unfolding compose tensor identity rename number_renamed counted sort put fault_of sites_fault inner_fault outer_fault edges_fault nodes_fault
 site_in_a_region =
     record {
       valid = valid_by four_controls _ refl;
@@ -124,7 +124,7 @@ site_in_a_region =
 
 -- A.1 with an idle edge in A.1 with two idle edges: each may be its image
 pub idle_edge : Shows (with_links (node_a 0 (Region 0) ∷ []) (3 ∷ 4 ∷ []) [] 1) (with_links (node_a 0 (Region 0) ∷ []) (0 ∷ []) [] 1) (0 ∷ []) (true ∷ true ∷ true ∷ true ∷ true ∷ true ∷ true ∷ false ∷ [])
-unfolding compose tensor identity rename along counted sort put fault_of sites_fault inner_fault outer_fault edges_fault nodes_fault
+unfolding compose tensor identity rename number_renamed counted sort put fault_of sites_fault inner_fault outer_fault edges_fault nodes_fault
 idle_edge =
     record {
       valid = valid_by four_controls _ refl;

@@ -9,7 +9,7 @@ use Rattle.bg_base.specs.declared.names.Link.TheVariants.{Edge, Outer}
 use Rattle.bg_base.specs.Composition.{compose}
 use Rattle.bg_base.specs.Elementary.{counted, identity, merger, idle, barren, empty, ion, atom}
 use Rattle.bg_base.specs.Products.{tensor, parallel, merge, nest, close, lean}
-use Rattle.bg_base.specs.Translation.{along, rename}
+use Rattle.bg_base.specs.Translation.{number_renamed, rename}
 
 -- the names x and y
 abbrev x : Name
@@ -96,5 +96,5 @@ renamed : rename (nest (ion 0 0 []) (atom 1 1 [])) (9 ∷ 4 ∷ []) [] ≡ recor
   regions = 1;
   outer = [];
 }
-unfolding rename along nest compose parallel identity counted ion atom put sort put_once set_of
+unfolding rename number_renamed nest compose parallel identity counted ion atom put sort put_once set_of
 renamed = refl

@@ -9,7 +9,7 @@ use Rattle.bg_base.specs.declared.big.Big.{Big}
 use Rattle.bg_base.specs.Composition.{compose}
 use Rattle.bg_base.specs.Elementary.{counted, identity}
 use Rattle.bg_base.specs.Faults.{fault_of, sites_fault, inner_fault, outer_fault, edges_fault, nodes_fault}
-use Rattle.bg_base.specs.Translation.{along, rename}
+use Rattle.bg_base.specs.Translation.{number_renamed, rename}
 use Rattle.bg_base.specs.Products.{tensor, lean}
 use Rattle.bg_rules.specs.Instantiation.{part, late_nodes, number_in_copy, copies_from, instantiate, next_after}
 use Rattle.bg_rules.specs.Reaction.{Reacts}
@@ -69,7 +69,7 @@ copied : Reacts (record { big = in_places (node_a 0 (Region 0) ∷ node_b 1 (Nod
       next_node = 5;
       next_edge = 0;
     })
-unfolding compose tensor identity rename along counted sort put lean instantiate copies_from number_in_copy late_nodes part fault_of sites_fault inner_fault outer_fault edges_fault nodes_fault
+unfolding compose tensor identity rename number_renamed counted sort put lean instantiate copies_from number_in_copy late_nodes part fault_of sites_fault inner_fault outer_fault edges_fault nodes_fault
 copied =
     reacts_by _ _ _ _ (in_places [] (Region 0 ∷ []) 1) [] (in_places (node_b 1 (Region 0) ∷ []) [] 1)
     (decomposes_by four_controls _ _ _ _ _ _ (valid_by four_controls _ refl) (valid_by four_controls _ refl) (parameter_by four_controls _ refl refl (refl, tt) refl) refl refl)
@@ -83,7 +83,7 @@ tied_anew : Reacts (record { big = with_links (node_k 0 (Region 0) (Outer y) ∷
       next_node = 7;
       next_edge = 8;
     })
-unfolding compose tensor identity rename along counted sort put lean instantiate copies_from number_in_copy late_nodes part fault_of sites_fault inner_fault outer_fault edges_fault nodes_fault
+unfolding compose tensor identity rename number_renamed counted sort put lean instantiate copies_from number_in_copy late_nodes part fault_of sites_fault inner_fault outer_fault edges_fault nodes_fault
 tied_anew =
     reacts_by _ _ _ _ (context_of [] [] (Region 0 ∷ []) (tied x (Outer y) ∷ []) 1 (y ∷ [])) [] nothing
     (decomposes_by four_controls _ _ _ _ _ _ (valid_by four_controls _ refl) (valid_by four_controls _ refl) (parameter_by four_controls _ refl refl tt refl) refl refl)
@@ -97,7 +97,7 @@ edge_dropped : Reacts (record { big = with_links (node_k 0 (Region 0) (Edge 3) �
       next_node = 3;
       next_edge = 4;
     })
-unfolding compose tensor identity rename along counted sort put lean instantiate copies_from number_in_copy late_nodes part fault_of sites_fault inner_fault outer_fault edges_fault nodes_fault
+unfolding compose tensor identity rename number_renamed counted sort put lean instantiate copies_from number_in_copy late_nodes part fault_of sites_fault inner_fault outer_fault edges_fault nodes_fault
 edge_dropped =
     reacts_by _ _ _ _ (context_of (node_b 1 (Region 0) ∷ []) (3 ∷ []) (Region 0 ∷ []) (tied x (Edge 3) ∷ []) 1 []) [] nothing
     (decomposes_by four_controls _ _ _ _ _ _ (valid_by four_controls _ refl) (valid_by four_controls _ refl) (parameter_by four_controls _ refl refl tt refl) refl refl)
@@ -108,7 +108,7 @@ edge_dropped =
 part_discarded : Reacts (record { big = with_links (node_a 0 (Region 0) ∷ node_k 1 (Node 0) (Edge 3) ∷ []) (3 ∷ []) [] 1; next_node = 2; next_edge = 4 })
     (rule_of a_open (in_places (node_b 0 (Region 0) ∷ []) [] 1) []) (0 ∷ [])
     (record { big = in_places (node_b 2 (Region 0) ∷ []) [] 1; next_node = 3; next_edge = 4 })
-unfolding compose tensor identity rename along counted sort put lean instantiate copies_from number_in_copy late_nodes part fault_of sites_fault inner_fault outer_fault edges_fault nodes_fault
+unfolding compose tensor identity rename number_renamed counted sort put lean instantiate copies_from number_in_copy late_nodes part fault_of sites_fault inner_fault outer_fault edges_fault nodes_fault
 part_discarded =
     reacts_by _ _ _ _ (context_of [] (3 ∷ []) (Region 0 ∷ []) (tied (Port 1 0) (Edge 3) ∷ []) 1 []) [] (parameter_of (node_k 1 (Region 0) (Outer (Port 1 0)) ∷ []) 1 (Port 1 0 ∷ []))
     (decomposes_by four_controls _ _ _ _ _ _ (valid_by four_controls _ refl) (valid_by four_controls _ refl) (parameter_by four_controls _ refl refl (refl, tt) refl) refl refl)

@@ -10,7 +10,7 @@ use Rattle.bg_base.specs.Bigraph.{IsValid, has_place}
 use Rattle.bg_base.specs.Composition.{compose}
 use Rattle.bg_base.specs.Elementary.{counted, identity}
 use Rattle.bg_base.specs.Faults.{fault_of, sites_fault, inner_fault, outer_fault, edges_fault, nodes_fault}
-use Rattle.bg_base.specs.Translation.{along, rename}
+use Rattle.bg_base.specs.Translation.{number_renamed, rename}
 use Rattle.bg_base.specs.Products.{tensor}
 use Rattle.bg_rules.specs.Decomposition.{frame, IsParameter}
 use Rattle.bg_cases.specs.Parts.{OnlyRows}
@@ -37,20 +37,20 @@ plain_context = in_places [] (Region 0 ∷ []) 1
 
 -- with such a parameter all fits, and the whole is the host
 parameter_fits : parts_fit a_alone (0 ∷ []) plain_context [] lost_parameter ≡ true
-unfolding compose tensor identity rename along counted sort put
+unfolding compose tensor identity rename number_renamed counted sort put
 parameter_fits = refl
 
 parameter_makes_the_host : compose plain_context (compose (frame a_alone (0 ∷ []) [] []) lost_parameter) ≡ host
-unfolding compose tensor identity rename along counted sort put
+unfolding compose tensor identity rename number_renamed counted sort put
 parameter_makes_the_host = refl
 
 -- so too with such a context
 context_fits : parts_fit a_alone (0 ∷ []) lost_context [] nothing ≡ true
-unfolding compose tensor identity rename along counted sort put
+unfolding compose tensor identity rename number_renamed counted sort put
 context_fits = refl
 
 context_makes_the_host : compose lost_context (compose (frame a_alone (0 ∷ []) [] []) nothing) ≡ host
-unfolding compose tensor identity rename along counted sort put
+unfolding compose tensor identity rename number_renamed counted sort put
 context_makes_the_host = refl
 
 -- but neither is valid
@@ -105,9 +105,9 @@ abbrev wide_host : Big
 wide_host = in_places (node_a 0 (Region 0) ∷ node_b 1 (Region 0) ∷ node_b 2 (Region 0) ∷ []) [] 1
 
 rows_in_order : compose (in_places (node_b 1 (Region 0) ∷ node_b 2 (Region 0) ∷ []) (Region 0 ∷ []) 1) (compose (frame a_alone (0 ∷ []) [] []) nothing) ≡ wide_host
-unfolding compose tensor identity rename along counted sort put
+unfolding compose tensor identity rename number_renamed counted sort put
 rows_in_order = refl
 
 rows_out_of_order : compose (in_places (node_b 2 (Region 0) ∷ node_b 1 (Region 0) ∷ []) (Region 0 ∷ []) 1) (compose (frame a_alone (0 ∷ []) [] []) nothing) ≡ wide_host
-unfolding compose tensor identity rename along counted sort put
+unfolding compose tensor identity rename number_renamed counted sort put
 rows_out_of_order = refl

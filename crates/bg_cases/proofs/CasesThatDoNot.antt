@@ -12,7 +12,7 @@ use Rattle.bg_base.specs.declared.big.Big.{Big}
 use Rattle.bg_base.specs.declared.signature.Control.{Control}
 use Rattle.bg_base.specs.Elementary.{counted}
 use Rattle.bg_base.specs.Faults.{fault_of, sites_fault, inner_fault, outer_fault, edges_fault, nodes_fault}
-use Rattle.bg_base.specs.Translation.{along}
+use Rattle.bg_base.specs.Translation.{number_renamed}
 use Rattle.bg_base.specs.Products.{same_link}
 use Rattle.bg_place.specs.Places.{same_place}
 use Rattle.bg_rules.specs.Decomposition.{Occurs}
@@ -31,7 +31,7 @@ pub record DoesNotOccur (host pattern : Big) (nodes : List ℕ) (hold : Conditio
 
 -- A.1 in B.1: another control
 pub another_control : DoesNotOccur (in_places (node_b 0 (Region 0) ∷ []) [] 1) a_alone (0 ∷ []) (record all_hold { images = false })
-unfolding along counted fault_of sites_fault inner_fault outer_fault edges_fault nodes_fault
+unfolding number_renamed counted fault_of sites_fault inner_fault outer_fault edges_fault nodes_fault
 another_control =
     record {
       never = λ occurs. let local = locally_by four_controls occurs refl refl refl refl in
@@ -50,7 +50,7 @@ k_without_port = in_places (record { id = 0; control = 2; parent = Region 0; lin
 -- K without a port in K{y}: another number of ports
 another_number_of_ports : DoesNotOccur (with_links (node_k 0 (Region 0) (Outer y) ∷ []) [] (y ∷ []) 1) k_without_port (0 ∷ [])
     (record all_hold { images = false })
-unfolding along counted fault_of sites_fault inner_fault outer_fault edges_fault nodes_fault
+unfolding number_renamed counted fault_of sites_fault inner_fault outer_fault edges_fault nodes_fault
 another_number_of_ports =
     record {
       never = λ occurs. let local = occurs_locally _ _ (pattern_by other_controls k_without_port refl refl) (ground_by four_controls _ refl refl) (0 ∷ []) occurs in
@@ -61,7 +61,7 @@ another_number_of_ports =
 
 -- A.1 in A.1 at node 7, which is not there
 node_not_there : DoesNotOccur (in_places (node_a 0 (Region 0) ∷ []) [] 1) a_alone (7 ∷ []) (record all_hold { images = false })
-unfolding along counted fault_of sites_fault inner_fault outer_fault edges_fault nodes_fault
+unfolding number_renamed counted fault_of sites_fault inner_fault outer_fault edges_fault nodes_fault
 node_not_there =
     record {
       never = λ occurs. let local = locally_by four_controls occurs refl refl refl refl in
@@ -73,7 +73,7 @@ node_not_there =
 -- A.1 | B.1 in A.1 | B.1 at node 0 alone: not as many nodes as the pattern has
 too_few_nodes : DoesNotOccur (in_places (node_a 0 (Region 0) ∷ node_b 1 (Region 0) ∷ []) [] 1)
     a_with_b (0 ∷ []) (record all_hold { nodes_new = false })
-unfolding along counted fault_of sites_fault inner_fault outer_fault edges_fault nodes_fault
+unfolding number_renamed counted fault_of sites_fault inner_fault outer_fault edges_fault nodes_fault
 too_few_nodes =
     record {
       never = λ occurs. let local = locally_by four_controls occurs refl refl refl refl in
@@ -84,7 +84,7 @@ too_few_nodes =
 -- A.1 | A.1 in A.1 at node 0 twice
 pub one_node_twice : DoesNotOccur (in_places (node_a 0 (Region 0) ∷ []) [] 1)
     (in_places (node_a 0 (Region 0) ∷ node_a 1 (Region 0) ∷ []) [] 1) (0 ∷ 0 ∷ []) (record all_hold { nodes_new = false })
-unfolding along counted fault_of sites_fault inner_fault outer_fault edges_fault nodes_fault IsDistinct
+unfolding number_renamed counted fault_of sites_fault inner_fault outer_fault edges_fault nodes_fault IsDistinct
 one_node_twice =
     record {
       never = λ occurs. let local = locally_by four_controls occurs refl refl refl refl in
@@ -97,7 +97,7 @@ one_node_twice =
 -- A.B.1 in A.1 | B.1: the B does not lie in the A
 pub not_nested : DoesNotOccur (in_places (node_a 0 (Region 0) ∷ node_b 1 (Region 0) ∷ []) [] 1)
     b_in_a (0 ∷ 1 ∷ []) (record all_hold { nested = false })
-unfolding along counted fault_of sites_fault inner_fault outer_fault edges_fault nodes_fault
+unfolding number_renamed counted fault_of sites_fault inner_fault outer_fault edges_fault nodes_fault
 not_nested =
     record {
       never = λ occurs. let local = locally_by four_controls occurs refl refl refl refl in
@@ -111,7 +111,7 @@ not_nested =
 -- A.1 in A.B.1: the A has a child, and the pattern no site for it. With the site it occurs (`child_in_the_parameter`)
 pub child_without_a_site : DoesNotOccur (in_places (node_a 0 (Region 0) ∷ node_b 1 (Node 0) ∷ []) [] 1)
     a_alone (0 ∷ []) (record all_hold { children = false })
-unfolding along counted fault_of sites_fault inner_fault outer_fault edges_fault nodes_fault
+unfolding number_renamed counted fault_of sites_fault inner_fault outer_fault edges_fault nodes_fault
 child_without_a_site =
     record {
       never = λ occurs. let local = locally_by four_controls occurs refl refl refl refl in
@@ -125,7 +125,7 @@ child_without_a_site =
 -- A.1 | B.1 in A.1 || B.1: the nodes of one region lie in two places. As A.1 || B.1 they occur (`regions_in_two_places`)
 pub region_in_two_places : DoesNotOccur (in_places (node_a 0 (Region 0) ∷ node_b 1 (Region 1) ∷ []) [] 2)
     a_with_b (0 ∷ 1 ∷ []) (record all_hold { one_parent = false })
-unfolding along counted fault_of sites_fault inner_fault outer_fault edges_fault nodes_fault
+unfolding number_renamed counted fault_of sites_fault inner_fault outer_fault edges_fault nodes_fault
 region_in_two_places =
     record {
       never = λ occurs. let local = locally_by four_controls occurs refl refl refl refl in
@@ -138,7 +138,7 @@ region_in_two_places =
 -- A.1 || B.1 in A.B.1: a region lies in an image of the pattern. That the A has a child is no hindrance, since the child is an image
 pub region_in_an_image : DoesNotOccur (in_places (node_a 0 (Region 0) ∷ node_b 1 (Node 0) ∷ []) [] 1)
     a_beside_b (0 ∷ 1 ∷ []) (record all_hold { clear = false })
-unfolding along counted fault_of sites_fault inner_fault outer_fault edges_fault nodes_fault
+unfolding number_renamed counted fault_of sites_fault inner_fault outer_fault edges_fault nodes_fault
 region_in_an_image =
     record {
       never = λ occurs. let local = locally_by four_controls occurs refl refl refl refl in
@@ -149,7 +149,7 @@ region_in_an_image =
 -- A.id || B.1 in A.A.B.1, at the outer A: an image lies further up
 region_deep_in_an_image : DoesNotOccur (in_places (node_a 0 (Region 0) ∷ node_a 1 (Node 0) ∷ node_b 2 (Node 1) ∷ []) [] 1)
     (in_places (node_a 0 (Region 0) ∷ node_b 1 (Region 1) ∷ []) (Node 0 ∷ []) 2) (0 ∷ 2 ∷ []) (record all_hold { clear = false })
-unfolding along counted fault_of sites_fault inner_fault outer_fault edges_fault nodes_fault
+unfolding number_renamed counted fault_of sites_fault inner_fault outer_fault edges_fault nodes_fault
 region_deep_in_an_image =
     record {
       never = λ occurs. let local = locally_by four_controls occurs refl refl refl refl in
@@ -163,7 +163,7 @@ region_deep_in_an_image =
 -- K{x} | K{x} in K{y} | K{z}: the host ties the ports to two links. As K{x} | K{y} they occur (`two_names_on_two_links`)
 pub one_name_on_two_links : DoesNotOccur (with_links (node_k 0 (Region 0) (Outer y) ∷ node_k 1 (Region 0) (Outer z) ∷ []) [] (y ∷ z ∷ []) 1)
     two_k_on_x (0 ∷ 1 ∷ []) (record all_hold { shared = false })
-unfolding along counted fault_of sites_fault inner_fault outer_fault edges_fault nodes_fault
+unfolding number_renamed counted fault_of sites_fault inner_fault outer_fault edges_fault nodes_fault
 one_name_on_two_links =
     record {
       never = λ occurs. let local = locally_by four_controls occurs refl refl refl refl in
@@ -179,7 +179,7 @@ one_name_on_two_links =
 -- /x (K{x} | K{x}) in K{z} | K{z}: the host has an outer name there, which a context could tie further
 pub closed_link_on_an_outer_name : DoesNotOccur (with_links (node_k 0 (Region 0) (Outer z) ∷ node_k 1 (Region 0) (Outer z) ∷ []) [] (z ∷ []) 1)
     two_k_closed (0 ∷ 1 ∷ []) (record all_hold { closed = false })
-unfolding along counted fault_of sites_fault inner_fault outer_fault edges_fault nodes_fault
+unfolding number_renamed counted fault_of sites_fault inner_fault outer_fault edges_fault nodes_fault
 closed_link_on_an_outer_name =
     record {
       never = λ occurs. let local = locally_by four_controls occurs refl refl refl refl in
@@ -192,7 +192,7 @@ closed_link_on_an_outer_name =
 -- /x (K{x} | K{x}) in /z (K{z} | K{z} | K{z}): the edge has a further point. With the pattern open they occur (`one_name_on_one_edge`)
 closed_link_with_a_further_point : DoesNotOccur (with_links (node_k 0 (Region 0) (Edge 4) ∷ node_k 1 (Region 0) (Edge 4) ∷ node_k 2 (Region 0) (Edge 4) ∷ []) (4 ∷ []) [] 1)
     two_k_closed (0 ∷ 1 ∷ []) (record all_hold { closed = false })
-unfolding along counted fault_of sites_fault inner_fault outer_fault edges_fault nodes_fault
+unfolding number_renamed counted fault_of sites_fault inner_fault outer_fault edges_fault nodes_fault
 closed_link_with_a_further_point =
     record {
       never = λ occurs. let local = locally_by four_controls occurs refl refl refl refl in
@@ -206,7 +206,7 @@ closed_link_with_a_further_point =
 -- /x K{x}.id in /z K{z}.K{z}.1, at node 0: the further point lies in the parameter
 closed_link_with_a_point_below : DoesNotOccur (with_links (node_k 0 (Region 0) (Edge 4) ∷ node_k 1 (Node 0) (Edge 4) ∷ []) (4 ∷ []) [] 1)
     (record (with_links (node_k 0 (Region 0) (Edge 0) ∷ []) (0 ∷ []) [] 1) { sites = Node 0 ∷ [] }) (0 ∷ []) (record all_hold { closed = false })
-unfolding along counted fault_of sites_fault inner_fault outer_fault edges_fault nodes_fault
+unfolding number_renamed counted fault_of sites_fault inner_fault outer_fault edges_fault nodes_fault
 closed_link_with_a_point_below =
     record {
       never = λ occurs. let local = locally_by four_controls occurs refl refl refl refl in
@@ -223,7 +223,7 @@ second_link first second link (at_there (at_here e)) = e
 -- /x L{x, y} in /z L{z, z}: the further point is another port of the same node
 closed_link_with_a_further_port : DoesNotOccur (with_links (node_l 0 (Region 0) (Edge 5) (Edge 5) ∷ []) (5 ∷ []) [] 1)
     l_half_closed (0 ∷ []) (record all_hold { closed = false })
-unfolding along counted fault_of sites_fault inner_fault outer_fault edges_fault nodes_fault
+unfolding number_renamed counted fault_of sites_fault inner_fault outer_fault edges_fault nodes_fault
 closed_link_with_a_further_port =
     record {
       never = λ occurs. let local = locally_by four_controls occurs refl refl refl refl in
@@ -244,7 +244,7 @@ first_link first link (at_here e) = e
 two_closed_links_on_one_edge : DoesNotOccur (with_links (node_k 0 (Region 0) (Edge 4) ∷ node_k 1 (Region 0) (Edge 4) ∷ []) (4 ∷ []) [] 1)
     two_closed_links (0 ∷ 1 ∷ [])
     (record all_hold { closed = false })
-unfolding along counted fault_of sites_fault inner_fault outer_fault edges_fault nodes_fault
+unfolding number_renamed counted fault_of sites_fault inner_fault outer_fault edges_fault nodes_fault
 two_closed_links_on_one_edge =
     record {
       never = λ occurs. let local = locally_by four_controls occurs refl refl refl refl in

@@ -4,7 +4,7 @@ use Rattle.std.proofs.lemmas.Bool.{cases_Bool, false≢true}
 use Rattle.bg_base.specs.declared.big.Big.{Big}
 use Rattle.bg_base.specs.Elementary.{counted}
 use Rattle.bg_base.specs.Faults.{fault_of, sites_fault, inner_fault, outer_fault, edges_fault, nodes_fault}
-use Rattle.bg_base.specs.Translation.{along}
+use Rattle.bg_base.specs.Translation.{number_renamed}
 use Rattle.bg_rules.specs.LocalConditions.{MeetsLocally}
 use Rattle.bg_rules.proofs.Occurrences.{locally_occurs}
 use Rattle.bg_cases.specs.Conditions.{LocalCondition, as_many_nodes, same_controls, same_nesting, sites_for_children, regions_in_one_place, regions_outside, links_kept, links_closed, MeetsCondition, OnlyFails}
@@ -157,7 +157,7 @@ needed_by condition {host} {pattern} {nodes} shown pattern_fine like host_fine b
         ]
 
 pub needed : (condition : LocalCondition) → IsNeeded condition
-unfolding along counted fault_of sites_fault inner_fault outer_fault edges_fault nodes_fault
+unfolding number_renamed counted fault_of sites_fault inner_fault outer_fault edges_fault nodes_fault
 needed as_many_nodes = needed_by as_many_nodes one_node_twice refl refl refl refl
 needed same_controls = needed_by same_controls another_control refl refl refl refl
 needed same_nesting = needed_by same_nesting not_nested refl refl refl refl

@@ -6,7 +6,7 @@ use Rattle.bg_code.specs.Code.{code_of}
 use Rattle.bg_code.specs.Lowering.{lowered}
 use Rattle.bg_terms.specs.declared.shape.BinaryOperation.{BinaryOperation}
 use Rattle.bg_terms.specs.Expressions.{Expression, binary}
-use Rattle.bg_terms.specs.Trees.{Reading, Visible, joined}
+use Rattle.bg_terms.specs.Trees.{Reading, Visible, binary_read}
 use Rattle.bg_values.specs.declared.refusal.Refusal.{Refusal}
 use Rattle.bg_values.specs.declared.refusal.Stop.{Stop}
 use Rattle.bg_values.specs.declared.refusal.Stop.TheVariants.{Refused, OutOfMemory}
@@ -15,7 +15,7 @@ use Rattle.bg_values.specs.Outcome.{◌>>=◌, Stops}
 module _ (kind : BinaryOperation) (at : ℕ) (right : Reading) (visible : Visible) (base code : List Operation) (e : Expression) (starts : code ≡ base ++ code_of e) where
   -- the right operand was lowered
   pub joined_made : (made : List Operation) → lowered code (right.1 visible) ≡ Ok made
-      → lowered base (joined kind at right visible e) ≡ Ok (made ++ Join kind at ∷ [])
+      → lowered base (binary_read kind at right visible e) ≡ Ok (made ++ Join kind at ∷ [])
   joined_made made = by (right.1 visible)
     where
       by : (r : Result Expression Refusal) → lowered code r ≡ Ok made → lowered base (r >>= λ d. Ok (binary kind at e d)) ≡ Ok (made ++ Join kind at ∷ [])
@@ -28,7 +28,7 @@ module _ (kind : BinaryOperation) (at : ℕ) (right : Reading) (visible : Visibl
       by (Err refusal) is = absurd cc
 
   -- the right operand is refused
-  pub joined_stops : (stop : Stop) → Stops stop (lowered code (right.1 visible)) → Stops stop (lowered base (joined kind at right visible e))
+  pub joined_stops : (stop : Stop) → Stops stop (lowered code (right.1 visible)) → Stops stop (lowered base (binary_read kind at right visible e))
   joined_stops stop = by stop (right.1 visible)
     where
       by : (s : Stop) (r : Result Expression Refusal) → Stops s (lowered code r) → Stops s (lowered base (r >>= λ d. Ok (binary kind at e d)))

@@ -38,9 +38,9 @@ abbrev pub Extends : {X : Type 0} → Result X Stop → List Operation → List 
 Extends result old new item = (base : List Operation) (e : Expression) → old ≡ base ++ code_of e → Goes result new (lowered base (item e))
 
 -- a call gives the operations of the expression that is read, or stops
-abbrev pub Reads : Result (Vec Operation Global) Stop → Result Expression Refusal → Type 0
-Reads (Ok code) read = (e : Expression) × (read ≡ Ok e) × (code.items ≡ code_of e)
-Reads (Err stop) read = Stops stop read
+abbrev pub GivesOperations : Result (Vec Operation Global) Stop → Result Expression Refusal → Type 0
+GivesOperations (Ok code) read = (e : Expression) × (read ≡ Ok e) × (code.items ≡ code_of e)
+GivesOperations (Err stop) read = Stops stop read
 
 -- a call gives the first tokens and the steps of the formulas that are read, or stops
 abbrev pub ReadsArguments : Result (List (ℕ × List Step)) Stop → Result (List Operand) Refusal → Type 0

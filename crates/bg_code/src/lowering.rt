@@ -1,6 +1,6 @@
 //! From a tree of the grammar to the operations of its expression.
 ghost use Rattle.std.specs.Prelude.{◌≡◌, ◌∷◌, ◌++◌, [], map, Ok, Some};
-ghost use Rattle.bg_code.specs.Lowering.{lowered, Extends, Reads};
+ghost use Rattle.bg_code.specs.Lowering.{lowered, Extends, GivesOperations};
 ghost use Rattle.bg_terms.specs.Trees as definition;
 ghost use Rattle.bg_values.specs.Outcome.{Gives, Goes};
 
@@ -23,7 +23,7 @@ use std::alloc::Global;
 /// (41), `WrongArguments` (45) or `WrongPorts` (43), at a bigraph with `UnknownName` or `WrongArguments`, in arithmetic
 /// with `UnknownName`; or, with `Unexpected` (31), a token that does not spell what the tree says. Linear in the tree.
 pub fn code_of(alloc: Global, visible: &Visible, tree: &SynE) -> Result<Vec<Operation>, Stop>
-    ensures { Reads result ((definition.e_read tree.now).1 visible.now) }
+    ensures { GivesOperations result ((definition.e_read tree.now).1 visible.now) }
 {
     let mut code = Vec::new(alloc);
     lower_e(alloc, visible, tree, &mut code)?;
@@ -93,7 +93,7 @@ fn lower_e_items(
     items: &[SynE1Item],
     code: &mut Vec<Operation>,
 ) -> Result<(), Stop>
-    ensures { Extends result code.old.items code.new.items (definition.along (map definition.e1_item_read items.now) visible.now) }
+    ensures { Extends result code.old.items code.new.items (definition.items_read (map definition.e1_item_read items.now) visible.now) }
 {
     for item in items {
         lower_e_item(alloc, visible, item, code)?;
@@ -139,7 +139,7 @@ fn lower_p_items(
     items: &[SynP1Item],
     code: &mut Vec<Operation>,
 ) -> Result<(), Stop>
-    ensures { Extends result code.old.items code.new.items (definition.along (map definition.p1_item_read items.now) visible.now) }
+    ensures { Extends result code.old.items code.new.items (definition.items_read (map definition.p1_item_read items.now) visible.now) }
 {
     for item in items {
         lower_p_item(alloc, visible, item, code)?;
@@ -185,7 +185,7 @@ fn lower_m_items(
     items: &[SynM1Item],
     code: &mut Vec<Operation>,
 ) -> Result<(), Stop>
-    ensures { Extends result code.old.items code.new.items (definition.along (map definition.m1_item_read items.now) visible.now) }
+    ensures { Extends result code.old.items code.new.items (definition.items_read (map definition.m1_item_read items.now) visible.now) }
 {
     for item in items {
         lower_m_item(alloc, visible, item, code)?;
@@ -231,7 +231,7 @@ fn lower_c_items(
     items: &[SynC1Item],
     code: &mut Vec<Operation>,
 ) -> Result<(), Stop>
-    ensures { Extends result code.old.items code.new.items (definition.along (map definition.c1_item_read items.now) visible.now) }
+    ensures { Extends result code.old.items code.new.items (definition.items_read (map definition.c1_item_read items.now) visible.now) }
 {
     for item in items {
         lower_c_item(alloc, visible, item, code)?;

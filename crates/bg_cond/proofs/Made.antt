@@ -18,7 +18,7 @@ use Rattle.bg_base.proofs.SearchLaws.{edge_searched}
 use Rattle.bg_rules.specs.Instantiation.{is_among}
 use Rattle.bg_rules.proofs.Patterns.{number_mem, number_row}
 use Rattle.bg_rules.proofs.Upwards.{is_among-member, is_among-none}
-use Rattle.bg_cond.specs.Pieces.{hole_control, holes, opened, links_at, piece_row}
+use Rattle.bg_cond.specs.Pieces.{hole_control, holes, link_opened, links_at, piece_row}
 
 -- ---- searches
 
@@ -45,7 +45,7 @@ module _ (xs ys : List ℕ) (copy : IsSortedCopy nat_cmp xs ys) where
   pub same_among : (number : ℕ) → is_among number ys ≡ is_among number xs
   same_among number = sym (list_any-IsPermutation (λ other. other == number) xs ys copy.same)
 
-  opened_same : (link : Link) → opened ys link ≡ opened xs link
+  opened_same : (link : Link) → link_opened ys link ≡ link_opened xs link
   opened_same (Edge edge) = ap (λ b. if b then Outer (Opened edge) else Edge edge) (same_among edge)
   opened_same (Outer name) = refl
 

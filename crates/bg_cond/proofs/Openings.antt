@@ -17,7 +17,7 @@ use Rattle.bg_algebra.specs.Frame.{is_plain}
 use Rattle.bg_rules.specs.Instantiation.{is_among}
 use Rattle.bg_rules.proofs.Patterns.{link_there, name_there}
 use Rattle.bg_rules.proofs.Upwards.{is_among-none, among_cases, not_among}
-use Rattle.bg_cond.specs.Pieces.{edges_in, names_in, tied_edges, tied_names, edges_outside, opened}
+use Rattle.bg_cond.specs.Pieces.{edges_in, names_in, tied_edges, tied_names, edges_outside, link_opened}
 
 plain_not_opened : {name : Name} {edge : ℕ} → is_plain name ≡ true → name ≡ Opened edge → ⊥
 plain_not_opened plain e = let bad : true ≡ false = sym plain ∙ ap is_plain e in cc
@@ -92,14 +92,14 @@ module _ (rows : List NodeRow) (nodes : List ℕ) where
       not_among nodes (not-true (is_among w.0.id nodes) v.1) (all w.0 a.0 v.0 a.1))
 
 module _ (outside : List ℕ) where
-  pub opened_uncut : {edge : ℕ} → is_among edge outside ≡ false → opened outside (Edge edge) ≡ Edge edge
+  pub opened_uncut : {edge : ℕ} → is_among edge outside ≡ false → link_opened outside (Edge edge) ≡ Edge edge
   opened_uncut {edge} e = cond-false (is_among edge outside) _ _ e
 
-  pub opened_cut : {edge : ℕ} → is_among edge outside ≡ true → opened outside (Edge edge) ≡ Outer (Opened edge)
+  pub opened_cut : {edge : ℕ} → is_among edge outside ≡ true → link_opened outside (Edge edge) ≡ Outer (Opened edge)
   opened_cut {edge} e = cond-true (is_among edge outside) _ _ e
 
   -- what stays an edge was that edge, and is not cut
-  pub unopened : {edge : ℕ} (link : Link) → opened outside link ≡ Edge edge → (link ≡ Edge edge) × (is_among edge outside ≡ false)
+  pub unopened : {edge : ℕ} (link : Link) → link_opened outside link ≡ Edge edge → (link ≡ Edge edge) × (is_among edge outside ≡ false)
   unopened {edge} (Edge other) e =
       elim (cases_Bool (is_among other outside)) [
         | inl cut ↦ (let clash : Outer (Opened other) ≡ Edge edge = sym (opened_cut cut) ∙ e in cc)
@@ -112,7 +112,7 @@ module _ (outside : List ℕ) where
   abbrev IsUnopened : Link → Type 0
   IsUnopened link = (edge : ℕ) → link ≡ Outer (Opened edge) → ⊥
 
-  opened_edge : (edge : ℕ) (other : Link) → opened outside (Edge edge) ≡ opened outside other → IsUnopened other → Edge edge ≡ other
+  opened_edge : (edge : ℕ) (other : Link) → link_opened outside (Edge edge) ≡ link_opened outside other → IsUnopened other → Edge edge ≡ other
   opened_edge edge (Edge other) e none =
       elim (cases_Bool (is_among edge outside)) [
         | inl c ↦ elim (cases_Bool (is_among other outside)) [
@@ -130,7 +130,7 @@ module _ (outside : List ℕ) where
         | inr c ↦ sym (opened_uncut c) ∙ e
       ]
 
-  pub opened_injective : (link other : Link) → IsUnopened link → IsUnopened other → opened outside link ≡ opened outside other → link ≡ other
+  pub opened_injective : (link other : Link) → IsUnopened link → IsUnopened other → link_opened outside link ≡ link_opened outside other → link ≡ other
   opened_injective (Edge edge) other none none_other e = opened_edge edge other e none_other
   opened_injective (Outer name) (Edge edge) none none_other e = sym (opened_edge edge (Outer name) (sym e) none)
   opened_injective (Outer name) (Outer other) none none_other e = e

@@ -42,9 +42,9 @@ abbrev pub edges_outside : List NodeRow → List ℕ → List ℕ
 edges_outside rows nodes = tied_edges (filter (λ (row : NodeRow). not (is_among row.id nodes)) rows)
 
 -- where these edges are opened, what the link becomes
-abbrev pub opened : List ℕ → Link → Link
-opened edges (Edge edge) = if is_among edge edges then Outer (Opened edge) else Edge edge
-opened edges (Outer name) = Outer name
+abbrev pub link_opened : List ℕ → Link → Link
+link_opened edges (Edge edge) = if is_among edge edges then Outer (Opened edge) else Edge edge
+link_opened edges (Outer name) = Outer name
 
 -- ---- rows
 
@@ -54,7 +54,7 @@ links_at rows node = unwrap_or (option_map (λ (row : NodeRow). row.links) (row_
 
 -- a row of a part of the host: its place is that of the part, its links are those of the host, where these edges are opened
 abbrev pub piece_row : List NodeRow → List ℕ → NodeRow → NodeRow
-piece_row rows edges row = record row { links = map (opened edges) (links_at rows row.id) }
+piece_row rows edges row = record row { links = map (link_opened edges) (links_at rows row.id) }
 
 -- the rows of the part, where the edges with a port outside of it are opened
 abbrev pub piece_rows : List NodeRow → List NodeRow → List NodeRow

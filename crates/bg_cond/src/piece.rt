@@ -148,7 +148,7 @@ fn edge_set(mut edges: Vec<u32>) -> Mem<Rows<u32>>
 /// What the link becomes.
 fn opened(alloc: Global, cut: &[u32], link: &Link) -> Mem<Link>
     requires sorted { IsSorted nat_cmp cut.now }
-    ensures { IfOk result (λ made. made ≡ defined.opened cut.now link.now) }
+    ensures { IfOk result (λ made. made ≡ defined.link_opened cut.now link.now) }
 {
     match link {
         Link::Edge(edge) => Ok(opened_edge(cut, *edge)),
@@ -158,7 +158,7 @@ fn opened(alloc: Global, cut: &[u32], link: &Link) -> Mem<Link>
 
 fn opened_edge(cut: &[u32], edge: u32) -> Link
     requires sorted { IsSorted nat_cmp cut.now }
-    ensures { result ≡ defined.opened cut.now (EdgeLink edge) }
+    ensures { result ≡ defined.link_opened cut.now (EdgeLink edge) }
 {
     if has(cut, edge) {
         Link::Outer(Name::Opened(edge))
@@ -169,7 +169,7 @@ fn opened_edge(cut: &[u32], edge: u32) -> Link
 
 fn opened_links(alloc: Global, cut: &[u32], links: &[Link]) -> Mem<SmallVec<Link, 4>>
     requires sorted { IsSorted nat_cmp cut.now }
-    ensures { IfOk result (λ made. made.items ≡ map (defined.opened cut.now) links.now) }
+    ensures { IfOk result (λ made. made.items ≡ map (defined.link_opened cut.now) links.now) }
 {
     let mut made = SmallVec::new(alloc);
     for link in links {
@@ -182,7 +182,7 @@ fn opened_links(alloc: Global, cut: &[u32], links: &[Link]) -> Mem<SmallVec<Link
 fn links_in_piece(alloc: Global, rows: &[NodeRow], cut: &[u32], node: u32) -> Mem<PortLinks>
     requires ascending { IsStrictlySortedBy node_cmp rows.now }
     requires sorted { IsSorted nat_cmp cut.now }
-    ensures { IfOk result (λ made. made ≡ map (defined.opened cut.now) (defined.links_at rows.now node)) }
+    ensures { IfOk result (λ made. made ≡ map (defined.link_opened cut.now) (defined.links_at rows.now node)) }
 {
     match find_node(rows, node) {
         Some(row) => {

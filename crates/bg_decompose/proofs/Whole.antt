@@ -20,7 +20,7 @@ use Rattle.bg_base.specs.declared.big.Big.{Big}
 use Rattle.bg_base.specs.Bigraph.{IsValid}
 use Rattle.bg_base.specs.Composition.{inner_names}
 use Rattle.bg_base.specs.Elementary.{counted}
-use Rattle.bg_base.specs.Translation.{along, place_renamed}
+use Rattle.bg_base.specs.Translation.{number_renamed, place_renamed}
 use Rattle.bg_base.proofs.LookUps.{row_of-member}
 use Rattle.bg_base.proofs.Counted.{length-counted}
 use Rattle.bg_place.specs.Places.{same_place}
@@ -106,7 +106,7 @@ inside_row host nodes {row} m =
 module _ (host pattern : Big) (nodes : List ℕ) (is : IsPattern pattern) (host_valid : IsValid host) (local : MeetsLocally host pattern nodes) where
   -- ---- the edges
 
-  edge_is : (edge : ℕ) → Mem edge pattern.edges → IsEdgeImage host pattern nodes edge (along pattern.edges (edge_images host pattern nodes) edge)
+  edge_is : (edge : ℕ) → Mem edge pattern.edges → IsEdgeImage host pattern nodes edge (number_renamed pattern.edges (edge_images host pattern nodes) edge)
   edge_is edge m =
       let w = local.closed edge m in
       let u = used_edge pattern is m in
@@ -116,7 +116,7 @@ module _ (host pattern : Big) (nodes : List ℕ) (is : IsPattern pattern) (host_
       let a = At-from_Mem m in
       let one = along_at_place pattern.edges (edge_images host pattern nodes) (sym (length-map pattern.edges (image_edge host pattern nodes)))
       (pattern_edges_differ pattern is.valid) a.1 in
-      let same : along pattern.edges (edge_images host pattern nodes) edge ≡ w.0 = At-one one (At-map (image_edge host pattern nodes) a.1) ∙ image in
+      let same : number_renamed pattern.edges (edge_images host pattern nodes) edge ≡ w.0 = At-one one (At-map (image_edge host pattern nodes) a.1) ∙ image in
       subst (IsEdgeImage host pattern nodes edge) (sym same) w.1
 
   -- ---- the sites

@@ -6,8 +6,8 @@ use Rattle.bg_rules.specs.Decomposition.{put_together, AreNew, FitTogether}
 
 -- the context, composed with the middle at these nodes and edges beside the identity on the parameter's names, composed
 -- with the parameter
-abbrev pub joined : Big → List ℕ → Big → List ℕ → Big → Big
-joined middle nodes context edges parameter = put_together middle nodes context edges parameter.outer parameter
+abbrev pub recomposed_from : Big → List ℕ → Big → List ℕ → Big → Big
+recomposed_from middle nodes context edges parameter = put_together middle nodes context edges parameter.outer parameter
 
 -- the two are valid, the numbers are new ones for the middle, and the three fit together
 pub record IsJoinable (middle : Big) (nodes : List ℕ) (context : Big) (edges : List ℕ) (parameter : Big) : Type 0 where

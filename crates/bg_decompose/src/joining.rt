@@ -8,7 +8,7 @@ ghost use Rattle.bg_base.specs.Products as product;
 ghost use Rattle.bg_base.specs.Translation as renaming;
 ghost use Rattle.bg_algebra.specs.Laws.{Apart};
 ghost use Rattle.bg_rules.specs.Decomposition.{AreNew, frame};
-ghost use Rattle.bg_decompose.specs.Joining.{IsJoinable, joined};
+ghost use Rattle.bg_decompose.specs.Joining.{IsJoinable, recomposed_from};
 
 use crate::Decomposition;
 use bg_algebra::{AlgebraFault, compose, identity, rename, tensor};
@@ -22,7 +22,7 @@ use std::alloc::Global;
 /// Costs time n log n in the size of the three, and memory in proportion to it.
 pub fn join(alloc: Global, parts: &Decomposition, pattern: &Pattern) -> Mem<Big>
     requires joinable { IsJoinable pattern.now parts.now.map parts.now.context parts.now.images parts.now.parameter }
-    ensures value { IfOk result (λ whole. whole ≡ joined pattern.now parts.now.map parts.now.context parts.now.images parts.now.parameter) }
+    ensures value { IfOk result (λ whole. whole ≡ recomposed_from pattern.now parts.now.map parts.now.context parts.now.images parts.now.parameter) }
     ensures valid { IfOk result IsValid }
 {
     let whole = recompose(
@@ -49,7 +49,7 @@ pub fn recompose(
 ) -> Mem<Big>
     requires middle_valid { IsValid middle.now }
     requires joinable { IsJoinable middle.now nodes.now context.now edges.now parameter.now }
-    ensures value { IfOk result (λ whole. whole ≡ joined middle.now nodes.now context.now edges.now parameter.now) }
+    ensures value { IfOk result (λ whole. whole ≡ recomposed_from middle.now nodes.now context.now edges.now parameter.now) }
     ensures valid { IfOk result IsValid }
 {
     let frame = frame_of(alloc, middle, nodes, edges, parameter)?;

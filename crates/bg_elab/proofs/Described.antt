@@ -2,14 +2,14 @@
 use Rattle.std.proofs.Common.{◌≡◌, ℕ, List, Result, Ok, Err, refl, sym, ◌∙◌}
 use Rattle.bg_elab.specs.declared.fault.ModelFault.{ModelFault}
 use Rattle.bg_elab.specs.Elaboration.{text_of}
-use Rattle.bg_elab.specs.Reading.{told, IsReading, no_tokens, unexpected, too_deep, comes_to}
+use Rattle.bg_elab.specs.Reading.{at_its_byte, IsReading, no_tokens, unexpected, too_deep, comes_to}
 use Rattle.bg_elab.specs.Systems.{elaborated}
 use Rattle.bg_elab.proofs.SystemsKept.{elaborated_is_system}
 use Rattle.bg_rules.specs.Systems.{SystemParts, IsSystem}
 use Rattle.bg_values.specs.declared.refusal.Refusal.{Refusal}
 use Rattle.bg_values.specs.Scopes.{ScopeParts}
 
-told_ok : (text : ScopeParts) (outcome : Result SystemParts Refusal) (system : SystemParts) → told text outcome ≡ Ok system → outcome ≡ Ok system
+told_ok : (text : ScopeParts) (outcome : Result SystemParts Refusal) (system : SystemParts) → at_its_byte text outcome ≡ Ok system → outcome ≡ Ok system
 told_ok text (Ok other) system is =
     let plain : ◌≡◌ {A = Result SystemParts ModelFault} (Ok other) (Ok system) = is in
     let same : other ≡ system = cc in

@@ -10,7 +10,7 @@ use Rattle.bg_base.specs.Composition.{faces_agree}
 use Rattle.bg_base.specs.Elementary.{identity, merger, idle}
 use Rattle.bg_base.specs.Elementary as elementary
 use Rattle.bg_base.specs.Order.{name_cmp}
-use Rattle.bg_base.specs.Signatures.{number_of}
+use Rattle.bg_base.specs.Signatures.{control_number}
 use Rattle.bg_terms.specs.declared.shape.BinaryOperation.{BinaryOperation}
 use Rattle.bg_terms.specs.declared.shape.BinaryOperation.TheVariants.{Composition, Tensor, Parallel, Merge}
 use Rattle.bg_terms.specs.declared.shape.Shape.{Shape}
@@ -18,7 +18,7 @@ use Rattle.bg_terms.specs.Expansion.{Meaning, with_values, node_term, meant, exp
 use Rattle.bg_terms.specs.Expressions.{Expression, node, reference, names, identity_of, merger_of, barren, empty, brackets, deeper, closure, nesting, binary}
 use Rattle.bg_terms.specs.Terms as terms
 use Rattle.bg_terms.specs.Terms.{Term}
-use Rattle.bg_terms.specs.Values.{Reached, plain_names, tallied, entered_at, entered, limited, within, single, wide, inner_meets, outer_meets, combined, nested, closed, value}
+use Rattle.bg_terms.specs.Values.{Reached, plain_names, tallied, entered_at, entered, limited, within, single, wide, inner_meets, outer_meets, combined, nested, name_closed, value}
 use Rattle.bg_values.specs.declared.refusal.Refusal.{Refusal}
 use Rattle.bg_elab.proofs.Expected.{IsOther, IsExpected, good, bad, goes_on, whether, values_expected}
 
@@ -32,7 +32,7 @@ entered_at_expected at control controls (Some number) = good
 entered_at_expected at control controls None = whether (ltb (length controls) most_controls) good (bad (λ e. omega arith))
 
 pub entered_expected : (at : ℕ) (control : Control) (controls : List Control) → IsExpected (entered at control controls)
-entered_expected at control controls = entered_at_expected at control controls (number_of controls control.label)
+entered_expected at control controls = entered_at_expected at control controls (control_number controls control.label)
 
 limited_expected : (at : ℕ) (big : Big) → IsExpected (limited at big)
 limited_expected at big =
@@ -89,7 +89,7 @@ term_expected (terms.empty at) h depth c = goes_on (tallied_expected at c) (λ t
 term_expected (terms.counted at t) h depth c = goes_on (tallied_expected at c) (λ r. term_expected t h depth r)
 term_expected (terms.deeper at t) h depth c = whether (ltb depth most_depth) (term_expected t h (depth + 1) c) (bad (λ e. omega arith))
 term_expected (terms.closure at word t) h depth c =
-    goes_on (term_expected t h depth (record c { edges = c.edges + 1 })) (λ v. within_expected at (closed c.edges (Plain word) v.0) v.1)
+    goes_on (term_expected t h depth (record c { edges = c.edges + 1 })) (λ v. within_expected at (name_closed c.edges (Plain word) v.0) v.1)
 term_expected (terms.nesting at is_atom t u) h depth c =
     goes_on (term_expected t h.0 depth c) (λ f. goes_on (term_expected u h.1 depth f.1) (λ g. goes_on (nested_expected at is_atom f.0 g.0) (λ big. within_expected at big g.1)))
 term_expected (terms.binary kind at t u) h depth c =

@@ -22,7 +22,7 @@ use Rattle.bg_statements.specs.RuleValues.{Setting, term_in, whole_value, with_v
 use Rattle.bg_statements.specs.Statements.{new_word, with_formal, entered_at_once, with_shape, tried, with_expression, setting_of, rule_tried, with_rule_expression}
 use Rattle.bg_statements.specs.Uses.{setting_with, bigraph_used, is_ground, ground_at, host_used, predicate_used, rule_used}
 use Rattle.bg_terms.specs.declared.shape.Shape.{Shape}
-use Rattle.bg_terms.specs.Expansion.{control_of, expand, meanings_of}
+use Rattle.bg_terms.specs.Expansion.{control_of_shape, expand, meanings_of}
 use Rattle.bg_terms.specs.Expressions.{Expression}
 use Rattle.bg_terms.specs.Read.{shapes_of}
 use Rattle.bg_terms.specs.Terms.{Term}
@@ -30,7 +30,7 @@ use Rattle.bg_values.specs.declared.refusal.Cause.TheVariants as causes
 use Rattle.bg_values.specs.declared.refusal.LimitWord.{LimitWord}
 use Rattle.bg_values.specs.declared.refusal.LimitWord.TheVariants.{Rules, Preds}
 use Rattle.bg_values.specs.declared.refusal.Refusal.{Refusal}
-use Rattle.bg_values.specs.Names.{Entry, number_of}
+use Rattle.bg_values.specs.Names.{Entry, name_number}
 use Rattle.bg_values.specs.Scopes.{ScopeParts, spelling}
 use Rattle.bg_elab.proofs.Expected.{IsExpected, good, bad, goes_on, there, whether, values_expected}
 use Rattle.bg_elab.proofs.ExpectedTerms.{entered_expected, IsExpectedTerm, term_expected, expansion_expected}
@@ -80,13 +80,13 @@ rule_expected s rule met =
 -- ---- statements
 
 pub new_word_expected : {T : Type 0} (text : ScopeParts) (entries : List (Entry T)) (token : ℕ) → IsExpected (new_word text entries token)
-new_word_expected text entries token = whether (is_some (number_of (spelling text token) entries)) (bad (λ e. omega arith)) good
+new_word_expected text entries token = whether (is_some (name_number (spelling text token) entries)) (bad (λ e. omega arith)) good
 
 pub formal_expected : (text : ScopeParts) (token : ℕ) (formals : List (Entry (Unit {0}))) → IsExpected (with_formal text token formals)
 formal_expected text token formals = goes_on (new_word_expected text formals token) (λ word. good)
 
 entered_once : (at formals : ℕ) (shape : Shape) (d : Defined) → IsExpected (entered_at_once at formals shape d)
-entered_once at zero shape d = goes_on (entered_expected at (control_of shape []) d.signature) (λ e. good)
+entered_once at zero shape d = goes_on (entered_expected at (control_of_shape shape []) d.signature) (λ e. good)
 entered_once at (suc n) shape d = good
 
 pub shape_expected : (at : ℕ) (word : List ℕ) (formals : ℕ) (shape : Shape) (d : Defined) → IsExpected (with_shape at word formals shape d)

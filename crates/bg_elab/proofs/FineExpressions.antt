@@ -4,7 +4,7 @@ use Rattle.bg_syntax.specs.declared.symbol.Symbol.TheVariants as symbols
 use Rattle.bg_syntax.specs.Grammar.{k, s}
 use Rattle.bg_terms.specs.declared.shape.ControlEntry.{ControlEntry}
 use Rattle.bg_terms.specs.Expressions.{Expression}
-use Rattle.bg_terms.specs.Trees.{Visible, Onward, word_at, words_at, along}
+use Rattle.bg_terms.specs.Trees.{Visible, Onward, word_at, words_at, items_read}
 use Rattle.bg_text.specs.declared.token.TokenKind.TheVariants as kinds
 use Rattle.bg_values.specs.declared.refusal.Cause.TheVariants as causes
 use Rattle.bg_values.specs.Names.{Entry, look_up}
@@ -37,7 +37,7 @@ definition_expected base at args h names controls bigraphs =
     whether (not (eqb args.0 found.1)) (bad (λ e. omega arith)) (goes_on (h names) (λ fs. good)))
 
 items_expected : (base : ScopeParts) (xs : List Onward) → Along base xs → (names : Names) (controls : List (Entry ControlEntry)) (bigraphs : List (Entry ℕ))
-    (e : Expression) → IsExpected (along xs (seen base names controls bigraphs) e)
+    (e : Expression) → IsExpected (items_read xs (seen base names controls bigraphs) e)
 items_expected base _ no_item names controls bigraphs e = good
 items_expected base _ (one_item {items = xs} h more) names controls bigraphs e =
     goes_on (h e names controls bigraphs) (λ d. items_expected base xs more names controls bigraphs d)

@@ -5,11 +5,11 @@ use Rattle.bg_syntax.specs.Grammar.{k, s}
 use Rattle.bg_text.specs.declared.token.TokenKind.TheVariants as kinds
 use Rattle.bg_values.specs.declared.refusal.Cause.TheVariants as causes
 use Rattle.bg_values.specs.Arithmetic.{Formula}
-use Rattle.bg_values.specs.Names.{number_of}
+use Rattle.bg_values.specs.Names.{name_number}
 use Rattle.bg_values.specs.Numbers.{number_in}
 use Rattle.bg_values.specs.Outcome.{there_or}
 use Rattle.bg_values.specs.Reading.{number_at, text_at, name_at}
-use Rattle.bg_values.specs.Reading.{Onward as FormulaOnward, along as formula_along}
+use Rattle.bg_values.specs.Reading.{Onward as FormulaOnward, items_read as formula_along}
 use Rattle.bg_values.specs.Scopes.{ScopeParts, spelling}
 use Rattle.bg_elab.proofs.Expected.{IsExpected, good, goes_on, there}
 use Rattle.bg_elab.proofs.ExpectedUses.{formal_expected}
@@ -26,7 +26,7 @@ pub text_expected : (base : ScopeParts) (n : ℕ) → IsQuoted base n → IsExpe
 text_expected base n h = rw h good
 
 named_expected : (base : ScopeParts) (n : ℕ) → IsExpected (name_at base n)
-named_expected base n = there causes.UnknownName n (number_of (spelling base n) base.names) (λ e. omega arith)
+named_expected base n = there causes.UnknownName n (name_number (spelling base n) base.names) (λ e. omega arith)
 
 along_expected : (base : ScopeParts) (items : List FormulaOnward) → FormulasAlong base items → (names : Names) (first : ℕ) (f : Formula)
     → IsExpected (formula_along items (scoped base names) first f)

@@ -7,13 +7,13 @@ use Rattle.bg_elab.specs.declared.fault.Detail.{Detail}
 use Rattle.bg_elab.specs.declared.fault.ModelFault.{ModelFault}
 use Rattle.bg_elab.specs.declared.fault.ModelFault.TheVariants as faults
 use Rattle.bg_elab.specs.Elaboration.{text_of}
-use Rattle.bg_elab.specs.Reading.{told, IsReading, no_tokens, unexpected, too_deep, comes_to}
+use Rattle.bg_elab.specs.Reading.{at_its_byte, IsReading, no_tokens, unexpected, too_deep, comes_to}
 use Rattle.bg_elab.specs.Spellings.{IsUnexpectedAt}
 use Rattle.bg_elab.specs.Systems.{elaborated}
 use Rattle.bg_elab.proofs.Expected.{IsExpected}
 use Rattle.bg_elab.proofs.FineTrees.{text_expected}
 use Rattle.bg_rules.specs.Systems.{SystemParts}
-use Rattle.bg_text.specs.Tokens.{greatest, is_decimal, number_fault, Refuses, bad_byte, bad_in_text, open_text, bad_number}
+use Rattle.bg_text.specs.Tokens.{greatest_int, is_decimal, number_fault, Refuses, bad_byte, bad_in_text, open_text, bad_number}
 use Rattle.bg_values.specs.declared.refusal.Refusal.{Refusal}
 use Rattle.bg_values.specs.Scopes.{ScopeParts}
 
@@ -33,7 +33,7 @@ unfolding number_fault
 number_other [] e = omega arith
 number_other (b ∷ bytes) e =
     let run = prefix_len is_ascii_digit (b ∷ bytes) in
-    fault_other (is_ascii_digit b) (is_decimal (drop run (b ∷ bytes))) (ltb greatest (digits_value 10 (take run (b ∷ bytes)))) e
+    fault_other (is_ascii_digit b) (is_decimal (drop run (b ∷ bytes))) (ltb greatest_int (digits_value 10 (take run (b ∷ bytes)))) e
 
 lexical_other : {bytes : List ℕ} {number apart : ℕ} → Refuses bytes number apart → number ≡ 31 → ⊥
 lexical_other (bad_byte g k) e = omega arith
@@ -52,7 +52,7 @@ offset_same : {number other : ℕ} {detail more : Detail} {offset away : ℕ}
 offset_same e = cc
 
 told_other : (text : ScopeParts) (came : Result SystemParts Refusal) → IsExpected came → (detail : Detail) (offset : ℕ)
-    → told text came ≡ Err (faults.Bad 31 detail offset) → ⊥
+    → at_its_byte text came ≡ Err (faults.Bad 31 detail offset) → ⊥
 told_other text (Ok system) h detail offset e = absurd cc
 told_other text (Err refusal) h detail offset e = h.expected refusal refl (code_same e)
 

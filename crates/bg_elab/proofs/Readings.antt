@@ -5,7 +5,7 @@ use Rattle.bg_elab.specs.declared.fault.Detail.{Detail}
 use Rattle.bg_elab.specs.declared.fault.ModelFault.{ModelFault}
 use Rattle.bg_elab.specs.declared.fault.ModelFault.TheVariants as faults
 use Rattle.bg_elab.specs.Elaboration.{start_or, offset_of, text_of, Elaborates}
-use Rattle.bg_elab.specs.Reading.{of_lexical, of_syntax, told, IsReading, no_tokens, unexpected, too_deep, comes_to, Reads}
+use Rattle.bg_elab.specs.Reading.{of_lexical, of_syntax, at_its_byte, IsReading, no_tokens, unexpected, too_deep, comes_to, GivesReading}
 use Rattle.bg_elab.specs.Systems.{elaborated}
 use Rattle.bg_grammar.specs.Grammar.{Step}
 use Rattle.bg_grammar.specs.Faults.{IsShallow, Fault, IsFault, IsOnlyFault}
@@ -47,12 +47,12 @@ offset_inside : (bytes : List ℕ) (tokens : List Token) (number : ℕ) → AreT
 offset_inside bytes tokens number cut = starts_inside cut (length bytes) number (omega arith)
 
 told_inside : (bytes : List ℕ) (tokens : List Token) (came : Result SystemParts Refusal) (code : ℕ) (detail : Detail) (offset : ℕ) → AreTokens bytes tokens
-    → Err (faults.Bad code detail offset) ≡ told (text_of bytes tokens) came → offset ≤ length bytes
+    → Err (faults.Bad code detail offset) ≡ at_its_byte (text_of bytes tokens) came → offset ≤ length bytes
 told_inside bytes tokens (Ok system) code detail offset cut e = absurd cc
 told_inside bytes tokens (Err refusal) code detail offset cut e =
     subst (λ z. z ≤ length bytes) (sym (same e)) (offset_inside bytes tokens refusal.token cut)
   where
-    same : Err (faults.Bad code detail offset) ≡ told (text_of bytes tokens) (Err refusal) → offset ≡ offset_of (text_of bytes tokens) refusal.token
+    same : Err (faults.Bad code detail offset) ≡ at_its_byte (text_of bytes tokens) (Err refusal) → offset ≡ offset_of (text_of bytes tokens) refusal.token
     same e = cc
 
 pub inside : (bytes : List ℕ) (code : ℕ) (detail : Detail) (offset : ℕ) → IsReading bytes (Err (faults.Bad code detail offset)) → offset ≤ length bytes
@@ -84,11 +84,11 @@ same_fault bytes ts us first second cut other f g =
     (subst (λ z. IsFault grammar (symbol_number symbols.Model) most_levels (kinds z) second) (tokens_once bytes us ts other cut) g.first)
 
 told_same : (bytes : List ℕ) (ts us : List Token) (one other : SynModel) → AreTokens bytes ts → AreTokens bytes us → IsTreeOf ts one → IsTreeOf us other
-    → told (text_of bytes ts) (elaborated (text_of bytes ts) one) ≡ told (text_of bytes us) (elaborated (text_of bytes us) other)
+    → at_its_byte (text_of bytes ts) (elaborated (text_of bytes ts) one) ≡ at_its_byte (text_of bytes us) (elaborated (text_of bytes us) other)
 told_same bytes ts us one other cut away is also =
     let e : us ≡ ts = tokens_once bytes us ts away cut in
-    ap (told (text_of bytes ts)) (same_tokens (text_of bytes ts) ts one other is (subst (λ z. IsTreeOf z other) e also))
-    ∙ ap (λ z. told (text_of bytes z) (elaborated (text_of bytes z) other)) (sym e)
+    ap (at_its_byte (text_of bytes ts)) (same_tokens (text_of bytes ts) ts one other is (subst (λ z. IsTreeOf z other) e also))
+    ∙ ap (λ z. at_its_byte (text_of bytes z) (elaborated (text_of bytes z) other)) (sym e)
 
 pub one_reading : (bytes : List ℕ) (one other : Result SystemParts ModelFault) → IsReading bytes one → IsReading bytes other → one ≡ other
 one_reading bytes one other (no_tokens {code = c} {offset = o} r) (no_tokens {code = d} {offset = p} q) =
@@ -119,24 +119,24 @@ one_reading bytes one other (comes_to ts tree cut is e) (comes_to us wood away a
 
 -- ---- what the call reads
 
-lexical_read : (bytes : List ℕ) (fault : LexFault) → IsLexFault bytes fault → Reads (Err (of_lexical fault)) bytes
+lexical_read : (bytes : List ℕ) (fault : LexFault) → IsLexFault bytes fault → GivesReading (Err (of_lexical fault)) bytes
 lexical_read bytes (lexical.Bad code offset) r = no_tokens r
 lexical_read bytes lexical.OutOfMemory r = tt
 
 pub residual_read : (bytes : List ℕ) (fault : LexFault) (made : Result SystemParts ModelFault) → IsErr made → IsErrAnd made (λ other. other ≡ of_lexical fault)
-    → IsLexFault bytes fault → Reads made bytes
+    → IsLexFault bytes fault → GivesReading made bytes
 residual_read bytes fault (Ok system) err is r = absurd cc
-residual_read bytes fault (Err other) err is r = subst (λ z. Reads (Err z) bytes) (sym is) (lexical_read bytes fault r)
+residual_read bytes fault (Err other) err is r = subst (λ z. GivesReading (Err z) bytes) (sym is) (lexical_read bytes fault r)
 
 pub syntax_read : (bytes : List ℕ) (tokens : List Token) (fault : SyntaxFault) → AreTokens bytes tokens → IsSyntaxFault tokens fault
-    → Reads (Err (of_syntax (text_of bytes tokens) fault)) bytes
+    → GivesReading (Err (of_syntax (text_of bytes tokens) fault)) bytes
 syntax_read bytes tokens (syntax.Unexpected t) cut f = unexpected tokens cut f
 syntax_read bytes tokens (syntax.TooDeep t) cut f = too_deep tokens cut f
 syntax_read bytes tokens syntax.OutOfMemory cut f = tt
 
 pub elaborated_read : (bytes : List ℕ) (tokens : List Token) (tree : SynModel) (made : Result SystemParts ModelFault) → AreTokens bytes tokens
-    → IsTreeOf tokens tree → Elaborates made bytes tokens tree → Reads made bytes
-elaborated_read bytes tokens tree (Ok system) cut is e = comes_to tokens tree cut is (ap (told (text_of bytes tokens)) (sym e))
+    → IsTreeOf tokens tree → Elaborates made bytes tokens tree → GivesReading made bytes
+elaborated_read bytes tokens tree (Ok system) cut is e = comes_to tokens tree cut is (ap (at_its_byte (text_of bytes tokens)) (sym e))
 elaborated_read bytes tokens tree (Err (faults.Bad code detail offset)) cut is e =
-    comes_to tokens tree cut is (ap Err e.2 ∙ ap (told (text_of bytes tokens)) (sym e.1))
+    comes_to tokens tree cut is (ap Err e.2 ∙ ap (at_its_byte (text_of bytes tokens)) (sym e.1))
 elaborated_read bytes tokens tree (Err faults.OutOfMemory) cut is e = tt

@@ -21,7 +21,7 @@ use Rattle.bg_terms.specs.declared.shape.BinaryOperation.{BinaryOperation}
 use Rattle.bg_terms.specs.declared.shape.BinaryOperation.TheVariants.{Composition, Tensor, Parallel, Merge}
 use Rattle.bg_terms.specs.Expressions.{Expression, node, reference, identity_of, merger_of, barren, empty}
 use Rattle.bg_terms.specs.Trees.{Visible, Form, Reading, Behind, Onward, word_at, words_at, names_atom, no_atom}
-use Rattle.bg_terms.specs.Trees.{linking_read, names_read, brackets_read, closure_read, deeper_read, nested_read, along, joined}
+use Rattle.bg_terms.specs.Trees.{linking_read, names_read, brackets_read, closure_read, deeper_read, nested_read, items_read, binary_read}
 use Rattle.bg_values.specs.declared.formula.Operator.TheVariants.{Add, Subtract, Multiply, Divide}
 use Rattle.bg_values.specs.declared.refusal.Refusal.{Refusal}
 use Rattle.bg_values.specs.declared.refusal.Cause.TheVariants.{NoBlock, UnknownName, WrongArguments, WrongPorts}
@@ -29,8 +29,8 @@ use Rattle.bg_values.specs.Names.{Entry, look_up}
 use Rattle.bg_values.specs.Operands.{Operand, numbers}
 use Rattle.bg_values.specs.Outcome.{◌>>=◌, refused, there_or}
 use Rattle.bg_values.specs.Parameters.{few, few_texts, texts_at, evaluated_range, without_names}
-use Rattle.bg_values.specs.Reading.{number_at, whole_at, named_at, negated, operated}
-use Rattle.bg_values.specs.Reading.{Reading as FormulaReading, Onward as FormulaOnward, along as formula_along, words_at as text_formula}
+use Rattle.bg_values.specs.Reading.{number_at, whole_at, named_at, negation_at, operated}
+use Rattle.bg_values.specs.Reading.{Reading as FormulaReading, Onward as FormulaOnward, items_read as formula_along, words_at as text_formula}
 use Rattle.bg_values.specs.Scopes.{ScopeParts, spelling}
 
 -- ---- what the parts of trees say
@@ -135,7 +135,7 @@ abbrev u_said : Meaning
 u_said zero (at_token number ∷ []) = formula (number, λ scope. whole_at scope number)
 u_said (suc zero) (at_token token ∷ []) = formula (token, λ scope. text_formula scope token)
 u_said (suc (suc zero)) (at_token token ∷ []) = formula (token, λ scope. named_at scope token)
-u_said (suc (suc (suc zero))) (at_token at ∷ formula u ∷ []) = formula (at, negated at u)
+u_said (suc (suc (suc zero))) (at_token at ∷ formula u ∷ []) = formula (at, negation_at at u)
 u_said (suc (suc (suc (suc zero)))) (at_token bracket ∷ formula x ∷ at_token end ∷ []) = formula (bracket, x.1)
 u_said i parts = unread
 
@@ -237,11 +237,11 @@ n_said i parts = unread
 
 -- an expression and the operations behind it
 abbrev row_said : Meaning
-row_said zero (reading first ∷ items more ∷ []) = reading (first.0, λ visible. first.1 visible >>= along more visible)
+row_said zero (reading first ∷ items more ∷ []) = reading (first.0, λ visible. first.1 visible >>= items_read more visible)
 row_said i parts = unread
 
 abbrev items_said : BinaryOperation → Meaning
-items_said kind zero (at_token at ∷ reading right ∷ items more ∷ []) = items (joined kind at right ∷ more)
+items_said kind zero (at_token at ∷ reading right ∷ items more ∷ []) = items (binary_read kind at right ∷ more)
 items_said kind (suc zero) [] = items []
 items_said kind i parts = unread
 

@@ -7,7 +7,7 @@ use Rattle.bg_base.specs.Spelling.{is_ident, is_text}
 use Rattle.bg_base.specs.Spelling.{is_letter, is_word_byte as is_name_byte}
 use Rattle.bg_text.specs.declared.token.TokenKind.{TokenKind}
 use Rattle.bg_text.specs.declared.token.TokenKind.TheVariants.{Lower, Upper, Zero, One, Num, Text, KwAtomic, KwBegin, KwBig, KwBrs, KwCtrl, KwCtx, KwEnd, KwFun, KwId, KwIf, KwIn, KwInit, KwInt, KwMerge, KwParam, KwPreds, KwReact, KwRules, KwString, Arrow, BarBar, Bar, Plus, Minus, Star, Slash, Dot, Comma, Semicolon, Colon, Equals, OpenBrace, CloseBrace, OpenRound, CloseRound, OpenSquare, CloseSquare, At, Bang}
-use Rattle.bg_text.specs.Spelling.{is_word_byte, is_text_byte, is_closed, same, lower_kind, later_kind, number_kind, mark, symbol, only, kind_of}
+use Rattle.bg_text.specs.Spelling.{is_word_byte, is_text_byte, ends_with_quote, same, lower_kind, later_kind, number_kind, mark, symbol, only, kind_of}
 use Rattle.bg_text.specs.Tokens.{token}
 use Rattle.bg_values.specs.Reading.{between}
 
@@ -114,15 +114,15 @@ number_passed (b ∷ c ∷ word) e = passing e
 
 -- ---- texts
 
-text_bytes : (bytes : List ℕ) → is_closed bytes ≡ true → is_text (take (length bytes - 1) bytes) ≡ true
+text_bytes : (bytes : List ℕ) → ends_with_quote bytes ≡ true → is_text (take (length bytes - 1) bytes) ≡ true
 text_bytes [] e = absurd cc
 text_bytes (b ∷ []) e = refl
 text_bytes (b ∷ c ∷ bytes) e =
-    let both = and_parts (is_text_byte b) (is_closed (c ∷ bytes)) e in
+    let both = and_parts (is_text_byte b) (ends_with_quote (c ∷ bytes)) e in
     let less : length (b ∷ c ∷ bytes) - 1 ≡ suc (length (c ∷ bytes) - 1) = omega arith in
     rw less (ap (λ v. v && is_text (take (length (c ∷ bytes) - 1) (c ∷ bytes))) both.0 ∙ text_bytes (c ∷ bytes) both.1)
 
-text_is : (b : ℕ) (bytes : List ℕ) → is_closed bytes ≡ true → is_text (between (b ∷ bytes)) ≡ true
+text_is : (b : ℕ) (bytes : List ℕ) → ends_with_quote bytes ≡ true → is_text (between (b ∷ bytes)) ≡ true
 text_is b bytes e =
     let less : length (b ∷ bytes) - 2 ≡ length bytes - 1 = omega arith in rw less (text_bytes bytes e)
 
@@ -167,7 +167,7 @@ kind_passed (b ∷ word) =
     either_if (is_ascii_lowercase b) (λ l. only_passed (list_all is_word_byte (b ∷ word)) (lower_kind (b ∷ word)) (λ e. lower_passed (b ∷ word) (word_is b word (lower_letter b l) e))) (λ l.
     either_if (is_ascii_uppercase b) (λ u. only_passed (list_all is_word_byte (b ∷ word)) Upper (λ e. passing (word_is b word (upper_letter b u) e))) (λ u.
     either_if (is_ascii_digit b) (λ d. only_passed (list_all is_ascii_digit (b ∷ word)) (number_kind (b ∷ word)) (λ e. number_passed (b ∷ word) e)) (λ d.
-    either_if (eqb b 34) (λ q. only_passed (is_closed word) Text (λ e. passing (text_is b word e))) (λ q. symbol_passed (b ∷ word)))))
+    either_if (eqb b 34) (λ q. only_passed (ends_with_quote word) Text (λ e. passing (text_is b word e))) (λ q. symbol_passed (b ∷ word)))))
 
 -- bytes pass what their kind asks
 pub passed : (word : List ℕ) (kind : TokenKind) → kind_of word ≡ Some kind → Passes kind word

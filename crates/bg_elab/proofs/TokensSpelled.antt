@@ -8,7 +8,7 @@ use Rattle.bg_text.specs.declared.token.Token.{Token}
 use Rattle.bg_text.specs.declared.token.TokenKind.{TokenKind}
 use Rattle.bg_text.specs.declared.token.TokenKind.TheVariants.{Lower, Upper, Zero, One, Num, Text}
 use Rattle.bg_text.specs.Spelling.{kind_of}
-use Rattle.bg_text.specs.Tokens.{greatest, IsToken, AreTokens}
+use Rattle.bg_text.specs.Tokens.{greatest_int, IsToken, AreTokens}
 use Rattle.bg_syntax.specs.Models.{kinds}
 use Rattle.bg_syntax.specs.Numbers.{kind_number}
 use Rattle.bg_values.specs.Numbers.{number_in}
@@ -24,11 +24,11 @@ unfolding kind_of
 some_bytes [] kind e = absurd cc
 some_bytes (b ∷ word) kind e = omega arith
 
-number_there : (word : List ℕ) → 0 < length word → list_all is_ascii_digit word ≡ true → ltb greatest (digits_value 10 word) ≡ false
+number_there : (word : List ℕ) → 0 < length word → list_all is_ascii_digit word ≡ true → ltb greatest_int (digits_value 10 word) ≡ false
     → is_some (number_in word) ≡ true
 number_there word l d h =
     let long : eqb (length word) 0 ≡ false = grind arith in
-    let fits : leb (digits_value 10 word) greatest ≡ true = grind arith in
+    let fits : leb (digits_value 10 word) greatest_int ≡ true = grind arith in
     rw (long, d, fits) refl
 
 spelled_number : (bytes : List ℕ) (kind : TokenKind) (size : ℕ) → IsToken bytes kind size → list_all is_ascii_digit (take size bytes) ≡ true

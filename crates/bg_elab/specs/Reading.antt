@@ -29,9 +29,9 @@ of_syntax text (syntax.TooDeep token) = faults.Bad 32 details.Nothing (offset_of
 of_syntax text syntax.OutOfMemory = faults.OutOfMemory
 
 -- what the tree of a text comes to, a refusal by its number, its detail and its byte
-abbrev pub told : ScopeParts → Result SystemParts Refusal → Result SystemParts ModelFault
-told text (Ok system) = Ok system
-told text (Err refusal) = Err (bad text refusal)
+abbrev pub at_its_byte : ScopeParts → Result SystemParts Refusal → Result SystemParts ModelFault
+at_its_byte text (Ok system) = Ok system
+at_its_byte text (Err refusal) = Err (bad text refusal)
 
 -- the reading of a text: its bytes are refused; or else its tokens, by the grammar; or else it is what the tree of its tokens
 -- comes to
@@ -42,10 +42,10 @@ pub data IsReading (bytes : List ℕ) : Result SystemParts ModelFault → Type 0
   too_deep : {token : ℕ} → (tokens : List Token) → AreTokens bytes tokens → IsSyntaxFault tokens (syntax.TooDeep token)
       → IsReading bytes (Err (of_syntax (text_of bytes tokens) (syntax.TooDeep token)))
   comes_to : {outcome : Result SystemParts ModelFault} → (tokens : List Token) (tree : SynModel) → AreTokens bytes tokens → IsTreeOf tokens tree
-      → outcome ≡ told (text_of bytes tokens) (elaborated (text_of bytes tokens) tree) → IsReading bytes outcome
+      → outcome ≡ at_its_byte (text_of bytes tokens) (elaborated (text_of bytes tokens) tree) → IsReading bytes outcome
 
 -- a call gives the reading of the text, or found no memory
-abbrev pub Reads : Result SystemParts ModelFault → List ℕ → Type 0
-Reads (Ok system) bytes = IsReading bytes (Ok system)
-Reads (Err (faults.Bad code detail offset)) bytes = IsReading bytes (Err (faults.Bad code detail offset))
-Reads (Err faults.OutOfMemory) bytes = Unit {0}
+abbrev pub GivesReading : Result SystemParts ModelFault → List ℕ → Type 0
+GivesReading (Ok system) bytes = IsReading bytes (Ok system)
+GivesReading (Err (faults.Bad code detail offset)) bytes = IsReading bytes (Err (faults.Bad code detail offset))
+GivesReading (Err faults.OutOfMemory) bytes = Unit {0}

@@ -8,7 +8,7 @@ use Rattle.bg_trees.specs.declared.expressions.SynRef.{SynRef}
 use Rattle.bg_terms.specs.Trees.{arguments, word_at}
 use Rattle.bg_values.specs.declared.refusal.Refusal.{Refusal}
 use Rattle.bg_values.specs.declared.refusal.Cause.TheVariants.{UnknownName, WrongArguments}
-use Rattle.bg_values.specs.Names.{Entry, look_up, number_of}
+use Rattle.bg_values.specs.Names.{Entry, look_up, name_number}
 use Rattle.bg_values.specs.Operands.{Operand, operands_read}
 use Rattle.bg_values.specs.Outcome.{◌>>=◌, refused, there_or}
 use Rattle.bg_values.specs.Scopes.{ScopeParts, spelling}
@@ -41,7 +41,7 @@ and_parameter word None o = o
 
 -- these and the parameter that the word names, where it names one that is not there yet
 abbrev pub with_word : List (Entry (List Value)) → List ℕ → OccurringParts → OccurringParts
-with_word parameters word o = if is_some (number_of word o.names) then o else and_parameter word (look_up word parameters) o
+with_word parameters word o = if is_some (name_number word o.names) then o else and_parameter word (look_up word parameters) o
 
 -- these and those that the tokens name, in their order
 abbrev pub with_tokens : ScopeParts → List (Entry (List Value)) → List ℕ → OccurringParts → OccurringParts

@@ -2,7 +2,7 @@
 ghost use Rattle.std.specs.Prelude.{◌≡◌, ◌-◌, ◌++◌, ◌∷◌, [], IfOk, IsNone};
 ghost use Rattle.bg_base.specs.Elementary.{counted};
 ghost use Rattle.bg_elab.specs.References as definition;
-ghost use Rattle.bg_values.specs.Names.{number_of};
+ghost use Rattle.bg_values.specs.Names.{name_number};
 
 use bg_lists::{Duplicate, Mem};
 use bg_trees::expressions::SynArgs;
@@ -90,7 +90,7 @@ fn add_parameter(
     values: &ParameterValues,
     found: &mut Occurring,
 ) -> Mem<()>
-    requires { IsNone (number_of word.now found.old.names) }
+    requires { IsNone (name_number word.now found.old.names) }
     ensures { IfOk result (λ _. found.new ≡ record { names = found.old.names ++ (word.now, tt) ∷ []; lists = found.old.lists ++ values.now ∷ [] }) }
 {
     found.lists.push(values.copy(alloc)?)?;

@@ -17,7 +17,7 @@ use std::alloc::Global;
 /// 4,294,967,295 bytes.
 pub fn read(alloc: Global, bytes: &[u8]) -> Result<System, ModelFault>
     requires { length bytes.now < 4294967295 }
-    ensures { definition.Reads result bytes.now }
+    ensures { definition.GivesReading result bytes.now }
 {
     let found = tokens(alloc, bytes)?;
     let tree = match parse(alloc, &found) {

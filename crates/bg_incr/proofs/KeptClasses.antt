@@ -6,7 +6,7 @@ use Rattle.bg_cond.specs.Conditions.{IsEnabledSomewhere}
 use Rattle.bg_incr.specs.Finders.{IsKeepable, TellsOccurrence}
 use Rattle.bg_incr.proofs.KeptSteps.{enabled_bare, occurs_enabled}
 use Rattle.bg_kept.specs.declared.kept_list.KeptList.{KeptList}
-use Rattle.bg_kept.specs.Lists.{IsKept, is_below}
+use Rattle.bg_kept.specs.Lists.{IsKeptList, is_below}
 use Rattle.bg_rules.specs.Reaction.{HostState}
 use Rattle.bg_rules.specs.Rules.{RuleParts}
 
@@ -14,7 +14,7 @@ some_of : (maps : List (List ℕ)) → (length maps ≡ 0 → ⊥) → (nodes : 
 some_of [] some = absurd (some refl)
 some_of (map ∷ maps) some = (map, here refl)
 
-module _ (host : HostState) (rule : RuleParts) (list : KeptList) (keepable : IsKeepable rule) (kept : IsKept host.big rule.redex list) where
+module _ (host : HostState) (rule : RuleParts) (list : KeptList) (keepable : IsKeepable rule) (kept : IsKeptList host.big rule.redex list) where
   pub enabled_some : (length list.first.maps.items ≡ 0 → ⊥) → IsEnabledSomewhere host rule
   enabled_some some =
       let w = some_of list.first.maps.items some in record { nodes = w.0; enabled = enabled_bare keepable.bare (kept.first.maps.occur w.0 w.1) }

@@ -4,7 +4,7 @@ ghost use Rattle.bg_cond.specs.Found as found;
 ghost use Rattle.bg_cond.specs.Found.{IsEnabledBelow, IsHigherOf};
 ghost use Rattle.bg_cond.specs.Steps.{AreFirst, AreFirstLegal, IsFirstClass, NoneEnabled};
 ghost use Rattle.bg_incr.specs.Finders.{AreKeptFor, AllTellOccurrence, IsKeepable, TellsOccurrence, steps_at};
-ghost use Rattle.bg_kept.specs.Lists.{IsKept};
+ghost use Rattle.bg_kept.specs.Lists.{IsKeptList};
 
 use bg_base::{Map, Step};
 use bg_cond::steps_in;
@@ -76,7 +76,7 @@ pub fn first_class(_host: &IndexedHost, rules: &[Rule], lists: &[KeptList]) -> O
 /// The class of the rule, where it comes before the first so far and the rule's redex occurs; else the first so far.
 fn higher_of(_host: &IndexedHost, rule: &Rule, list: &KeptList, first: Option<u32>) -> Option<u32>
     requires keepable { IsKeepable rule.now }
-    requires kept { IsKept _host.now.big rule.now.redex list.now }
+    requires kept { IsKeptList _host.now.big rule.now.redex list.now }
     requires settled { TellsOccurrence list.now }
     ensures { IsHigherOf _host.now rule.now first result }
 {
@@ -99,7 +99,7 @@ fn is_higher(class: u32, first: Option<u32>) -> bool
 /// The class of the rule, where its redex occurs; else the first so far.
 fn raised(_host: &IndexedHost, rule: &Rule, list: &KeptList, first: Option<u32>) -> Option<u32>
     requires keepable { IsKeepable rule.now }
-    requires kept { IsKept _host.now.big rule.now.redex list.now }
+    requires kept { IsKeptList _host.now.big rule.now.redex list.now }
     requires settled { TellsOccurrence list.now }
     requires higher { found.is_higher rule.now.class first ≡ true }
     ensures { IsHigherOf _host.now rule.now first result }

@@ -18,7 +18,7 @@ use Rattle.bg_base.specs.Bigraph.{IsValid}
 use Rattle.bg_base.proofs.Counted.{Mem-counted, counted_ascends}
 use Rattle.bg_base.proofs.LookUps.{tied_numbers}
 use Rattle.bg_place.specs.declared.graph.ParentRow.{ParentRow}
-use Rattle.bg_place.specs.Places.{parent_row, places_of, number_of, same_place, numbers_in, children_of}
+use Rattle.bg_place.specs.Places.{parent_row, places_of, node_number, same_place, numbers_in, children_of}
 use Rattle.bg_place.specs.Rows.{parent_cmp, HasGroups}
 use Rattle.bg_place.proofs.GroupLaws.{numbers_ascend, same_numbers}
 use Rattle.bg_place.proofs.RowLaws.{same_place_from_test, same_place-itself}
@@ -66,7 +66,7 @@ pub data Arrives (moves : List Move) (new : List NodeRow) (place : Place) (node 
 module _ (moves : List Move) (new : List NodeRow) (place : Place) where
   among : {row : ParentRow} → Mem row (arriving moves new) → row.parent ≡ place → Mem row.node (numbers_in place (arriving moves new))
   among {row} m e =
-      Mem-map number_of
+      Mem-map node_number
       (Mem-filter (λ (r : ParentRow). same_place r.parent place) (arriving moves new) m (ap (λ p. same_place p place) e ∙ same_place-itself place))
 
   pub Mem-arriving : {node : ℕ} → Arrives moves new place node → Mem node (numbers_in place (arriving moves new))
@@ -75,7 +75,7 @@ module _ (moves : List Move) (new : List NodeRow) (place : Place) where
 
   pub arrives : {node : ℕ} → Mem node (numbers_in place (arriving moves new)) → Arrives moves new place node
   arrives {node} m =
-      let w = Mem-unmap number_of (filter (λ (r : ParentRow). same_place r.parent place) (arriving moves new)) m in
+      let w = Mem-unmap node_number (filter (λ (r : ParentRow). same_place r.parent place) (arriving moves new)) m in
       let v = Mem-unfilter (λ (r : ParentRow). same_place r.parent place) (arriving moves new) w.1 in
       let lies : w.0.parent ≡ place = same_place_from_test w.0.parent place v.1 in
       elim (Mem-append_cases (map move_row moves) (map parent_row new) v.0) [
@@ -201,8 +201,8 @@ module _ (host : HostState) (rule : RuleParts) (nodes : List ℕ) (reading : Rea
           let is = moves_are.each w.0 w.1 in
           let low = old_number is.2 in
           let high = new_number v.1 in
-          let left : is.0.id ≡ x.node = is.3 ∙ ap number_of w.2 in
-          let right : v.0.id ≡ y.node = ap number_of v.2 in
+          let left : is.0.id ≡ x.node = is.3 ∙ ap node_number w.2 in
+          let right : v.0.id ≡ y.node = ap node_number v.2 in
           nat_cmp-lt x.node y.node (omega (arith, low, high, left, right))
 
   pub arrivals_up : (place : Place) → IsStrictlySortedBy nat_cmp (numbers_in place (arriving moves new))

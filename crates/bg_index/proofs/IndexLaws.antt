@@ -43,7 +43,7 @@ use Rattle.bg_index.specs.declared.entries.NameEntry.{NameEntry}
 use Rattle.bg_index.specs.declared.entries.NodeEntry.{NodeEntry}
 use Rattle.bg_index.specs.declared.entries.RegionEntry.{RegionEntry}
 use Rattle.bg_index.specs.declared.entries.Slot.{Slot}
-use Rattle.bg_index.specs.Indexed.{slot_cmp, edge_cmp, control_cmp, no_row, row_at, rows_of, host_of, IsKept, AreKept, AreSorted, IsIndex}
+use Rattle.bg_index.specs.Indexed.{slot_cmp, edge_cmp, control_cmp, no_row, row_at, rows_of, host_of, IsSlotOf, AreSlotsOf, AreSorted, IsIndex}
 
 -- ---- what a binary search answers
 
@@ -110,12 +110,12 @@ no_link_found big node port e =
 -- ---- rows by their slots
 
 -- what the slot leads to
-pub row_kept : (places : Places) (nodes : Slab NodeEntry) (slot : Slot) → (k : IsKept places nodes slot) → row_at nodes slot ≡ k.entry.row
+pub row_kept : (places : Places) (nodes : Slab NodeEntry) (slot : Slot) → (k : IsSlotOf places nodes slot) → row_at nodes slot ≡ k.entry.row
 row_kept places nodes slot k = ap (λ (o : Option NodeEntry). unwrap_or (option_map (λ (entry : NodeEntry). entry.row) o) no_row) k.found
 
 module _ (places : Places) (nodes : Slab NodeEntry) (node : ℕ) where
   -- the row of a node is that to which its slot leads
-  pub find_rows : (slots : List Slot) → AreKept places nodes slots → row_of (rows_of nodes slots) node ≡ option_map (row_at nodes) (find (λ (slot : Slot). slot.node == node) slots)
+  pub find_rows : (slots : List Slot) → AreSlotsOf places nodes slots → row_of (rows_of nodes slots) node ≡ option_map (row_at nodes) (find (λ (slot : Slot). slot.node == node) slots)
   find_rows [] kept = refl
   find_rows (slot ∷ slots) kept =
       let k = kept slot (here refl) in

@@ -24,7 +24,7 @@ use Rattle.bg_index.specs.declared.entries.NameEntry.{NameEntry}
 use Rattle.bg_index.specs.declared.entries.NodeEntry.{NodeEntry}
 use Rattle.bg_index.specs.declared.entries.RegionEntry.{RegionEntry}
 use Rattle.bg_index.specs.declared.entries.Slot.{Slot}
-use Rattle.bg_index.specs.Indexed.{slot_cmp, no_row, row_at, rows_of, edges_of, host_of, IsKept, AreKept, AreRegions, AreNested, IsEdgeTied, IsNameTied, AreTied, AreSorted, IsIndexOf, IsIndex}
+use Rattle.bg_index.specs.Indexed.{slot_cmp, no_row, row_at, rows_of, edges_of, host_of, IsSlotOf, AreSlotsOf, AreRegions, AreNested, IsEdgeTied, IsNameTied, AreTied, AreSorted, IsIndexOf, IsIndex}
 use Rattle.bg_index.specs.Making.{IsPushed}
 use Rattle.bg_index.proofs.IndexLaws.{row_kept}
 
@@ -48,7 +48,7 @@ beside_more R xs ys x y are stands is i other more a b =
 -- ---- nodes
 
 module _ (places : Places) (nodes new_nodes : Slab NodeEntry) (slots new_slots : List Slot) (entry : NodeEntry)
-    (kept : AreKept places nodes slots) (pushed : IsPushed nodes slots entry new_nodes new_slots) where
+    (kept : AreSlotsOf places nodes slots) (pushed : IsPushed nodes slots entry new_nodes new_slots) where
   abbrev last : Slot
   last = record { node = entry.row.id; at = pushed.at }
 
@@ -57,12 +57,12 @@ module _ (places : Places) (nodes new_nodes : Slab NodeEntry) (slots new_slots :
       let k = kept slot m in
       pushed.updates.others slot.at (λ e. let bad : Some k.entry ≡ None = sym k.found ∙ ap (get nodes) e ∙ pushed.was_vacant in cc)
 
-  pub push_kept : entry.children.items ≡ children_of places (Node entry.row.id) → AreKept places new_nodes new_slots
+  pub push_kept : entry.children.items ≡ children_of places (Node entry.row.id) → AreSlotsOf places new_nodes new_slots
   push_kept children slot m =
       elim (Mem-append_cases slots (last ∷ []) (subst (λ xs. Mem slot xs) pushed.slots_are m)) [
         | inl n ↦ (let k = kept slot n in record { entry = k.entry; found = stays slot n ∙ k.found; number = k.number; children = k.children })
         | inr n ↦ (let e : last ≡ slot = elim (Mem-cons_cases n) [ inl e ↦ e | inr k ↦ elim k [ ] ] in
-            subst (IsKept places new_nodes) e (record { entry = entry; found = pushed.updates.changed; number = refl; children = children }))
+            subst (IsSlotOf places new_nodes) e (record { entry = entry; found = pushed.updates.changed; number = refl; children = children }))
       ]
 
   pub push_rows : rows_of new_nodes new_slots ≡ rows_of nodes slots ++ entry.row ∷ []
@@ -75,7 +75,7 @@ module _ (places : Places) (nodes new_nodes : Slab NodeEntry) (slots new_slots :
       λ t. old t ++ one t ∷ [])
 
 -- slots ascend as the rows do to which they lead
-pub slots_ascend : (places : Places) (nodes : Slab NodeEntry) (slots : List Slot) → AreKept places nodes slots
+pub slots_ascend : (places : Places) (nodes : Slab NodeEntry) (slots : List Slot) → AreSlotsOf places nodes slots
     → IsStrictlySortedBy node_cmp (rows_of nodes slots) → IsStrictlySortedBy slot_cmp slots
 slots_ascend places nodes slots kept up =
     sorted_from_Ascending {cmp = slot_cmp} slots

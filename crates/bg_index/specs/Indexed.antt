@@ -71,14 +71,14 @@ host_of index =
 -- ---- the lists are those of the host
 
 -- the slot leads to an entry whose row has its number, with the children of that node
-pub record IsKept (places : Places) (nodes : Slab NodeEntry) (slot : Slot) : Type 0 where
+pub record IsSlotOf (places : Places) (nodes : Slab NodeEntry) (slot : Slot) : Type 0 where
   pub entry : NodeEntry
   pub found : get nodes slot.at ≡ Some entry
   pub number : entry.row.id ≡ slot.node
   pub children : entry.children.items ≡ children_of places (Node slot.node)
 
-abbrev pub AreKept : Places → Slab NodeEntry → List Slot → Type 0
-AreKept places nodes slots = (slot : Slot) → Mem slot slots → IsKept places nodes slot
+abbrev pub AreSlotsOf : Places → Slab NodeEntry → List Slot → Type 0
+AreSlotsOf places nodes slots = (slot : Slot) → Mem slot slots → IsSlotOf places nodes slot
 
 -- each region has its children
 abbrev pub AreRegions : Places → List RegionEntry → Type 0
@@ -87,7 +87,7 @@ AreRegions places regions = (region : ℕ) (entry : RegionEntry) → At entry re
 -- each slot leads to its node, and each region has its children; 32 bits count the regions
 pub record AreNested (places : Places) (nodes : Slab NodeEntry) (slots : List Slot) (regions : List RegionEntry) : Type 0 where
   pub slots_ascend : IsStrictlySortedBy slot_cmp slots
-  pub kept : AreKept places nodes slots
+  pub kept : AreSlotsOf places nodes slots
   pub regions_are : AreRegions places regions
   pub regions_few : length regions < 2 ^ 32
 

@@ -67,7 +67,7 @@ fn rank(place: Place) -> u64
 
 /// The numbers of the rows.
 fn nodes_of(alloc: Global, rows: &[ParentRow]) -> Mem<Vec<u32>>
-    ensures { IfOk result (λ made. made.items ≡ map defined.number_of rows.now) }
+    ensures { IfOk result (λ made. made.items ≡ map defined.node_number rows.now) }
 {
     let mut made = Vec::with_capacity(alloc, rows.len())?;
     for row in rows {

@@ -90,9 +90,9 @@ fn push_nodes(
     nodes: &mut Slab<NodeEntry>,
     slots: &mut Vec<Slot>,
 ) -> Mem<()>
-    requires kept { defined.AreKept forest.now nodes.old slots.old.items }
+    requires kept { defined.AreSlotsOf forest.now nodes.old slots.old.items }
     ensures rows { OnOk result (defined.rows_of nodes.new slots.new.items ≡ defined.rows_of nodes.old slots.old.items ++ rows.now) }
-    ensures kept { OnOk result (defined.AreKept forest.now nodes.new slots.new.items) }
+    ensures kept { OnOk result (defined.AreSlotsOf forest.now nodes.new slots.new.items) }
 {
     for row in rows {
         let entry = entry_of(alloc, forest, row)?;

@@ -7,7 +7,7 @@ use Rattle.std.specs.Fmt.{decimal}
 use Rattle.std.proofs.lemmas.Bool.{ltb-true, lt-ltb}
 use Rattle.bg_base.specs.declared.history.Entry.{Entry}
 use Rattle.bg_listing.specs.Spelling.{space, line_feed, numbers_line}
-use Rattle.bg_listing.specs.Limits.{greatest, IsNumber, AreCounted}
+use Rattle.bg_listing.specs.Limits.{greatest_number, IsNumber, AreCounted}
 use Rattle.bg_listing.specs.Combinators.{◌>>=◌, after, both, with_front, next, further, chain_within}
 use Rattle.bg_listing.specs.Reading.{not_there, number_at}
 use Rattle.bg_listing.specs.Verdict.{IsNumberAt}
@@ -29,17 +29,17 @@ pub behind_found : (word bytes : List ℕ) (found : Option (Bor (List ℕ)))
 behind_found word bytes (Some x) h = after_starts word bytes h.0 ∙ ap (λ rest. Ok rest) (sym h.1)
 behind_found word bytes None h = after_not word bytes h
 
-pub number_read : (bytes : List ℕ) (number end : ℕ) → number ≤ greatest → IsNumberAt bytes 0 number end → number_at greatest bytes ≡ Ok (number, drop end bytes)
-number_read bytes number end le h = ap (number_at greatest) h.text ∙ (whole_number_reads greatest (lit< tt)).again number (drop end bytes) le h.whole
+pub number_read : (bytes : List ℕ) (number end : ℕ) → number ≤ greatest_number → IsNumberAt bytes 0 number end → number_at greatest_number bytes ≡ Ok (number, drop end bytes)
+number_read bytes number end le h = ap (number_at greatest_number) h.text ∙ (whole_number_reads greatest_number (lit< tt)).again number (drop end bytes) le h.whole
 
-none_read : (bytes : List ℕ) (read : Result (ℕ × List ℕ) (Unit {0})) → number_at greatest bytes ≡ read → ((number end : ℕ) → number ≤ greatest → ¬ IsNumberAt bytes 0 number end) → read ≡ Err tt
+none_read : (bytes : List ℕ) (read : Result (ℕ × List ℕ) (Unit {0})) → number_at greatest_number bytes ≡ read → ((number end : ℕ) → number ≤ greatest_number → ¬ IsNumberAt bytes 0 number end) → read ≡ Err tt
 none_read bytes (Ok x) e none =
-    let there = number_found bytes 0 greatest x.0 x.1 (lit< tt) e in
+    let there = number_found bytes 0 greatest_number x.0 x.1 (lit< tt) e in
     absurd (none x.0 (length bytes - length x.1) there.1 there.0)
 none_read bytes (Err y) e none = refl
 
-pub no_number_read : (bytes : List ℕ) → ((number end : ℕ) → number ≤ greatest → ¬ IsNumberAt bytes 0 number end) → number_at greatest bytes ≡ Err tt
-no_number_read bytes none = none_read bytes (number_at greatest bytes) refl none
+pub no_number_read : (bytes : List ℕ) → ((number end : ℕ) → number ≤ greatest_number → ¬ IsNumberAt bytes 0 number end) → number_at greatest_number bytes ≡ Err tt
+no_number_read bytes none = none_read bytes (number_at greatest_number bytes) refl none
 
 -- ---- the same text in other words
 
@@ -95,10 +95,10 @@ few_holds most bytes read (found ds xs rest e fits same) few =
     found ds xs rest e (record { many = omega (arith, ap length seen); all = fits }) seen
 few_holds most bytes read (refused e) few = refused e
 
-few_reads : (most : ℕ) → Reads Anything (λ numbers. numbers) numbers_line (AreCounted most IsNumber) (chain_within line_feed space (number_at greatest) (most + 1))
+few_reads : (most : ℕ) → Reads Anything (λ numbers. numbers) numbers_line (AreCounted most IsNumber) (chain_within line_feed space (number_at greatest_number) (most + 1))
 few_reads most = record {
-  sound = λ bytes. few_holds most bytes (chain_within line_feed space (number_at greatest) (most + 1) bytes)
-      (chain_within_sound line_feed space listed_numbers (most + 1) bytes) (chain_few line_feed space (number_at greatest) (most + 1) bytes);
+  sound = λ bytes. few_holds most bytes (chain_within line_feed space (number_at greatest_number) (most + 1) bytes)
+      (chain_within_sound line_feed space listed_numbers (most + 1) bytes) (chain_few line_feed space (number_at greatest_number) (most + 1) bytes);
   again = λ numbers rest f _.
       let many = f.many in
       let fewer : length numbers < most + 1 = omega arith in

@@ -1,6 +1,6 @@
 //! The reader of the line of an entry.
 ghost use Rattle.std.specs.Prelude.{◌≡◌, ◌<◌, ◌≤◌, ◌-◌, ◌^◌, length, IfOk, IfSome};
-ghost use Rattle.bg_listing.specs.Limits.{greatest};
+ghost use Rattle.bg_listing.specs.Limits.{greatest_number};
 ghost use Rattle.bg_listing.specs.Combinators.{after};
 ghost use Rattle.bg_listing.specs.Reading.{number_at};
 ghost use Rattle.bg_listing.specs.Answers.{Finds};
@@ -118,7 +118,7 @@ fn image(bytes: &[u8]) -> Option<(Option<u32>, &[u8])>
 /// The number that the whole run of digits in front spells, and the bytes behind it.
 fn number(bytes: &[u8]) -> Option<(u32, &[u8])>
     requires { length bytes.now < 2 ^ 32 - 1 }
-    ensures number { Finds (λ x. (x.0, x.1.now)) result (number_at greatest bytes.now) }
+    ensures number { Finds (λ x. (x.0, x.1.now)) result (number_at greatest_number bytes.now) }
     ensures left { IfSome result (λ x. length x.1.now ≤ length bytes.now) }
 {
     match read_number(bytes, 0, GREATEST) {

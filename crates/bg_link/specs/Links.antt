@@ -69,9 +69,9 @@ abbrev pub degree_of : Links → Link → ℕ
 degree_of links link = length (points_of links link)
 
 -- an edge is a closed link, an outer name an open one
-abbrev pub is_closed : Link → Bool
-is_closed (Edge edge) = true
-is_closed (Outer name) = false
+abbrev pub is_edge : Link → Bool
+is_edge (Edge edge) = true
+is_edge (Outer name) = false
 
 -- the edges that no point is tied to
 abbrev pub idle_edges_of : Links → List ℕ

@@ -111,7 +111,7 @@ pub fn find_link(rows: &[PortRow], node: u32, port: u32) -> Option<&Link>
 
 /// Whether the link is closed: an edge is, and an outer name is open. Takes constant time.
 pub fn is_closed(link: &Link) -> bool
-    ensures { result ≡ defined.is_closed link.now }
+    ensures { result ≡ defined.is_edge link.now }
 {
     match link {
         Link::Edge(_) => true,

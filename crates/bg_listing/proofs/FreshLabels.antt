@@ -6,7 +6,7 @@ use Rattle.bg_base.specs.Limits.{most_controls}
 use Rattle.bg_base.specs.declared.labels.Label.{Label}
 use Rattle.bg_base.specs.declared.signature.Kind.TheVariants.{Normal}
 use Rattle.bg_base.specs.declared.signature.Control.{Control}
-use Rattle.bg_base.specs.Signatures.{same_label, number_of, IsSignature}
+use Rattle.bg_base.specs.Signatures.{same_label, control_number, IsSignature}
 use Rattle.bg_base.specs.Spelling.{is_word_byte}
 use Rattle.bg_base.proofs.SignatureLaws.{one_more_control}
 use Rattle.bg_base.proofs.ValueLaws.{same_label_from_test}
@@ -37,7 +37,7 @@ apart_if : (x y : Label) (same : Bool) → (same ≡ true → x ≡ y) → lengt
 apart_if x y true h lt = let e = ap (λ (l : Label). length l.name) (h refl) in absurd (omega (arith, e))
 apart_if x y false h lt = refl
 
-not_among : (controls : List Control) (label : Label) → AreShorter (length label.name) controls → number_of controls label ≡ None
+not_among : (controls : List Control) (label : Label) → AreShorter (length label.name) controls → control_number controls label ≡ None
 not_among [] label s = refl
 not_among (c ∷ controls) label s =
     rw (apart_if c.label label (same_label c.label label) (same_label_from_test c.label label) s.0, not_among controls label s.1) refl
@@ -83,7 +83,7 @@ goes_on_by (suc m) k controls s kept all few =
     let long : length (letters k) ≡ k = letters_long k in
     let name : length c.label.name ≡ suc k = ap suc long in
     let le : k ≤ length c.label.name = omega (arith, name) in
-    let none : number_of controls c.label ≡ None = not_among controls c.label (shorter_more k (length c.label.name) controls le s) in
+    let none : control_number controls c.label ≡ None = not_among controls c.label (shorter_more k (length c.label.name) controls le s) in
     let room : length controls < most_controls = omega arith in
     let one : IsSignature (controls ++ c ∷ []) = one_more_control controls c kept none (lit≤ tt) room in
     let lt : length c.label.name < suc (suc k) = omega (arith, name) in

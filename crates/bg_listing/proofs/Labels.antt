@@ -6,7 +6,7 @@ use Rattle.std.proofs.lemmas.Cmp.{tied_itself}
 use Rattle.bg_base.specs.declared.labels.Label.{Label}
 use Rattle.bg_base.specs.declared.signature.Control.{Control}
 use Rattle.bg_base.specs.LabelLaws.{label_cmp_total}
-use Rattle.bg_base.specs.Signatures.{same_label, number_of}
+use Rattle.bg_base.specs.Signatures.{same_label, control_number}
 use Rattle.bg_base.proofs.ValueLaws.{same_label_from_test}
 use Rattle.bg_listing.specs.Spelling.{label_of}
 use Rattle.bg_listing.specs.Lines.{control_of}
@@ -24,24 +24,24 @@ number_back_if c controls label true later k h t e = let z : k ≡ 0 = cc in rw 
 number_back_if c controls label false None k h t e = absurd cc
 number_back_if c controls label false (Some j) k h t e = let z : k ≡ suc j = cc in rw z (t j refl)
 
-number_back : (controls : List Control) (label : Label) (k : ℕ) → number_of controls label ≡ Some k → label_of controls k ≡ label
+number_back : (controls : List Control) (label : Label) (k : ℕ) → control_number controls label ≡ Some k → label_of controls k ≡ label
 number_back [] label k e = absurd cc
-number_back (c ∷ controls) label k e = number_back_if c controls label (same_label c.label label) (number_of controls label) k (same_label_from_test c.label label) (number_back controls label) e
+number_back (c ∷ controls) label k e = number_back_if c controls label (same_label c.label label) (control_number controls label) k (same_label_from_test c.label label) (number_back controls label) e
 
-known_back : (controls : List Control) (label : Label) (number : Option ℕ) → number_of controls label ≡ number → unwrap_or number (length controls) < length controls → label_of controls (unwrap_or number (length controls)) ≡ label
+known_back : (controls : List Control) (label : Label) (number : Option ℕ) → control_number controls label ≡ number → unwrap_or number (length controls) < length controls → label_of controls (unwrap_or number (length controls)) ≡ label
 known_back controls label None e lt = absurd (omega arith)
 known_back controls label (Some k) e lt = number_back controls label k e
 
 -- a control that is there leads back to the label
 pub label_back : (controls : List Control) (label : Label) → control_of controls label < length controls → label_of controls (control_of controls label) ≡ label
-label_back controls label lt = known_back controls label (number_of controls label) refl lt
+label_back controls label lt = known_back controls label (control_number controls label) refl lt
 
 other_labels : (label : Label) (controls : List Control) (k : ℕ) → AllByRecursion (λ (c : Control). same_label label c.label ≡ false) controls → k < length controls → same_label label (label_of controls k) ≡ false
 other_labels label [] k all lt = absurd (omega arith)
 other_labels label (c ∷ controls) zero all lt = all.0
 other_labels label (c ∷ controls) (suc k) all lt = let l : k < length controls = omega arith in other_labels label controls k all.1 l
 
-number_own : (controls : List Control) → IsDistinct (λ (x y : Control). same_label x.label y.label) controls → (k : ℕ) → k < length controls → number_of controls (label_of controls k) ≡ Some k
+number_own : (controls : List Control) → IsDistinct (λ (x y : Control). same_label x.label y.label) controls → (k : ℕ) → k < length controls → control_number controls (label_of controls k) ≡ Some k
 unfolding IsDistinct
 number_own [] distinct k lt = absurd (omega arith)
 number_own (c ∷ controls) distinct zero lt = rw (same_label_itself c.label) refl
@@ -59,7 +59,7 @@ pub all_here : {A : Type 0} (P : A → Type 0) (before : List A) (x : A) (rest :
 all_here P [] x rest all = all.0
 all_here P (b ∷ before) x rest all = all_here P before x rest all.1
 
-pub none_before : (before : List Control) (control : Control) (rest : List Control) → IsDistinct (λ (x y : Control). same_label x.label y.label) (before ++ control ∷ rest) → number_of before control.label ≡ None
+pub none_before : (before : List Control) (control : Control) (rest : List Control) → IsDistinct (λ (x y : Control). same_label x.label y.label) (before ++ control ∷ rest) → control_number before control.label ≡ None
 unfolding IsDistinct
 none_before [] control rest distinct = refl
 none_before (b ∷ before) control rest distinct =

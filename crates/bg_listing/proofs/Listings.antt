@@ -8,9 +8,9 @@ use Rattle.bg_base.specs.Limits.{most_controls, most_ports, most_rows}
 use Rattle.bg_base.specs.declared.signature.Control.{Control}
 use Rattle.bg_base.specs.declared.big.Big.{Big}
 use Rattle.bg_listing.specs.Spelling.{space, line_feed, chain_text, place_text, link_text, label_text, edge_line, place_line, name_line, inner_line, control_line, count_line, section_text, signature_text}
-use Rattle.bg_listing.specs.Limits.{greatest, IsNumber, IsPlace, IsName, IsLink, IsInner, IsLabel, IsControl, AreCounted}
+use Rattle.bg_listing.specs.Limits.{greatest_number, IsNumber, IsPlace, IsName, IsLink, IsInner, IsLabel, IsControl, AreCounted}
 use Rattle.bg_listing.specs.Combinators.{each}
-use Rattle.bg_listing.specs.Lines.{Bad, bad_line, too_many, or_bad_line, row, count_at, section_at, edge_row, place_row, name_row, inner_row, control_row, NodeParts, row_of, links_at, node_at, node_row, signature_at, Sections, big_of, big_at}
+use Rattle.bg_listing.specs.Lines.{Bad, bad_line, too_many, or_bad_line, row, count_at, section_at, edge_row, place_row, name_row, inner_row, control_row, NodeParts, row_from_parts, links_at, node_at, node_row, signature_at, Sections, big_of, big_at}
 use Rattle.bg_listing.proofs.Combinators.{Holds, found, refused, Reads, Anything, holds_bind, mapped_reads, viewed_reads, fits_reads, map_same, behind_reads, line_reads, only_if_reads, both_read, chain_reads, chain_begins, AreThisMany, each_reads, each_again}
 use Rattle.bg_listing.proofs.Numbers.{IsEnded}
 use Rattle.bg_listing.proofs.Parts.{listed_numbers, place_reads, name_reads, link_reads, inner_reads, label_reads, control_reads}
@@ -25,7 +25,7 @@ row_reads {t = t} {read = read} r = record {
   again = λ d rest f n. ap (λ x. or_bad_line x (t d ++ rest)) (r.again d rest f n);
 }
 
-pub count_reads : (most : ℕ) (word : List ℕ) → most ≤ greatest → Reads Anything (λ n. n) (count_line word) (λ n. n ≤ most) (count_at most word)
+pub count_reads : (most : ℕ) (word : List ℕ) → most ≤ greatest_number → Reads Anything (λ n. n) (count_line word) (λ n. n ≤ most) (count_at most word)
 unfolding count_at
 count_reads most word small =
     fits_reads (λ n. n ≤ most) (λ n f. leb-true n most f.1) (λ n le. (omega arith, le-leb n most le))
@@ -41,7 +41,7 @@ section_holds t most word bytes n rest r e le (found ds x more s fits same) =
     (record { many = rw fits.many le; all = fits.all }) same
 section_holds t most word bytes n rest r e le (refused f) = refused f
 
-pub section_reads : {D X : Type 0} {v : D → X} {t : D → List ℕ} {F : D → Type 0} {read : List ℕ → Result (X × List ℕ) Bad} (most : ℕ) (word : List ℕ) → most ≤ greatest
+pub section_reads : {D X : Type 0} {v : D → X} {t : D → List ℕ} {F : D → Type 0} {read : List ℕ → Result (X × List ℕ) Bad} (most : ℕ) (word : List ℕ) → most ≤ greatest_number
     → Reads Anything v t F read → Reads Anything (map v) (section_text word t) (AreCounted most F) (section_at most word read)
 unfolding section_at
 section_reads {t = t} {read = read} most word small r = record {
@@ -53,7 +53,7 @@ section_reads {t = t} {read = read} most word small r = record {
 }
 
 -- a section of rows that are seen as they are
-pub plain_section_reads : {D : Type 0} {t : D → List ℕ} {F : D → Type 0} {read : List ℕ → Result (D × List ℕ) Bad} (most : ℕ) (word : List ℕ) → most ≤ greatest
+pub plain_section_reads : {D : Type 0} {t : D → List ℕ} {F : D → Type 0} {read : List ℕ → Result (D × List ℕ) Bad} (most : ℕ) (word : List ℕ) → most ≤ greatest_number
     → Reads Anything (λ d. d) t F read → Reads Anything (λ ds. ds) (section_text word t) (AreCounted most F) (section_at most word read)
 plain_section_reads most word small r = viewed_reads (λ ds. ds) map_same (section_reads most word small r)
 
@@ -89,11 +89,11 @@ abbrev pub parts_line : NodeParts → List ℕ
 parts_line parts = decimal parts.0 ++ (codes " " ++ (label_text parts.1.0 ++ (codes " " ++ (place_text parts.1.1.0 ++ chain_text line_feed space link_text parts.1.1.1))))
 
 abbrev pub AreParts : NodeParts → Type 0
-AreParts parts = (parts.0 ≤ greatest) × (IsLabel parts.1.0 × (IsPlace parts.1.1.0 × AllByRecursion IsLink parts.1.1.1))
+AreParts parts = (parts.0 ≤ greatest_number) × (IsLabel parts.1.0 × (IsPlace parts.1.1.0 × AllByRecursion IsLink parts.1.1.1))
 
-pub node_row_reads : (signature : List Control) → Reads Anything (row_of signature) parts_line AreParts (node_row signature)
+pub node_row_reads : (signature : List Control) → Reads Anything (row_from_parts signature) parts_line AreParts (node_row signature)
 unfolding node_row node_at
-node_row_reads signature = row_reads (mapped_reads (λ p. p) (λ p. p) (row_of signature) (λ p. refl)
+node_row_reads signature = row_reads (mapped_reads (λ p. p) (λ p. p) (row_from_parts signature) (λ p. refl)
     (both_read (λ p rest f n. refl) listed_numbers (behind_reads (codes " ") (both_read (λ p rest f n. refl) label_reads (behind_reads (codes " ")
     (both_read (λ ls rest f n. chain_begins IsEnded line_feed space link_text (λ rest. refl) (λ rest. refl) ls rest) place_reads links_reads))))))
 
@@ -114,7 +114,7 @@ AreSections parts = (parts.0 ≤ most_rows) × (AreCounted most_rows IsPlace par
     × (AreCounted most_rows IsNumber parts.1.1.1.1.0 × AreCounted most_rows AreParts parts.1.1.1.1.1))))
 
 abbrev pub seen_by : List Control → Sections NodeParts → Big
-seen_by signature parts = big_of (parts.0, (parts.1.0, (parts.1.1.0, (parts.1.1.1.0, (parts.1.1.1.1.0, map (row_of signature) parts.1.1.1.1.1)))))
+seen_by signature parts = big_of (parts.0, (parts.1.0, (parts.1.1.0, (parts.1.1.1.0, (parts.1.1.1.1.0, map (row_from_parts signature) parts.1.1.1.1.1)))))
 
 pub sections_read : (signature : List Control) → Reads Anything (seen_by signature) parts_text AreSections (big_at signature)
 unfolding big_at

@@ -22,10 +22,10 @@ use Rattle.bg_base.specs.declared.signature.Kind.{Kind}
 use Rattle.bg_base.specs.declared.signature.Kind.TheVariants.{Normal, Atomic}
 use Rattle.bg_base.specs.declared.signature.Control.{Control}
 use Rattle.bg_listing.specs.Spelling.{space, line_feed, comma, closing_bracket, chain_text, place_text, name_text, link_text, value_text, args_text, label_text, kind_text, edge_line, place_line, name_line, inner_line, control_line, count_line}
-use Rattle.bg_listing.specs.Limits.{greatest, IsNumber, IsPlace, IsName, IsLink, IsInner, IsValue, IsLabel, IsControl}
+use Rattle.bg_listing.specs.Limits.{greatest_number, IsNumber, IsPlace, IsName, IsLink, IsInner, IsValue, IsLabel, IsControl}
 use Rattle.bg_listing.specs.Combinators.{◌>>=◌, behind, line}
 use Rattle.bg_listing.specs.Reading.{number_at, place_at, name_at, inner_at, control_at}
-use Rattle.bg_listing.specs.Lines.{Bad, bad_line, too_many, or_bad_line, row, node_at, count_at, edge_row, place_row, name_row, inner_row, control_row, NodeParts, row_of, node_row}
+use Rattle.bg_listing.specs.Lines.{Bad, bad_line, too_many, or_bad_line, row, node_at, count_at, edge_row, place_row, name_row, inner_row, control_row, NodeParts, row_from_parts, node_row}
 use Rattle.bg_listing.proofs.Numbers.{own, digits_all}
 use Rattle.bg_listing.proofs.Listings.{count_reads, edge_row_reads, place_row_reads, name_row_reads, inner_row_reads, control_row_reads, node_row_reads, parts_line, AreParts}
 use Rattle.bg_listing.proofs.Stopping.{is_inside, IsLine, Names, IsRow}
@@ -60,7 +60,7 @@ text_inside b e = grind arith
 decimal_free : (n : ℕ) → n < 2 ^ 64 → Free (decimal n)
 decimal_free n lt = free_from is_ascii_digit digit_inside (decimal n) (digits_all (decimal n) (digits_decimal own n lt))
 
-number_free : (n : ℕ) → n ≤ greatest → Free (decimal n)
+number_free : (n : ℕ) → n ≤ greatest_number → Free (decimal n)
 number_free n le = decimal_free n (omega arith)
 
 place_free : (p : Place) → IsPlace p → Free (place_text p)
@@ -108,7 +108,7 @@ in_front front text free l = record {
   free = free_append front l.inside free l.free;
 }
 
-count_is_line : (word : List ℕ) → Free word → (n : ℕ) → n ≤ greatest → IsLine (count_line word n)
+count_is_line : (word : List ℕ) → Free word → (n : ℕ) → n ≤ greatest_number → IsLine (count_line word n)
 count_is_line word free n le = in_front word (decimal n ++ 10 ∷ []) free (one_line (decimal n) (number_free n le))
 
 inner_is_line : (n : Name) (l : Link) → IsName n → IsLink l → IsLine ((name_text n ++ 32 ∷ link_text l) ++ 10 ∷ [])
@@ -117,7 +117,7 @@ inner_is_line n l fn fl = one_line (name_text n ++ 32 ∷ link_text l) (free_app
 control_is_line : (c : Control) → IsControl c → IsLine (control_line c)
 control_is_line c f =
     let le = f.arity in
-    let small : c.arity ≤ greatest = omega arith in
+    let small : c.arity ≤ greatest_number = omega arith in
     let kind : List ℕ = 32 ∷ kind_text c.kind in
     let arity : List ℕ = 32 ∷ (decimal c.arity ++ kind) in
     one_line (label_text c.label ++ arity) (free_append (label_text c.label) arity (label_free c.label f.label)
@@ -155,7 +155,7 @@ only_if_here test bytes (Err b) h bad e = h bad cc
 
 count_here : (most : ℕ) (word bytes : List ℕ) (bad : Bad) → count_at most word bytes ≡ Err bad → Names bytes bad
 unfolding count_at
-count_here most word bytes bad e = only_if_here (λ n. leb n most) bytes (row (behind word (line (number_at greatest))) bytes) (row_here (behind word (line (number_at greatest))) bytes) bad e
+count_here most word bytes bad e = only_if_here (λ n. leb n most) bytes (row (behind word (line (number_at greatest_number))) bytes) (row_here (behind word (line (number_at greatest_number))) bytes) bad e
 
 control_here : (bytes : List ℕ) (bad : Bad) → control_row bytes ≡ Err bad → Names bytes bad
 unfolding control_row
@@ -163,7 +163,7 @@ control_here bytes bad e = only_if_here (λ (c : Control). leb c.arity most_port
 
 edge_here : (bytes : List ℕ) (bad : Bad) → edge_row bytes ≡ Err bad → Names bytes bad
 unfolding edge_row
-edge_here bytes bad e = row_here (line (number_at greatest)) bytes bad e
+edge_here bytes bad e = row_here (line (number_at greatest_number)) bytes bad e
 
 place_here : (bytes : List ℕ) (bad : Bad) → place_row bytes ≡ Err bad → Names bytes bad
 unfolding place_row
@@ -183,7 +183,7 @@ node_here signature bytes bad e = row_here (node_at signature) bytes bad e
 
 -- ---- the kinds of rows
 
-pub count_row : (most : ℕ) (word : List ℕ) → most ≤ greatest → list_all is_inside word ≡ true → IsRow (λ n. n) (count_line word) (λ n. n ≤ most) (count_at most word)
+pub count_row : (most : ℕ) (word : List ℕ) → most ≤ greatest_number → list_all is_inside word ≡ true → IsRow (λ n. n) (count_line word) (λ n. n ≤ most) (count_at most word)
 count_row most word small free = record {
   reads = count_reads most word small;
   here = count_here most word;
@@ -214,5 +214,5 @@ some_label_is = ((refl, refl), tt)
 pub control_rows : IsRow (λ c. c) control_line IsControl control_row
 control_rows = record { reads = control_row_reads; here = control_here; line = control_is_line; some = record { label = some_label; arity = 0; kind = Normal }; some_fits = record { label = some_label_is; arity = lit≤ tt } }
 
-pub node_rows : (signature : List Control) → IsRow (row_of signature) parts_line AreParts (node_row signature)
+pub node_rows : (signature : List Control) → IsRow (row_from_parts signature) parts_line AreParts (node_row signature)
 node_rows signature = record { reads = node_row_reads signature; here = node_here signature; line = parts_are_line; some = (0, (some_label, (Region 0, []))); some_fits = (lit≤ tt, (some_label_is, (lit≤ tt, tt))) }

@@ -18,7 +18,7 @@ use Rattle.bg_base.specs.declared.labels.Value.TheVariants.{Int, Words}
 use Rattle.bg_base.specs.declared.signature.Kind.{Kind}
 use Rattle.bg_base.specs.declared.signature.Kind.TheVariants.{Normal, Atomic}
 use Rattle.bg_listing.specs.Spelling.{chain_text, comma, closing_bracket, place_text, name_text, link_text, value_text, args_text, label_text, kind_text}
-use Rattle.bg_listing.specs.Limits.{greatest, greatest_int, IsPlace, IsName, IsLink, IsInner, IsInt, IsValue, IsLabel}
+use Rattle.bg_listing.specs.Limits.{greatest_number, greatest_int, IsPlace, IsName, IsLink, IsInner, IsInt, IsValue, IsLabel}
 use Rattle.bg_listing.specs.Combinators.{◌>>=◌, mapped, after, or_else, chain}
 use Rattle.bg_listing.specs.Reading.{not_there, number_at, place_at, word_at, port_at, name_at, link_at, inner_at, negative_at, quoted_at, value_at, args_at, args_or_none, optional_args_at, label_at, kind_at, control_at}
 use Rattle.bg_listing.proofs.Combinators.{Holds, found, refused, Reads, Anything, IsAfter, after_sound, holds_if, as_reads, mapped_reads, behind_reads, ended_reads, only_if_reads, run_reads, both_read, chain_reads, chain_begins, viewed_reads, map_same, IsNoMore}
@@ -38,18 +38,18 @@ untagged : {D C : Type 0} {t : D → List ℕ} {F : D → Type 0} (text : C → 
 untagged text Fits make bytes r spelled to (found d x rest s fits same) = found (make d) (make x) rest (s ∙ ap (λ y. y ++ rest) (sym (spelled d))) (to d fits) (ap make same)
 untagged text Fits make bytes r spelled to (refused x) = refused x
 
-abbrev pub listed_numbers : Reads IsEnded (λ n. n) decimal (λ n. n ≤ greatest) (number_at greatest)
-listed_numbers = number_reads greatest (lit< tt)
+abbrev pub listed_numbers : Reads IsEnded (λ n. n) decimal (λ n. n ≤ greatest_number) (number_at greatest_number)
+listed_numbers = number_reads greatest_number (lit< tt)
 
 -- ---- places
 
 place_sound : (bytes : List ℕ) → Holds (λ p. p) place_text IsPlace bytes (place_at bytes)
 unfolding place_at
 place_sound [] = refused tt
-place_sound (b ∷ bytes) = holds_if (b ∷ bytes) (eqb b 110) (mapped Node (number_at greatest bytes)) (cond (eqb b 114) (mapped Region (number_at greatest bytes)) (Err tt))
-    (λ e. tagged place_text IsPlace Node 110 b bytes (number_at greatest bytes) (λ n. refl) (λ n f. f) e (listed_numbers.sound bytes))
-    (λ _. holds_if (b ∷ bytes) (eqb b 114) (mapped Region (number_at greatest bytes)) (Err tt)
-    (λ e. tagged place_text IsPlace Region 114 b bytes (number_at greatest bytes) (λ n. refl) (λ n f. f) e (listed_numbers.sound bytes))
+place_sound (b ∷ bytes) = holds_if (b ∷ bytes) (eqb b 110) (mapped Node (number_at greatest_number bytes)) (cond (eqb b 114) (mapped Region (number_at greatest_number bytes)) (Err tt))
+    (λ e. tagged place_text IsPlace Node 110 b bytes (number_at greatest_number bytes) (λ n. refl) (λ n f. f) e (listed_numbers.sound bytes))
+    (λ _. holds_if (b ∷ bytes) (eqb b 114) (mapped Region (number_at greatest_number bytes)) (Err tt)
+    (λ e. tagged place_text IsPlace Region 114 b bytes (number_at greatest_number bytes) (λ n. refl) (λ n f. f) e (listed_numbers.sound bytes))
     (λ _. refused tt))
 
 place_again : (p : Place) (rest : List ℕ) → IsPlace p → IsEnded rest → place_at (place_text p ++ rest) ≡ Ok (p, rest)
@@ -62,16 +62,16 @@ place_reads = record { sound = place_sound; again = place_again }
 
 -- ---- names
 
-port_reads : Reads IsEnded (λ p. p) (λ p. decimal p.0 ++ (46 ∷ decimal p.1)) (λ p. (p.0 ≤ greatest) × (p.1 ≤ greatest)) port_at
+port_reads : Reads IsEnded (λ p. p) (λ p. decimal p.0 ++ (46 ∷ decimal p.1)) (λ p. (p.0 ≤ greatest_number) × (p.1 ≤ greatest_number)) port_at
 port_reads = both_read (λ n rest f s. refl) listed_numbers (behind_reads (codes ".") listed_numbers)
 
 name_sound : (bytes : List ℕ) → Holds (λ n. n) name_text IsName bytes (name_at bytes)
 unfolding name_at
 name_sound [] = refused tt
-name_sound (b ∷ bytes) = holds_if (b ∷ bytes) (eqb b 64) (mapped (λ p. Port p.0 p.1) (port_at bytes)) (cond (eqb b 126) (mapped Opened (number_at greatest bytes)) (mapped Plain (word_at is_lower_case (b ∷ bytes))))
+name_sound (b ∷ bytes) = holds_if (b ∷ bytes) (eqb b 64) (mapped (λ p. Port p.0 p.1) (port_at bytes)) (cond (eqb b 126) (mapped Opened (number_at greatest_number bytes)) (mapped Plain (word_at is_lower_case (b ∷ bytes))))
     (λ e. tagged name_text IsName (λ p. Port p.0 p.1) 64 b bytes (port_at bytes) (λ p. refl) (λ p f. f) e (port_reads.sound bytes))
-    (λ _. holds_if (b ∷ bytes) (eqb b 126) (mapped Opened (number_at greatest bytes)) (mapped Plain (word_at is_lower_case (b ∷ bytes)))
-    (λ e. tagged name_text IsName Opened 126 b bytes (number_at greatest bytes) (λ n. refl) (λ n f. f) e (listed_numbers.sound bytes))
+    (λ _. holds_if (b ∷ bytes) (eqb b 126) (mapped Opened (number_at greatest_number bytes)) (mapped Plain (word_at is_lower_case (b ∷ bytes)))
+    (λ e. tagged name_text IsName Opened 126 b bytes (number_at greatest_number bytes) (λ n. refl) (λ n f. f) e (listed_numbers.sound bytes))
     (λ _. untagged name_text IsName Plain (b ∷ bytes) (word_at is_lower_case (b ∷ bytes)) (λ w. refl) (λ w f. f) ((word_reads is_lower_case).sound (b ∷ bytes))))
 
 lower_is_no_tag : (b : ℕ) → is_lower_case b ≡ true → (eqb b 64 ≡ false) × (eqb b 126 ≡ false)
@@ -94,8 +94,8 @@ name_reads = record { sound = name_sound; again = name_again }
 link_sound : (bytes : List ℕ) → Holds (λ l. l) link_text IsLink bytes (link_at bytes)
 unfolding link_at
 link_sound [] = refused tt
-link_sound (b ∷ bytes) = holds_if (b ∷ bytes) (eqb b 35) (mapped Edge (number_at greatest bytes)) (cond (eqb b 61) (mapped Outer (name_at bytes)) (Err tt))
-    (λ e. tagged link_text IsLink Edge 35 b bytes (number_at greatest bytes) (λ n. refl) (λ n f. f) e (listed_numbers.sound bytes))
+link_sound (b ∷ bytes) = holds_if (b ∷ bytes) (eqb b 35) (mapped Edge (number_at greatest_number bytes)) (cond (eqb b 61) (mapped Outer (name_at bytes)) (Err tt))
+    (λ e. tagged link_text IsLink Edge 35 b bytes (number_at greatest_number bytes) (λ n. refl) (λ n f. f) e (listed_numbers.sound bytes))
     (λ _. holds_if (b ∷ bytes) (eqb b 61) (mapped Outer (name_at bytes)) (Err tt)
     (λ e. tagged link_text IsLink Outer 61 b bytes (name_at bytes) (λ n. refl) (λ n f. f) e (name_reads.sound bytes))
     (λ _. refused tt))
@@ -225,7 +225,7 @@ kind_reads = record {
   again = λ k rest f n. kind_again k rest;
 }
 
-pub control_reads : Reads Anything (λ c. c) (λ c. label_text c.label ++ (codes " " ++ (decimal c.arity ++ (codes " " ++ kind_text c.kind)))) (λ c. IsLabel c.label × ((c.arity ≤ greatest) × Unit {0})) control_at
+pub control_reads : Reads Anything (λ c. c) (λ c. label_text c.label ++ (codes " " ++ (decimal c.arity ++ (codes " " ++ kind_text c.kind)))) (λ c. IsLabel c.label × ((c.arity ≤ greatest_number) × Unit {0})) control_at
 unfolding control_at
 control_reads = mapped_reads (λ p. record { label = p.0; arity = p.1.0; kind = p.1.1 }) (λ c. (c.label, (c.arity, c.kind))) (λ p. record { label = p.0; arity = p.1.0; kind = p.1.1 }) (λ p. refl)
     (both_read (λ p rest f n. refl) label_reads (behind_reads (codes " ") (both_read (λ k rest f n. refl) listed_numbers (behind_reads (codes " ") kind_reads))))

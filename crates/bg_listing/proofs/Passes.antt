@@ -8,7 +8,7 @@ use Rattle.bg_base.specs.declared.signature.Control.{Control}
 use Rattle.bg_base.specs.declared.big.Big.{Big}
 use Rattle.bg_base.specs.declared.check.Part.{Part}
 use Rattle.bg_base.specs.declared.check.Part.TheVariants.{Sites, Inner, Outer, Edges, Nodes}
-use Rattle.bg_base.specs.Signatures.{number_of, IsSignature}
+use Rattle.bg_base.specs.Signatures.{control_number, IsSignature}
 use Rattle.bg_base.specs.Bigraph.{IsValidUnder}
 use Rattle.bg_base.specs.Faults.{fault_of, codes_from, first_fault, or_else, sites_fault, inner_fault, outer_fault, edges_fault, nodes_fault, site_code, inner_code, outer_code, edge_code, node_code}
 use Rattle.bg_base.proofs.FaultLaws.{no_fault}
@@ -19,7 +19,7 @@ use Rattle.bg_listing.specs.Spelling.{signature_text, big_text}
 use Rattle.bg_listing.specs.Limits.{AreCounted, IsControl, IsReadableSignature, IsReadableBig}
 use Rattle.bg_listing.specs.Lines as lines
 use Rattle.bg_listing.specs.Lines.{signature_at, big_at}
-use Rattle.bg_listing.specs.Verdict.{Stands, Refusal, judged, repeat_among, first_repeat, without_repeat, signature_verdict, rows_of, lines_before, without_fault, big_verdict, Answers, Reads}
+use Rattle.bg_listing.specs.Verdict.{Stands, Refusal, judged, repeat_among, first_repeat, without_repeat, signature_verdict, rows_of, lines_before, without_fault, big_verdict, AnswersAs, ReadsBack}
 use Rattle.bg_listing.proofs.Combinators.{done_is}
 use Rattle.bg_listing.proofs.Labels.{no_repeat, all_here}
 use Rattle.bg_listing.proofs.Values.{big_found, big_again, signature_found, signature_again, readable_signature}
@@ -29,7 +29,7 @@ judged_ok bytes (Ok x) second y e = (x, refl, e)
 judged_ok bytes (Err b) second y e = absurd cc
 
 -- this value and this rest, from an answer
-reads_from : {A : Type 0} (bytes : List ℕ) (r : Result (A × Cursor) ListingFault) (verdict : Result (A × List ℕ) Refusal) (value : A) (rest : List ℕ) → Answers bytes r verdict → verdict ≡ Ok (value, rest) → Reads bytes r value rest
+reads_from : {A : Type 0} (bytes : List ℕ) (r : Result (A × Cursor) ListingFault) (verdict : Result (A × List ℕ) Refusal) (value : A) (rest : List ℕ) → AnswersAs bytes r verdict → verdict ≡ Ok (value, rest) → ReadsBack bytes r value rest
 reads_from bytes (Ok x) verdict value rest a e =
     let same : (x.0, drop x.1.offset bytes) ≡ (value, rest) = done_is (x.0, drop x.1.offset bytes) (value, rest) (sym a.0 ∙ e) in
     (ap (λ p. p.0) same, ap (λ p. p.1) same)
@@ -48,7 +48,7 @@ signature_here bytes at x e =
     let j = judged_ok bytes (signature_at (drop at.offset bytes)) (λ found. without_repeat (first_repeat found.0) (at.line + 1) found) x e in
     j.1 ∙ ap (λ y. Ok y) (kept_is (first_repeat j.0.0) (at.line + 1) j.0 x j.2)
 
-pub signature_is_found : (bytes : List ℕ) (at : Cursor) (r : Result (List Control × Cursor) ListingFault) → Answers bytes r (signature_verdict bytes at) → IfOk r (λ x. IsSignature x.0)
+pub signature_is_found : (bytes : List ℕ) (at : Cursor) (r : Result (List Control × Cursor) ListingFault) → AnswersAs bytes r (signature_verdict bytes at) → IfOk r (λ x. IsSignature x.0)
     → IfOk r (λ x. IsReadableSignature x.0 × Stands bytes at (signature_text x.0) x.1)
 signature_is_found bytes at (Ok x) a kept =
     let text = signature_found (drop at.offset bytes) x.0 (drop x.1.offset bytes) (signature_here bytes at (x.0, drop x.1.offset bytes) a.0) in
@@ -62,8 +62,8 @@ signature_verdict_is bytes at controls rest f e =
     let here : signature_at (drop at.offset bytes) ≡ Ok (controls, rest) = ap signature_at e ∙ signature_again controls rest f in
     rw (here, no_repeat controls f.signature.labels_differ) refl
 
-pub signature_is_read : (bytes : List ℕ) (at : Cursor) (r : Result (List Control × Cursor) ListingFault) → Answers bytes r (signature_verdict bytes at)
-    → (controls : List Control) (rest : List ℕ) → IsReadableSignature controls → drop at.offset bytes ≡ signature_text controls ++ rest → Reads bytes r controls rest
+pub signature_is_read : (bytes : List ℕ) (at : Cursor) (r : Result (List Control × Cursor) ListingFault) → AnswersAs bytes r (signature_verdict bytes at)
+    → (controls : List Control) (rest : List ℕ) → IsReadableSignature controls → drop at.offset bytes ≡ signature_text controls ++ rest → ReadsBack bytes r controls rest
 signature_is_read bytes at r a controls rest f e = reads_from bytes r (signature_verdict bytes at) controls rest a (signature_verdict_is bytes at controls rest f e)
 
 pub one_signature : (a b : List Control) (x y : List ℕ) → IsReadableSignature a → IsReadableSignature b → signature_text a ++ x ≡ signature_text b ++ y → (a ≡ b) × (x ≡ y)
@@ -81,14 +81,14 @@ shifted_more n m None e = refl
 shifted_more n m (Some k) e = let s : n + suc k ≡ m + k = omega arith in ap Some s
 
 -- no control before has the label
-pub repeat_goes_on : (whole made : List Control) (c : Control) (rest : List Control) → number_of made c.label ≡ None → first_repeat whole ≡ shifted (length made) (repeat_among made (c ∷ rest))
+pub repeat_goes_on : (whole made : List Control) (c : Control) (rest : List Control) → control_number made c.label ≡ None → first_repeat whole ≡ shifted (length made) (repeat_among made (c ∷ rest))
     → first_repeat whole ≡ shifted (length (made ++ c ∷ [])) (repeat_among (made ++ c ∷ []) rest)
 repeat_goes_on whole made c rest none e =
     let step : repeat_among made (c ∷ rest) ≡ option_map suc (repeat_among (made ++ c ∷ []) rest) = rw none refl in
     e ∙ ap (shifted (length made)) step ∙ shifted_more (length made) (length (made ++ c ∷ [])) (repeat_among (made ++ c ∷ []) rest) (length-append made (c ∷ []))
 
 -- a control before has it
-pub repeat_here : (whole made : List Control) (c : Control) (rest : List Control) → is_some (number_of made c.label) ≡ true → first_repeat whole ≡ shifted (length made) (repeat_among made (c ∷ rest))
+pub repeat_here : (whole made : List Control) (c : Control) (rest : List Control) → is_some (control_number made c.label) ≡ true → first_repeat whole ≡ shifted (length made) (repeat_among made (c ∷ rest))
     → first_repeat whole ≡ Some (length made)
 repeat_here whole made c rest some e =
     let step : repeat_among made (c ∷ rest) ≡ Some 0 = rw some refl in
@@ -114,7 +114,7 @@ big_here signature bytes at x e =
     let j = judged_ok bytes (big_at signature (drop at.offset bytes)) (λ found. without_fault (fault_of signature found.0) at.line found.0 found) x e in
     j.1 ∙ ap (λ y. Ok y) (valid_is (fault_of signature j.0.0) at.line j.0.0 j.0 x j.2)
 
-pub big_is_found : (signature : List Control) (bytes : List ℕ) (at : Cursor) (r : Result (Big × Cursor) ListingFault) → Answers bytes r (big_verdict signature bytes at) → IfOk r (λ x. IsValidUnder signature x.0)
+pub big_is_found : (signature : List Control) (bytes : List ℕ) (at : Cursor) (r : Result (Big × Cursor) ListingFault) → AnswersAs bytes r (big_verdict signature bytes at) → IfOk r (λ x. IsValidUnder signature x.0)
     → IfOk r (λ x. IsReadableBig signature x.0 × Stands bytes at (big_text signature x.0) x.1)
 big_is_found signature bytes at (Ok x) a valid =
     let text = big_found signature (drop at.offset bytes) x.0 (drop x.1.offset bytes) (big_here signature bytes at (x.0, drop x.1.offset bytes) a.0) valid.controls_there in
@@ -129,8 +129,8 @@ big_verdict_is signature kept bytes at big rest f e =
     let here : big_at signature (drop at.offset bytes) ≡ Ok (big, rest) = ap (big_at signature) e ∙ big_again signature kept.labels_differ big rest f.valid.controls_there f.spelled in
     rw (here, (no_fault signature big).1 f.valid) refl
 
-pub big_is_read : (signature : List Control) → IsSignature signature → (bytes : List ℕ) (at : Cursor) (r : Result (Big × Cursor) ListingFault) → Answers bytes r (big_verdict signature bytes at)
-    → (big : Big) (rest : List ℕ) → IsReadableBig signature big → drop at.offset bytes ≡ big_text signature big ++ rest → Reads bytes r big rest
+pub big_is_read : (signature : List Control) → IsSignature signature → (bytes : List ℕ) (at : Cursor) (r : Result (Big × Cursor) ListingFault) → AnswersAs bytes r (big_verdict signature bytes at)
+    → (big : Big) (rest : List ℕ) → IsReadableBig signature big → drop at.offset bytes ≡ big_text signature big ++ rest → ReadsBack bytes r big rest
 big_is_read signature kept bytes at r a big rest f e = reads_from bytes r (big_verdict signature bytes at) big rest a (big_verdict_is signature kept bytes at big rest f e)
 
 pub one_big : (signature : List Control) (a b : Big) (x y : List ℕ) → IsSignature signature → IsReadableBig signature a → IsReadableBig signature b → big_text signature a ++ x ≡ big_text signature b ++ y → (a ≡ b) × (x ≡ y)

@@ -7,7 +7,7 @@ use Rattle.bg_base.specs.Limits.{most_controls}
 use Rattle.bg_base.specs.declared.signature.Control.{Control}
 use Rattle.bg_base.specs.declared.big.Big.{Big}
 use Rattle.bg_base.specs.declared.check.Part.{Part}
-use Rattle.bg_base.specs.Signatures.{number_of, IsSignature}
+use Rattle.bg_base.specs.Signatures.{control_number, IsSignature}
 use Rattle.bg_base.specs.Bigraph.{IsValidUnder}
 use Rattle.bg_base.specs.Faults.{fault_of}
 use Rattle.bg_base.proofs.FaultLaws.{no_fault}
@@ -43,10 +43,10 @@ not_there (Some k) e = absurd cc
 pub signature_among : (before controls : List Control) → IsSignature before → length (before ++ controls) ≤ most_controls → AllByRecursion IsControl controls → repeat_among before controls ≡ None → IsSignature (before ++ controls)
 signature_among before [] kept many all none = subst IsSignature (sym (append-nil before)) kept
 signature_among before (control ∷ controls) kept many all none =
-    let parts = none_here (is_some (number_of before control.label)) (repeat_among (before ++ control ∷ []) controls) none in
+    let parts = none_here (is_some (control_number before control.label)) (repeat_among (before ++ control ∷ []) controls) none in
     let moved : (before ++ control ∷ []) ++ controls ≡ before ++ control ∷ controls = append_assoc before (control ∷ []) controls in
     let few : length before < most_controls = omega (arith, many, length-append before (control ∷ controls)) in
-    let more = one_more_control before control kept (not_there (number_of before control.label) parts.0) all.0.arity few in
+    let more = one_more_control before control kept (not_there (control_number before control.label) parts.0) all.0.arity few in
     subst IsSignature moved (signature_among (before ++ control ∷ []) controls more (subst (λ cs. length cs ≤ most_controls) (sym moved) many) all.1 parts.1)
 
 no_repeat_kept : {A : Type 0} (repeat : Option ℕ) (line : ℕ) (x y : A) → without_repeat repeat line x ≡ Ok y → repeat ≡ None

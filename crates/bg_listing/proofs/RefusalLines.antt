@@ -15,8 +15,8 @@ use Rattle.bg_listing.specs.declared.cursor.Cursor.{Cursor}
 use Rattle.bg_listing.specs.Spelling.{label_of, place_line, inner_line, name_line, edge_line, count_line, section_text, signature_text}
 use Rattle.bg_listing.specs.Limits.{IsNumber, IsPlace, IsName, IsInner, AreCounted}
 use Rattle.bg_listing.specs.Combinators.{both}
-use Rattle.bg_listing.specs.Lines.{Bad, count_at, section_at, edge_row, place_row, name_row, inner_row, node_row, NodeParts, row_of, Sections, big_of, signature_at, big_at}
-use Rattle.bg_listing.specs.Verdict.{line_feeds, IsAt, Refusal, line_of, judged, first_repeat, without_repeat, without_fault, lines_before, signature_verdict, big_verdict}
+use Rattle.bg_listing.specs.Lines.{Bad, count_at, section_at, edge_row, place_row, name_row, inner_row, node_row, NodeParts, row_from_parts, Sections, big_of, signature_at, big_at}
+use Rattle.bg_listing.specs.Verdict.{line_feeds, IsAt, Refusal, line_number, judged, first_repeat, without_repeat, without_fault, lines_before, signature_verdict, big_verdict}
 use Rattle.bg_listing.specs.Stops.{StopsAtLine, AreListed, Listed, listed_text, IsListed}
 use Rattle.bg_listing.proofs.Listings.{parts_line, AreParts, parts_text, AreSections}
 use Rattle.bg_listing.proofs.Values.{parts_of, sections_of, parts_text_is, spelled_from_sections, sections_from_spelled}
@@ -26,7 +26,7 @@ use Rattle.bg_listing.proofs.OneLine.{count_row, edge_rows, place_rows, name_row
 
 -- ---- lines are counted by their line feeds
 
-pub line_at : (bytes : List ℕ) (at : Cursor) (lines behind : List ℕ) → IsAt bytes at → drop at.offset bytes ≡ lines ++ behind → line_of bytes (length behind) ≡ at.line + line_feeds lines
+pub line_at : (bytes : List ℕ) (at : Cursor) (lines behind : List ℕ) → IsAt bytes at → drop at.offset bytes ≡ lines ++ behind → line_number bytes (length behind) ≡ at.line + line_feeds lines
 line_at bytes at lines behind is e =
     let front : List ℕ = take at.offset bytes in
     let whole : bytes ≡ (front ++ lines) ++ behind = sym (take-append-drop at.offset bytes) ∙ ap (λ y. front ++ y) e ∙ sym (append_assoc front lines behind) in
@@ -44,11 +44,11 @@ stopped_line : {D X : Type 0} {t : D → List ℕ} {F : D → Type 0} (bytes : L
     → IsAt bytes at → Stops t F (drop at.offset bytes) r → ((x : X × List ℕ) → second x ≡ Err (code, line) → ⊥) → judged bytes r second ≡ Err (code, line) → StopsAtLine t F bytes at line
 stopped_line bytes at r second code line is (goes x) other e = absurd (other x e)
 stopped_line bytes at r second code line is (stops bad lines behind left s) other e =
-    let named : line_of bytes bad.left ≡ line = ap (λ (r : Refusal). r.1) (one_refusal (judged bytes (Err bad) second) (bad.code, line_of bytes bad.left) (code, line) refl e) in
+    let named : line_number bytes bad.left ≡ line = ap (λ (r : Refusal). r.1) (one_refusal (judged bytes (Err bad) second) (bad.code, line_number bytes bad.left) (code, line) refl e) in
     record {
       lines = lines;
       behind = behind;
-      line_is = sym named ∙ ap (line_of bytes) left.0 ∙ line_at bytes at lines behind is s.there;
+      line_is = sym named ∙ ap (line_number bytes) left.0 ∙ line_at bytes at lines behind is s.there;
       stops = s;
     }
 
@@ -85,7 +85,7 @@ outer_part = section_part most_rows (codes "outer ") (lit≤ tt) (count_row most
 pub edge_part : IsPart (map (λ n. n)) (section_text (codes "edges ") edge_line) (AreCounted most_rows IsNumber) (section_at most_rows (codes "edges ") edge_row)
 edge_part = section_part most_rows (codes "edges ") (lit≤ tt) (count_row most_rows (codes "edges ") (lit≤ tt) refl) edge_rows
 
-node_part : (signature : List Control) → IsPart (map (row_of signature)) (section_text (codes "nodes ") parts_line) (AreCounted most_rows AreParts) (section_at most_rows (codes "nodes ") (node_row signature))
+node_part : (signature : List Control) → IsPart (map (row_from_parts signature)) (section_text (codes "nodes ") parts_line) (AreCounted most_rows AreParts) (section_at most_rows (codes "nodes ") (node_row signature))
 node_part signature = section_part most_rows (codes "nodes ") (lit≤ tt) (count_row most_rows (codes "nodes ") (lit≤ tt) refl) (node_rows signature)
 
 pub parts_stop : (signature : List Control) (bytes : List ℕ) → Stops parts_text AreSections bytes (big_at signature bytes)

@@ -13,15 +13,15 @@ use Rattle.bg_base.specs.declared.big.Big.{Big}
 use Rattle.bg_base.specs.declared.check.Part.{Part}
 use Rattle.bg_base.specs.declared.check.Part.TheVariants.{Sites, Inner, Outer, Edges, Nodes}
 use Rattle.bg_base.specs.Order.{name_cmp}
-use Rattle.bg_base.specs.Signatures.{number_of, IsSignature}
+use Rattle.bg_base.specs.Signatures.{control_number, IsSignature}
 use Rattle.bg_base.specs.Bigraph.{has_place, is_rooted, is_atomic, arity_of}
 use Rattle.bg_base.specs.Faults.{fault_of, codes_from, first_fault, shifted, or_else, sites_fault, inner_fault, outer_fault, edges_fault, nodes_fault, site_code, inner_code, outer_code, edge_code, node_code, rises, is_known}
 use Rattle.bg_base.proofs.FaultLaws.{no_fault, none_parts}
 use Rattle.bg_listing.specs.declared.cursor.Cursor.{Cursor}
 use Rattle.bg_listing.specs.Spelling.{control_line, place_line, inner_line, name_line, edge_line, count_line, section_text, signature_text, big_text}
 use Rattle.bg_listing.specs.Limits.{IsNumber, IsPlace, IsName, IsInner, AreCounted, IsControl, IsReadableSignature, IsReadableBig}
-use Rattle.bg_listing.specs.Lines.{Bad, NodeParts, row_of, Sections, signature_at, big_at}
-use Rattle.bg_listing.specs.Verdict.{IsAt, Refusal, line_of, judged, repeat_among, first_repeat, without_repeat, lines_before, without_fault, signature_verdict, big_verdict}
+use Rattle.bg_listing.specs.Lines.{Bad, NodeParts, row_from_parts, Sections, signature_at, big_at}
+use Rattle.bg_listing.specs.Verdict.{IsAt, Refusal, line_number, judged, repeat_among, first_repeat, without_repeat, lines_before, without_fault, signature_verdict, big_verdict}
 use Rattle.bg_listing.specs.Stops.{Begins, StopsAtLine, HasText, NoneFromLine, is_settled, AreListed, listed_text, IsListed}
 use Rattle.bg_listing.specs.RowLines.{seen_under}
 use Rattle.bg_listing.proofs.Combinators.{Holds, found, joined, FitBoth, map_same}
@@ -50,7 +50,7 @@ pub second_pass : {D X : Type 0} {t : D → List ℕ} {F : D → Type 0} (bytes 
     → Stops t F rest r → judged bytes r second ≡ Err (code, line) → (x : X × List ℕ) × (r ≡ Ok x) × (second x ≡ Err (code, line))
 second_pass bytes rest r second code line s (goes x) e = (x, refl, e)
 second_pass bytes rest r second code line s (stops bad lines behind named at) e =
-    let same : bad.code ≡ code = ap (λ (r : Refusal). r.0) (one_refusal (judged bytes (Err bad) second) (bad.code, line_of bytes bad.left) (code, line) refl e) in
+    let same : bad.code ≡ code = ap (λ (r : Refusal). r.0) (one_refusal (judged bytes (Err bad) second) (bad.code, line_number bytes bad.left) (code, line) refl e) in
     let le : code ≤ 2 = subst (λ c. c ≤ 2) same named.1 in
     absurd (omega arith)
 
@@ -62,16 +62,16 @@ record RepeatAt (before controls : List Control) (row : ℕ) : Type 0 where
   later : List Control
   rows : controls ≡ front ++ control ∷ later
   many : length front ≡ row
-  stood : is_some (number_of (before ++ front) control.label) ≡ true
+  stood : is_some (control_number (before ++ front) control.label) ≡ true
   clean : repeat_among before front ≡ None
 
 one_row : (a b : ℕ) → Some a ≡ Some b → a ≡ b
 one_row a b e = cc
 
-repeat_if : (before : List Control) (c : Control) (controls : List Control) (row : ℕ) (repeated : Bool) (later : Option ℕ) → is_some (number_of before c.label) ≡ repeated
+repeat_if : (before : List Control) (c : Control) (controls : List Control) (row : ℕ) (repeated : Bool) (later : Option ℕ) → is_some (control_number before c.label) ≡ repeated
     → ((j : ℕ) → later ≡ Some j → RepeatAt (before ++ c ∷ []) controls j) → cond repeated (Some 0) (option_map suc later) ≡ Some row → RepeatAt before (c ∷ controls) row
 repeat_if before c controls row true later e h f =
-    record { front = []; control = c; later = controls; rows = refl; many = one_row 0 row f; stood = ap (λ cs. is_some (number_of cs c.label)) (append-nil before) ∙ e; clean = refl }
+    record { front = []; control = c; later = controls; rows = refl; many = one_row 0 row f; stood = ap (λ cs. is_some (control_number cs c.label)) (append-nil before) ∙ e; clean = refl }
 repeat_if before c controls row false None e h f = absurd cc
 repeat_if before c controls row false (Some j) e h f =
     let s = h j refl in
@@ -81,14 +81,14 @@ repeat_if before c controls row false (Some j) e h f =
       later = s.later;
       rows = ap (λ cs. c ∷ cs) s.rows;
       many = ap suc s.many ∙ one_row (suc j) row f;
-      stood = ap (λ cs. is_some (number_of cs s.control.label)) (sym (append_assoc before (c ∷ []) s.front)) ∙ s.stood;
+      stood = ap (λ cs. is_some (control_number cs s.control.label)) (sym (append_assoc before (c ∷ []) s.front)) ∙ s.stood;
       clean = rw (e, s.clean) refl;
     }
 
 repeat_at : (before controls : List Control) (row : ℕ) → repeat_among before controls ≡ Some row → RepeatAt before controls row
 repeat_at before [] row e = absurd cc
 repeat_at before (c ∷ controls) row e =
-    repeat_if before c controls row (is_some (number_of before c.label)) (repeat_among (before ++ c ∷ []) controls) refl (λ j f. repeat_at (before ++ c ∷ []) controls j f) e
+    repeat_if before c controls row (is_some (control_number before c.label)) (repeat_among (before ++ c ∷ []) controls) refl (λ j f. repeat_at (before ++ c ∷ []) controls j f) e
 
 pub repeat_there : (controls : List Control) (row : ℕ) → first_repeat controls ≡ Some row → row < length controls
 repeat_there controls row e =
@@ -128,7 +128,7 @@ signature_stops_at bytes at controls rest row line fits e repeat named =
     let lines : List ℕ = count_line (codes "signature ") (length controls) ++ flat_map control_line s.front in
     let stopped : StopsIn signature_text (λ cs. AreListed cs × IsSignature (map (λ c. c) cs)) (drop at.offset bytes) (1 + length s.front) =
     section_stops_at most_controls (codes "signature ") (count_row most_controls (codes "signature ") (lit≤ tt) refl) control_rows IsSignature controls s.front s.control s.later (drop at.offset bytes) rest fits s.rows e
-    (λ more kept. not_some (number_of s.front s.control.label) s.stood
+    (λ more kept. not_some (control_number s.front s.control.label) s.stood
     (none_before s.front s.control more (subst (λ cs. IsSignature (cs ++ s.control ∷ more)) (map_same s.front) kept).labels_differ)) in
     record {
       lines = lines;
@@ -249,7 +249,7 @@ clean_from signature big none =
 record IsOwn (signature : List Control) (value : Big) : Type 0 where
   sections : AreSections (sections_of signature value)
   clean : IsClean signature value
-  nodes : Passes (λ (row : NodeRow). row.id) (node_test signature) None (map (row_of signature) (sections_of signature value).1.1.1.1.1)
+  nodes : Passes (λ (row : NodeRow). row.id) (node_test signature) None (map (row_from_parts signature) (sections_of signature value).1.1.1.1.1)
   text_is : big_text signature value ≡ parts_text (sections_of signature value) ++ []
 
 own_parts : (signature : List Control) → IsSignature signature → (value : Big) → IsReadableBig signature value → IsOwn signature value

@@ -3,7 +3,7 @@ use Rattle.std.proofs.Common.{◌≡◌, ℕ, zero, suc, ◌≤◌, Bool, true, 
 use Rattle.std.specs.List.{flat_map, AllByRecursion, list_all}
 use Rattle.std.proofs.lemmas.Bool.{and_parts}
 use Rattle.bg_listing.specs.Spelling.{count_line, section_text}
-use Rattle.bg_listing.specs.Limits.{greatest, AreCounted}
+use Rattle.bg_listing.specs.Limits.{greatest_number, AreCounted}
 use Rattle.bg_listing.specs.Combinators.{◌>>=◌, mapped, with_front, both, each}
 use Rattle.bg_listing.specs.Lines.{Bad, count_at, section_at}
 use Rattle.bg_listing.specs.Stops.{first_line, ends_line, AreLines, NoneBegins, StopsAt}
@@ -258,7 +258,7 @@ pub rows_are_lines : {D X : Type 0} {v : D → X} {t : D → List ℕ} {F : D �
 rows_are_lines w [] f = refl
 rows_are_lines {t = t} w (d ∷ ds) f = lines_append (t d) (flat_map t ds) (line_lines (t d) (w.line d f.0)) (rows_are_lines w ds f.1)
 
-pub section_part : {D X : Type 0} {v : D → X} {t : D → List ℕ} {F : D → Type 0} {read : List ℕ → Result (X × List ℕ) Bad} (most : ℕ) (word : List ℕ) → most ≤ greatest → IsRow (λ n. n) (count_line word) (λ n. n ≤ most) (count_at most word) → IsRow v t F read
+pub section_part : {D X : Type 0} {v : D → X} {t : D → List ℕ} {F : D → Type 0} {read : List ℕ → Result (X × List ℕ) Bad} (most : ℕ) (word : List ℕ) → most ≤ greatest_number → IsRow (λ n. n) (count_line word) (λ n. n ≤ most) (count_at most word) → IsRow v t F read
     → IsPart (map v) (section_text word t) (AreCounted most F) (section_at most word read)
 section_part {t = t} most word small count w = record {
   reads = section_reads most word small w.reads;

@@ -13,7 +13,7 @@ use Rattle.bg_base.specs.declared.big.Big.{Big}
 use Rattle.bg_base.specs.Signatures.{same_label, IsSignature}
 use Rattle.bg_listing.specs.Spelling.{label_of, place_line, inner_line, name_line, edge_line, count_line, section_text, signature_text, big_text}
 use Rattle.bg_listing.specs.Limits.{IsLabel, IsControl, IsNode, AreCounted, IsReadableSignature, IsSpelledBig}
-use Rattle.bg_listing.specs.Lines.{Bad, control_of, NodeParts, row_of, Sections, big_of, signature_at, big_at}
+use Rattle.bg_listing.specs.Lines.{Bad, control_of, NodeParts, row_from_parts, Sections, big_of, signature_at, big_at}
 use Rattle.bg_listing.specs.Stops.{Listed}
 use Rattle.bg_listing.specs.RowLines.{seen_under}
 use Rattle.bg_listing.proofs.Combinators.{Holds, found}
@@ -43,23 +43,23 @@ parts_text_is signature big =
 
 -- ---- nodes
 
-rows_back : (signature : List Control) (rows : List NodeParts) → AllByRecursion (IsKnown signature) (map (row_of signature) rows) → map (parts_of signature) (map (row_of signature) rows) ≡ rows
+rows_back : (signature : List Control) (rows : List NodeParts) → AllByRecursion (IsKnown signature) (map (row_from_parts signature) rows) → map (parts_of signature) (map (row_from_parts signature) rows) ≡ rows
 rows_back signature [] known = refl
 rows_back signature (r ∷ rows) known =
     let label : label_of signature (control_of signature r.1.0) ≡ r.1.0 = label_back signature r.1.0 known.0 in
-    ap (λ l. (r.0, (l, r.1.1)) ∷ map (parts_of signature) (map (row_of signature) rows)) label ∙ ap (λ rs. r ∷ rs) (rows_back signature rows known.1)
+    ap (λ l. (r.0, (l, r.1.1)) ∷ map (parts_of signature) (map (row_from_parts signature) rows)) label ∙ ap (λ rs. r ∷ rs) (rows_back signature rows known.1)
 
-pub rows_own : (signature : List Control) → IsDistinct (λ (x y : Control). same_label x.label y.label) signature → (rows : List NodeRow) → AllByRecursion (IsKnown signature) rows → map (row_of signature) (map (parts_of signature) rows) ≡ rows
+pub rows_own : (signature : List Control) → IsDistinct (λ (x y : Control). same_label x.label y.label) signature → (rows : List NodeRow) → AllByRecursion (IsKnown signature) rows → map (row_from_parts signature) (map (parts_of signature) rows) ≡ rows
 rows_own signature distinct [] known = refl
 rows_own signature distinct (r ∷ rows) known =
     let number : control_of signature (label_of signature r.control) ≡ r.control = control_own signature distinct r.control known.0 in
-    ap (λ k. record { id = r.id; control = k; parent = r.parent; links = r.links } ∷ map (row_of signature) (map (parts_of signature) rows)) number ∙ ap (λ rs. r ∷ rs) (rows_own signature distinct rows known.1)
+    ap (λ k. record { id = r.id; control = k; parent = r.parent; links = r.links } ∷ map (row_from_parts signature) (map (parts_of signature) rows)) number ∙ ap (λ rs. r ∷ rs) (rows_own signature distinct rows known.1)
 
 -- what a listing says under the signature, by the parts of its text
 pub seen_under_is : (signature : List Control) (listed : Listed) → seen_by signature (sections_of listed.0 listed.1) ≡ seen_under signature listed
 seen_under_is signature listed =
     let big : Big = listed.1 in
-    ap (λ rows. big_of (big.regions, (big.sites, (big.inner, (big.outer, (big.edges, rows)))))) (map-map (parts_of listed.0) (row_of signature) big.nodes)
+    ap (λ rows. big_of (big.regions, (big.sites, (big.inner, (big.outer, (big.edges, rows)))))) (map-map (parts_of listed.0) (row_from_parts signature) big.nodes)
 
 nodes_from_parts : (signature : List Control) (rows : List NodeRow) → AllByRecursion AreParts (map (parts_of signature) rows) → AllByRecursion (IsNode signature) rows
 nodes_from_parts signature [] all = tt
@@ -90,7 +90,7 @@ pub record IsBigText (signature : List Control) (bytes : List ℕ) (big : Big) (
   pub there : bytes ≡ big_text signature big ++ rest
   pub spelled : IsSpelledBig signature big
 
-seen_text : (signature : List Control) (bytes rest : List ℕ) (d : Sections NodeParts) → bytes ≡ parts_text d ++ rest → AreSections d → AllByRecursion (IsKnown signature) (map (row_of signature) d.1.1.1.1.1) → IsBigText signature bytes (seen_by signature d) rest
+seen_text : (signature : List Control) (bytes rest : List ℕ) (d : Sections NodeParts) → bytes ≡ parts_text d ++ rest → AreSections d → AllByRecursion (IsKnown signature) (map (row_from_parts signature) d.1.1.1.1.1) → IsBigText signature bytes (seen_by signature d) rest
 seen_text signature bytes rest d e f known =
     let same : sections_of signature (seen_by signature d) ≡ d = ap (λ rows. (d.0, (d.1.0, (d.1.1.0, (d.1.1.1.0, (d.1.1.1.1.0, rows)))))) (rows_back signature d.1.1.1.1.1 known) in
     record {

@@ -13,9 +13,9 @@ Fails part.OutOfMemory read = Unit {0}
 Fails part.NotThere read = read ≡ Err tt
 
 -- a part of a line: the value as view shows it, or the refusal, or want of memory
-abbrev pub Gives : {X Y : Type 0} → (X → Y) → Result X PartFault → Result Y (Unit {0}) → Type 0
-Gives view (Ok x) read = read ≡ Ok (view x)
-Gives view (Err fault) read = Fails fault read
+abbrev pub GivesPart : {X Y : Type 0} → (X → Y) → Result X PartFault → Result Y (Unit {0}) → Type 0
+GivesPart view (Ok x) read = read ≡ Ok (view x)
+GivesPart view (Err fault) read = Fails fault read
 
 -- the same of a function that takes no memory, whose fault says that it is not there and nothing else
 abbrev pub Shows : {X Y F : Type 0} → (X → Y) → Result X F → Result Y (Unit {0}) → Type 0
@@ -28,7 +28,7 @@ Finds view (Some x) read = read ≡ Ok (view x)
 Finds view None read = read ≡ Err tt
 
 -- the bytes in front that pass the test, and those behind
-pub record IsRun (test : ℕ → Bool) (bytes front rest : List ℕ) : Type 0 where
+pub record IsFrontRun (test : ℕ → Bool) (bytes front rest : List ℕ) : Type 0 where
   pub front_is : front ≡ take (prefix_len test bytes) bytes
   pub rest_is : rest ≡ drop (prefix_len test bytes) bytes
   pub pass : IsTrue (list_all test front)

@@ -21,15 +21,15 @@ use Rattle.bg_base.specs.Bigraph.{IsValidUnder}
 use Rattle.bg_listing.specs.Spelling.{label_of}
 
 -- the greatest number of a listing, 2 ^ 31 - 1
-abbrev pub greatest : ℕ
-greatest = 2147483647
+abbrev pub greatest_number : ℕ
+greatest_number = 2147483647
 
 -- the greatest 64-bit number with sign, 2 ^ 63 - 1
 abbrev pub greatest_int : ℕ
 greatest_int = 9223372036854775807
 
 abbrev pub IsNumber : ℕ → Type 0
-IsNumber number = number ≤ greatest
+IsNumber number = number ≤ greatest_number
 
 abbrev pub IsPlace : Place → Type 0
 IsPlace (Node node) = IsNumber node

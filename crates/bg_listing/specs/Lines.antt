@@ -9,9 +9,9 @@ use Rattle.bg_base.specs.declared.signature.Control.{Control}
 use Rattle.bg_base.specs.declared.big.InnerRow.{InnerRow}
 use Rattle.bg_base.specs.declared.big.NodeRow.{NodeRow}
 use Rattle.bg_base.specs.declared.big.Big.{Big}
-use Rattle.bg_base.specs.Signatures.{number_of}
+use Rattle.bg_base.specs.Signatures.{control_number}
 use Rattle.bg_listing.specs.Spelling.{space, line_feed}
-use Rattle.bg_listing.specs.Limits.{greatest}
+use Rattle.bg_listing.specs.Limits.{greatest_number}
 use Rattle.bg_listing.specs.Combinators.{◌>>=◌, mapped, behind, line, only_if, both, each, chain}
 use Rattle.bg_listing.specs.Reading.{number_at, place_at, name_at, link_at, inner_at, label_at, control_at}
 
@@ -38,7 +38,7 @@ row read bytes = or_bad_line (read bytes) bytes
 
 -- a line of a word and a number: first its form, then the limit of the number
 unfoldable pub count_at : ℕ → List ℕ → List ℕ → Result (ℕ × List ℕ) Bad
-count_at most word bytes = only_if too_many (λ n. nat_le n most) (row (behind word (line (number_at greatest)))) bytes
+count_at most word bytes = only_if too_many (λ n. nat_le n most) (row (behind word (line (number_at greatest_number)))) bytes
 
 -- the number of rows, and the rows
 unfoldable pub section_at : {A : Type 0} → ℕ → List ℕ → (List ℕ → Result (A × List ℕ) Bad) → List ℕ → Result (List A × List ℕ) Bad
@@ -47,7 +47,7 @@ section_at most word read bytes = count_at most word bytes >>= λ n. each read n
 -- ---- the rows
 
 unfoldable pub edge_row : List ℕ → Result (ℕ × List ℕ) Bad
-edge_row bytes = row (line (number_at greatest)) bytes
+edge_row bytes = row (line (number_at greatest_number)) bytes
 
 unfoldable pub place_row : List ℕ → Result (Place × List ℕ) Bad
 place_row bytes = row (line place_at) bytes
@@ -64,21 +64,21 @@ control_row bytes = only_if too_many (λ control. nat_le control.arity most_port
 
 -- the number of the control with the label; where there is none, a number that is not there
 abbrev pub control_of : List Control → Label → ℕ
-control_of signature label = unwrap_or (number_of signature label) (length signature)
+control_of signature label = unwrap_or (control_number signature label) (length signature)
 
 -- the parts of a node's line: its number, its label, its place, its links
 abbrev pub NodeParts : Type 0
 NodeParts = ℕ × (Label × (Place × List Link))
 
-abbrev pub row_of : List Control → NodeParts → NodeRow
-row_of signature parts = record { id = parts.0; control = control_of signature parts.1.0; parent = parts.1.1.0; links = parts.1.1.1 }
+abbrev pub row_from_parts : List Control → NodeParts → NodeRow
+row_from_parts signature parts = record { id = parts.0; control = control_of signature parts.1.0; parent = parts.1.1.0; links = parts.1.1.1 }
 
 unfoldable pub links_at : List ℕ → Result (List Link × List ℕ) (Unit {0})
 links_at bytes = chain line_feed space link_at bytes
 
 unfoldable pub node_at : List Control → List ℕ → Result (NodeRow × List ℕ) (Unit {0})
 node_at signature bytes =
-    mapped (row_of signature) (both (number_at greatest) (behind (codes " ") (both label_at (behind (codes " ") (both place_at links_at)))) bytes)
+    mapped (row_from_parts signature) (both (number_at greatest_number) (behind (codes " ") (both label_at (behind (codes " ") (both place_at links_at)))) bytes)
 
 unfoldable pub node_row : List Control → List ℕ → Result (NodeRow × List ℕ) Bad
 node_row signature bytes = row (node_at signature) bytes

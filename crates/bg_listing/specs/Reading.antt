@@ -18,7 +18,7 @@ use Rattle.bg_base.specs.declared.signature.Control.{Control}
 use Rattle.bg_base.specs.declared.big.InnerRow.{InnerRow}
 use Rattle.bg_listing.specs.Combinators.{◌>>=◌, mapped, after, behind, ended, only_if, run, or_else, both, chain}
 use Rattle.bg_listing.specs.Spelling.{comma, closing_bracket}
-use Rattle.bg_listing.specs.Limits.{greatest, greatest_int, begins}
+use Rattle.bg_listing.specs.Limits.{greatest_number, greatest_int, begins}
 
 -- the refusal of a part of a line
 abbrev pub not_there : List ℕ → Unit {0}
@@ -37,24 +37,24 @@ number_at most bytes = mapped (digits_value 10) (only_if not_there (is_numeral_u
 
 unfoldable pub place_at : List ℕ → Result (Place × List ℕ) (Unit {0})
 place_at [] = Err tt
-place_at (b ∷ bytes) = if b == 110 then mapped Node (number_at greatest bytes) else (if b == 114 then mapped Region (number_at greatest bytes) else Err tt)
+place_at (b ∷ bytes) = if b == 110 then mapped Node (number_at greatest_number bytes) else (if b == 114 then mapped Region (number_at greatest_number bytes) else Err tt)
 
 -- the whole run of letters, digits, `_` and `'`, where its first byte passes the test
 unfoldable pub word_at : (ℕ → Bool) → List ℕ → Result (List ℕ × List ℕ) (Unit {0})
 word_at first bytes = only_if not_there (begins first) (run is_word_byte) bytes
 
 abbrev pub port_at : List ℕ → Result ((ℕ × ℕ) × List ℕ) (Unit {0})
-port_at bytes = both (number_at greatest) (behind (codes ".") (number_at greatest)) bytes
+port_at bytes = both (number_at greatest_number) (behind (codes ".") (number_at greatest_number)) bytes
 
 unfoldable pub name_at : List ℕ → Result (Name × List ℕ) (Unit {0})
 name_at [] = Err tt
 name_at (b ∷ bytes) =
     if b == 64 then mapped (λ p. Port p.0 p.1) (port_at bytes)
-    else (if b == 126 then mapped Opened (number_at greatest bytes) else mapped Plain (word_at is_lower_case (b ∷ bytes)))
+    else (if b == 126 then mapped Opened (number_at greatest_number bytes) else mapped Plain (word_at is_lower_case (b ∷ bytes)))
 
 unfoldable pub link_at : List ℕ → Result (Link × List ℕ) (Unit {0})
 link_at [] = Err tt
-link_at (b ∷ bytes) = if b == 35 then mapped Edge (number_at greatest bytes) else (if b == 61 then mapped Outer (name_at bytes) else Err tt)
+link_at (b ∷ bytes) = if b == 35 then mapped Edge (number_at greatest_number bytes) else (if b == 61 then mapped Outer (name_at bytes) else Err tt)
 
 unfoldable pub inner_at : List ℕ → Result (InnerRow × List ℕ) (Unit {0})
 inner_at bytes = mapped (λ p. record { name = p.0; link = p.1 }) (both name_at (behind (codes " ") link_at) bytes)
@@ -97,4 +97,4 @@ unfoldable pub kind_at : List ℕ → Result (Kind × List ℕ) (Unit {0})
 kind_at bytes = or_else (after (codes "normal") bytes >>= λ rest. Ok (Normal, rest)) (after (codes "atomic") bytes >>= λ rest. Ok (Atomic, rest))
 
 unfoldable pub control_at : List ℕ → Result (Control × List ℕ) (Unit {0})
-control_at bytes = mapped (λ p. record { label = p.0; arity = p.1.0; kind = p.1.1 }) (both label_at (behind (codes " ") (both (number_at greatest) (behind (codes " ") kind_at))) bytes)
+control_at bytes = mapped (λ p. record { label = p.0; arity = p.1.0; kind = p.1.1 }) (both label_at (behind (codes " ") (both (number_at greatest_number) (behind (codes " ") kind_at))) bytes)

@@ -9,7 +9,7 @@ use Rattle.bg_base.specs.declared.signature.Control.{Control}
 use Rattle.bg_base.specs.declared.big.Big.{Big}
 use Rattle.bg_base.specs.declared.check.Part.{Part}
 use Rattle.bg_base.specs.declared.check.Part.TheVariants.{Sites, Inner, Outer, Edges, Nodes}
-use Rattle.bg_base.specs.Signatures.{number_of}
+use Rattle.bg_base.specs.Signatures.{control_number}
 use Rattle.bg_base.specs.Faults.{fault_of}
 use Rattle.bg_listing.specs.declared.fault.ListingFault.{ListingFault}
 use Rattle.bg_listing.specs.declared.fault.ListingFault.TheVariants.{Bad, OutOfMemory}
@@ -37,13 +37,13 @@ abbrev pub Refusal : Type 0
 Refusal = ℕ × ℕ
 
 -- the line at the beginning of which so many bytes are left
-abbrev pub line_of : List ℕ → ℕ → ℕ
-line_of bytes left = 1 + line_feeds (take (length bytes - left) bytes)
+abbrev pub line_number : List ℕ → ℕ → ℕ
+line_number bytes left = 1 + line_feeds (take (length bytes - left) bytes)
 
 -- what the second pass makes of what the first one gives
 abbrev pub judged : {A : Type 0} → List ℕ → Result A lines.Bad → (A → Result A Refusal) → Result A Refusal
 judged bytes (Ok found) second = second found
-judged bytes (Err bad) second = Err (bad.code, line_of bytes bad.left)
+judged bytes (Err bad) second = Err (bad.code, line_number bytes bad.left)
 
 -- behind so many lines there is room left, and what is left is the end of the bytes
 pub record LeavesRoom (bytes : List ℕ) (at : Cursor) (rest : List ℕ) (lines : ℕ) : Type 0 where
@@ -61,7 +61,7 @@ pub record SignatureLeft (bytes : List ℕ) (at : Cursor) (controls : List Contr
 abbrev pub repeat_among : List Control → List Control → Option ℕ
 repeat_among before [] = None
 repeat_among before (control ∷ controls) =
-    if is_some (number_of before control.label) then Some 0 else option_map suc (repeat_among (before ++ control ∷ []) controls)
+    if is_some (control_number before control.label) then Some 0 else option_map suc (repeat_among (before ++ control ∷ []) controls)
 
 abbrev pub first_repeat : List Control → Option ℕ
 first_repeat controls = repeat_among [] controls
@@ -110,15 +110,15 @@ Makes (Ok made) verdict = verdict ≡ Ok made
 Makes (Err fault) verdict = Tells fault verdict
 
 -- the value and a cursor behind it, or the code and the line of the refusal, or want of memory
-abbrev pub Answers : {A : Type 0} → List ℕ → Result (A × Cursor) ListingFault → Result (A × List ℕ) Refusal → Type 0
-Answers bytes (Ok found) verdict = (verdict ≡ Ok (found.0, drop found.1.offset bytes)) × IsAt bytes found.1
-Answers bytes (Err fault) verdict = Tells fault verdict
+abbrev pub AnswersAs : {A : Type 0} → List ℕ → Result (A × Cursor) ListingFault → Result (A × List ℕ) Refusal → Type 0
+AnswersAs bytes (Ok found) verdict = (verdict ≡ Ok (found.0, drop found.1.offset bytes)) × IsAt bytes found.1
+AnswersAs bytes (Err fault) verdict = Tells fault verdict
 
 -- this value and this rest, or want of memory
-abbrev pub Reads : {A : Type 0} → List ℕ → Result (A × Cursor) ListingFault → A → List ℕ → Type 0
-Reads bytes (Ok found) value rest = (found.0 ≡ value) × (drop found.1.offset bytes ≡ rest)
-Reads bytes (Err (Bad code line)) value rest = ⊥
-Reads bytes (Err OutOfMemory) value rest = Unit {0}
+abbrev pub ReadsBack : {A : Type 0} → List ℕ → Result (A × Cursor) ListingFault → A → List ℕ → Type 0
+ReadsBack bytes (Ok found) value rest = (found.0 ≡ value) × (drop found.1.offset bytes ≡ rest)
+ReadsBack bytes (Err (Bad code line)) value rest = ⊥
+ReadsBack bytes (Err OutOfMemory) value rest = Unit {0}
 
 -- ---- parts of lines
 

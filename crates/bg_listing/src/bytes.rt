@@ -4,7 +4,7 @@ ghost use Rattle.std.specs.List.{prefix_len, list_all};
 ghost use Rattle.std.specs.Char.{is_ascii_digit};
 ghost use Rattle.bg_base.specs.Spelling as spelling;
 ghost use Rattle.bg_listing.specs.Combinators.{after};
-ghost use Rattle.bg_listing.specs.Answers.{IsRun, Shows};
+ghost use Rattle.bg_listing.specs.Answers.{IsFrontRun, Shows};
 
 use crate::fault::NotThere;
 use bg_base::{is_text_byte, is_word_byte};
@@ -22,7 +22,7 @@ pub(crate) fn skip<'a>(bytes: &'a [u8], word: &[u8]) -> Result<&'a [u8], NotTher
 /// The digits in front, and the bytes behind them.
 #[tactic(auto, using(crate::proofs::Combinators::run_laws))]
 pub(crate) fn digits(bytes: &[u8]) -> (&[u8], &[u8])
-    ensures { IsRun is_ascii_digit bytes.now result.0.now result.1.now }
+    ensures { IsFrontRun is_ascii_digit bytes.now result.0.now result.1.now }
 {
     bytes.split_at(digit_count(bytes))
 }
@@ -30,7 +30,7 @@ pub(crate) fn digits(bytes: &[u8]) -> (&[u8], &[u8])
 /// The letters, digits, `_` and `'` in front, and the bytes behind them.
 #[tactic(auto, using(crate::proofs::Combinators::run_laws))]
 pub(crate) fn word_bytes(bytes: &[u8]) -> (&[u8], &[u8])
-    ensures { IsRun spelling.is_word_byte bytes.now result.0.now result.1.now }
+    ensures { IsFrontRun spelling.is_word_byte bytes.now result.0.now result.1.now }
 {
     bytes.split_at(word_byte_count(bytes))
 }
@@ -38,7 +38,7 @@ pub(crate) fn word_bytes(bytes: &[u8]) -> (&[u8], &[u8])
 /// The bytes of a text in front, and the bytes behind them.
 #[tactic(auto, using(crate::proofs::Combinators::run_laws))]
 pub(crate) fn text_bytes(bytes: &[u8]) -> (&[u8], &[u8])
-    ensures { IsRun spelling.is_text_byte bytes.now result.0.now result.1.now }
+    ensures { IsFrontRun spelling.is_text_byte bytes.now result.0.now result.1.now }
 {
     bytes.split_at(text_byte_count(bytes))
 }

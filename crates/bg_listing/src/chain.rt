@@ -1,6 +1,6 @@
 //! Lists with a separator in front of each item and a closing byte at their end.
 ghost use Rattle.std.specs.Prelude.{◌≡◌, List, ℕ, Result, length};
-ghost use Rattle.bg_listing.specs.Answers.{Gives};
+ghost use Rattle.bg_listing.specs.Answers.{GivesPart};
 ghost use Rattle.bg_listing.specs.Combinators.{next, chain};
 
 use crate::fault::PartFault;
@@ -12,7 +12,7 @@ pub(crate) trait Piece: Drop + Sized {
     ghost piece_at: { List ℕ → Result (Self × List ℕ) (Unit {0}) };
 
     fn read(alloc: Global, bytes: &[u8]) -> Result<(Self, &[u8]), PartFault>
-        ensures { Gives (λ x. (x.0, x.1.now)) result (piece_at bytes.now) };
+        ensures { GivesPart (λ x. (x.0, x.1.now)) result (piece_at bytes.now) };
 }
 
 /// The pieces up to the closing byte, and the bytes behind it.
@@ -22,7 +22,7 @@ pub(crate) fn read_chain<P: Piece>(
     separator: u8,
     bytes: &[u8],
 ) -> Result<(Vec<P>, &[u8]), PartFault>
-    ensures { Gives (λ x. (x.0.items, x.1.now)) result (chain closing_byte separator P.piece_at bytes.now) }
+    ensures { GivesPart (λ x. (x.0.items, x.1.now)) result (chain closing_byte separator P.piece_at bytes.now) }
 {
     let mut pieces = Vec::new(alloc);
     let mut rest = bytes;
@@ -45,7 +45,7 @@ fn read_next<P: Piece>(
     separator: u8,
     bytes: &[u8],
 ) -> Result<(Option<P>, &[u8]), PartFault>
-    ensures { Gives (λ x. (x.0, x.1.now)) result (next closing_byte separator P.piece_at bytes.now) }
+    ensures { GivesPart (λ x. (x.0, x.1.now)) result (next closing_byte separator P.piece_at bytes.now) }
 {
     match bytes.split_first() {
         None => Err(PartFault::NotThere),

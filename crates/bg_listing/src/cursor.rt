@@ -1,6 +1,6 @@
 //! Where a reader stands.
 ghost use Rattle.std.specs.Prelude.{◌≡◌, ◌+◌, ◌-◌, ◌<◌, ◌≤◌, ◌^◌, ◌==◌, count_by, length, take};
-ghost use Rattle.bg_listing.specs.Verdict.{IsAt, line_feeds, line_of};
+ghost use Rattle.bg_listing.specs.Verdict.{IsAt, line_feeds, line_number};
 
 /// A place in the input: the offset, in bytes from its beginning, and the line, counted from 1.
 #[derive(Clone, Copy, Debug, PartialEq, Eq)]
@@ -24,7 +24,7 @@ pub(crate) fn cursor_before(bytes: &[u8], rest: &[u8]) -> Cursor
 /// The line at the beginning of which so many bytes are left.
 pub(crate) fn line_before(bytes: &[u8], left: usize) -> u32
     requires { length bytes.now < 2 ^ 32 - 1 }
-    ensures { result ≡ line_of bytes.now left }
+    ensures { result ≡ line_number bytes.now left }
 {
     let (front, _) = bytes.split_at(bytes.len().saturating_sub(left));
     line_feed_count(front) as u32 + 1

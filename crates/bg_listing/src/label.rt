@@ -1,7 +1,7 @@
 //! Labels.
 ghost use Rattle.std.specs.Prelude.{◌≡◌, pos, negsuc};
 ghost use Rattle.bg_listing.specs.Limits.{greatest_int};
-ghost use Rattle.bg_listing.specs.Answers.{Gives, Shows};
+ghost use Rattle.bg_listing.specs.Answers.{GivesPart, Shows};
 ghost use Rattle.bg_listing.specs.Combinators.{mapped};
 ghost use Rattle.bg_listing.specs.Reading as reading;
 
@@ -17,7 +17,7 @@ use std::alloc::Global;
 /// The longest label in front, and the bytes behind it.
 #[tactic(auto, unfolding(crate::specs::Reading::label_at))]
 pub(crate) fn label(alloc: Global, bytes: &[u8]) -> Result<(Label, &[u8]), PartFault>
-    ensures { Gives (λ x. (x.0, x.1.now)) result (reading.label_at bytes.now) }
+    ensures { GivesPart (λ x. (x.0, x.1.now)) result (reading.label_at bytes.now) }
 {
     let (name, rest) = upper_word(alloc, bytes)?;
     let (args, rest) = optional_args(alloc, rest)?;
@@ -26,7 +26,7 @@ pub(crate) fn label(alloc: Global, bytes: &[u8]) -> Result<(Label, &[u8]), PartF
 
 /// The arguments in front, none where no well-formed list of arguments stands there.
 fn optional_args(alloc: Global, bytes: &[u8]) -> Result<(Rows<Value>, &[u8]), PartFault>
-    ensures { Gives (λ x. (x.0, x.1.now)) result (reading.optional_args_at bytes.now) }
+    ensures { GivesPart (λ x. (x.0, x.1.now)) result (reading.optional_args_at bytes.now) }
 {
     match args(alloc, bytes) {
         Ok((values, rest)) => Ok((Rows::try_from_vec(values)?, rest)),
@@ -37,7 +37,7 @@ fn optional_args(alloc: Global, bytes: &[u8]) -> Result<(Rows<Value>, &[u8]), Pa
 
 #[tactic(auto, unfolding(crate::specs::Reading::args_at))]
 fn args(alloc: Global, bytes: &[u8]) -> Result<(Vec<Value>, &[u8]), PartFault>
-    ensures { Gives (λ x. (x.0.items, x.1.now)) result (reading.args_at bytes.now) }
+    ensures { GivesPart (λ x. (x.0.items, x.1.now)) result (reading.args_at bytes.now) }
 {
     let rest = skip(bytes, b"(")?;
     let (first, rest) = value(alloc, rest)?;
@@ -58,7 +58,7 @@ impl Piece for Value {
 
 #[tactic(auto, unfolding(crate::specs::Reading::value_at))]
 fn value(alloc: Global, bytes: &[u8]) -> Result<(Value, &[u8]), PartFault>
-    ensures { Gives (λ x. (x.0, x.1.now)) result (reading.value_at bytes.now) }
+    ensures { GivesPart (λ x. (x.0, x.1.now)) result (reading.value_at bytes.now) }
 {
     match bytes {
         [] => Err(PartFault::NotThere),
@@ -80,7 +80,7 @@ fn value(alloc: Global, bytes: &[u8]) -> Result<(Value, &[u8]), PartFault>
 /// The text behind its opening quote.
 #[tactic(auto, unfolding(crate::specs::Reading::quoted_at))]
 fn quoted(alloc: Global, bytes: &[u8]) -> Result<(Text, &[u8]), PartFault>
-    ensures { Gives (λ x. (x.0, x.1.now)) result (reading.quoted_at bytes.now) }
+    ensures { GivesPart (λ x. (x.0, x.1.now)) result (reading.quoted_at bytes.now) }
 {
     let (text, rest) = text_bytes(bytes);
     let rest = skip(rest, b"\"")?;

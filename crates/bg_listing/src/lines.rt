@@ -1,6 +1,6 @@
 //! Lines that are counted.
 ghost use Rattle.std.specs.Prelude.{◌≡◌, List, ℕ, Result, IsErrOf, length};
-ghost use Rattle.bg_listing.specs.Limits.{greatest};
+ghost use Rattle.bg_listing.specs.Limits.{greatest_number};
 ghost use Rattle.bg_listing.specs.Combinators.{behind, line, each};
 ghost use Rattle.bg_listing.specs.Reading as reading;
 ghost use Rattle.bg_listing.specs.Lines.{Bad, count_at, section_at};
@@ -93,7 +93,7 @@ pub(crate) fn count<'a>(
 }
 
 fn count_line<'a>(bytes: &'a [u8], word: &[u8]) -> Result<(u32, &'a [u8]), NotThere>
-    ensures { Shows (λ x. (x.0, x.1.now)) result (behind word.now (line (reading.number_at greatest)) bytes.now) }
+    ensures { Shows (λ x. (x.0, x.1.now)) result (behind word.now (line (reading.number_at greatest_number)) bytes.now) }
 {
     let rest = skip(bytes, word)?;
     number_line(rest)
@@ -101,7 +101,7 @@ fn count_line<'a>(bytes: &'a [u8], word: &[u8]) -> Result<(u32, &'a [u8]), NotTh
 
 /// A number and the line feed.
 pub(crate) fn number_line(bytes: &[u8]) -> Result<(u32, &[u8]), NotThere>
-    ensures { Shows (λ x. (x.0, x.1.now)) result (line (reading.number_at greatest) bytes.now) }
+    ensures { Shows (λ x. (x.0, x.1.now)) result (line (reading.number_at greatest_number) bytes.now) }
 {
     let (number, rest) = number(bytes)?;
     let rest = skip(rest, b"\n")?;

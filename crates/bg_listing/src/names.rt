@@ -2,7 +2,7 @@
 ghost use Rattle.std.specs.Prelude.{◌≡◌};
 ghost use Rattle.bg_base.specs.Spelling.{is_lower_case, is_upper_case};
 ghost use Rattle.bg_listing.specs.Limits.{begins};
-ghost use Rattle.bg_listing.specs.Answers.{Gives, Shows};
+ghost use Rattle.bg_listing.specs.Answers.{GivesPart, Shows};
 ghost use Rattle.bg_listing.specs.Reading as reading;
 
 use crate::bytes::{skip, word_bytes};
@@ -30,7 +30,7 @@ pub(crate) fn place(bytes: &[u8]) -> Result<(Place, &[u8]), NotThere>
 
 #[tactic(auto, unfolding(crate::specs::Reading::name_at))]
 pub(crate) fn name(alloc: Global, bytes: &[u8]) -> Result<(Name, &[u8]), PartFault>
-    ensures { Gives (λ x. (x.0, x.1.now)) result (reading.name_at bytes.now) }
+    ensures { GivesPart (λ x. (x.0, x.1.now)) result (reading.name_at bytes.now) }
 {
     match bytes {
         [] => Err(PartFault::NotThere),
@@ -53,7 +53,7 @@ pub(crate) fn name(alloc: Global, bytes: &[u8]) -> Result<(Name, &[u8]), PartFau
 
 #[tactic(auto, unfolding(crate::specs::Reading::link_at))]
 pub(crate) fn link(alloc: Global, bytes: &[u8]) -> Result<(Link, &[u8]), PartFault>
-    ensures { Gives (λ x. (x.0, x.1.now)) result (reading.link_at bytes.now) }
+    ensures { GivesPart (λ x. (x.0, x.1.now)) result (reading.link_at bytes.now) }
 {
     match bytes {
         [b'#', rest @ ..] => {
@@ -70,7 +70,7 @@ pub(crate) fn link(alloc: Global, bytes: &[u8]) -> Result<(Link, &[u8]), PartFau
 
 #[tactic(auto, unfolding(crate::specs::Reading::inner_at))]
 pub(crate) fn inner(alloc: Global, bytes: &[u8]) -> Result<(InnerRow, &[u8]), PartFault>
-    ensures { Gives (λ x. (x.0, x.1.now)) result (reading.inner_at bytes.now) }
+    ensures { GivesPart (λ x. (x.0, x.1.now)) result (reading.inner_at bytes.now) }
 {
     let (name, rest) = name(alloc, bytes)?;
     let rest = skip(rest, b" ")?;
@@ -81,7 +81,7 @@ pub(crate) fn inner(alloc: Global, bytes: &[u8]) -> Result<(InnerRow, &[u8]), Pa
 /// A word that begins with a lower-case letter.
 #[tactic(auto, using(crate::proofs::Numbers::lower_is_ident), unfolding(crate::specs::Reading::word_at))]
 fn lower_word(alloc: Global, bytes: &[u8]) -> Result<(Ident, &[u8]), PartFault>
-    ensures { Gives (λ x. (x.0, x.1.now)) result (reading.word_at is_lower_case bytes.now) }
+    ensures { GivesPart (λ x. (x.0, x.1.now)) result (reading.word_at is_lower_case bytes.now) }
 {
     let (word, rest) = word_bytes(bytes);
     if begins_lower(word) {
@@ -94,7 +94,7 @@ fn lower_word(alloc: Global, bytes: &[u8]) -> Result<(Ident, &[u8]), PartFault>
 /// A word that begins with an upper-case letter.
 #[tactic(auto, using(crate::proofs::Numbers::upper_is_ident), unfolding(crate::specs::Reading::word_at))]
 pub(crate) fn upper_word(alloc: Global, bytes: &[u8]) -> Result<(Ident, &[u8]), PartFault>
-    ensures { Gives (λ x. (x.0, x.1.now)) result (reading.word_at is_upper_case bytes.now) }
+    ensures { GivesPart (λ x. (x.0, x.1.now)) result (reading.word_at is_upper_case bytes.now) }
 {
     let (word, rest) = word_bytes(bytes);
     if begins_upper(word) {

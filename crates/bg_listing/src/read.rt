@@ -8,7 +8,7 @@ ghost use Rattle.bg_base.specs.Bigraph.{IsValidUnder};
 ghost use Rattle.bg_listing.specs.Spelling.{signature_text, big_text};
 ghost use Rattle.bg_listing.specs.Limits.{AreCounted, IsControl, IsReadableSignature, IsReadableBig};
 ghost use Rattle.bg_listing.specs.Verdict as verdict;
-ghost use Rattle.bg_listing.specs.Verdict.{IsAt, Stands, Reads, Answers, Makes, signature_verdict, big_verdict, rows_of};
+ghost use Rattle.bg_listing.specs.Verdict.{IsAt, Stands, ReadsBack, AnswersAs, Makes, signature_verdict, big_verdict, rows_of};
 
 use crate::cursor::{Cursor, cursor_before, line_before};
 use crate::fault::{DUPLICATE_LABEL, LineFault, ListingFault};
@@ -30,8 +30,8 @@ pub fn read_signature(
     requires small { length bytes.now < 2 ^ 32 - 1 }
     requires placed { IsAt bytes.now at }
     ensures found { IfOk result (λ x. IsReadableSignature x.0 × Stands bytes.now at (signature_text x.0) x.1) }
-    ensures only { (controls : List ControlValue) (rest : List ℕ) → IsReadableSignature controls → drop at.offset bytes.now ≡ signature_text controls ++ rest → Reads bytes.now result controls rest }
-    ensures exact { Answers bytes.now result (signature_verdict bytes.now at) }
+    ensures only { (controls : List ControlValue) (rest : List ℕ) → IsReadableSignature controls → drop at.offset bytes.now ≡ signature_text controls ++ rest → ReadsBack bytes.now result controls rest }
+    ensures exact { AnswersAs bytes.now result (signature_verdict bytes.now at) }
 {
     judged_signature(alloc, bytes, at)
 }
@@ -50,8 +50,8 @@ pub fn read_big(
     requires small { length bytes.now < 2 ^ 32 - 1 }
     requires placed { IsAt bytes.now at }
     ensures found { IfOk result (λ x. IsReadableBig signature.now x.0 × Stands bytes.now at (big_text signature.now x.0) x.1) }
-    ensures only { (big : BigValue) (rest : List ℕ) → IsReadableBig signature.now big → drop at.offset bytes.now ≡ big_text signature.now big ++ rest → Reads bytes.now result big rest }
-    ensures exact { Answers bytes.now result (big_verdict signature.now bytes.now at) }
+    ensures only { (big : BigValue) (rest : List ℕ) → IsReadableBig signature.now big → drop at.offset bytes.now ≡ big_text signature.now big ++ rest → ReadsBack bytes.now result big rest }
+    ensures exact { AnswersAs bytes.now result (big_verdict signature.now bytes.now at) }
 {
     // What a signature keeps, labels that differ among it, is known from here on.
     prove!(signature.len() <= MOST_CONTROLS);
@@ -77,7 +77,7 @@ fn judged_signature(
 ) -> Result<(Signature, Cursor), ListingFault>
     requires small { length bytes.now < 2 ^ 32 - 1 }
     requires placed { IsAt bytes.now at }
-    ensures exact { Answers bytes.now result (signature_verdict bytes.now at) }
+    ensures exact { AnswersAs bytes.now result (signature_verdict bytes.now at) }
     ensures kept { IfOk result (λ x. IsSignature x.0) }
 {
     match control_rows_at(alloc, bytes, at) {
@@ -134,7 +134,7 @@ fn judged_big(
 ) -> Result<(Big, Cursor), ListingFault>
     requires small { length bytes.now < 2 ^ 32 - 1 }
     requires placed { IsAt bytes.now at }
-    ensures exact { Answers bytes.now result (big_verdict signature.now bytes.now at) }
+    ensures exact { AnswersAs bytes.now result (big_verdict signature.now bytes.now at) }
     ensures valid { IfOk result (λ x. IsValidUnder signature.now x.0) }
 {
     match big_rows_at(alloc, bytes, at, signature) {

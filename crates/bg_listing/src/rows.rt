@@ -4,7 +4,7 @@ ghost use Rattle.bg_base.specs.declared.names.Link.{Link};
 ghost use Rattle.bg_listing.specs.Combinators.{line};
 ghost use Rattle.bg_listing.specs.Reading as reading;
 ghost use Rattle.bg_listing.specs.Lines as lines;
-ghost use Rattle.bg_listing.specs.Answers.{Gives, GivesLines, Shows};
+ghost use Rattle.bg_listing.specs.Answers.{GivesPart, GivesLines, Shows};
 
 use crate::bytes::skip;
 use crate::chain::{Piece, read_chain};
@@ -97,7 +97,7 @@ impl Row for Name {
 }
 
 fn name_line(alloc: Global, bytes: &[u8]) -> Result<(Name, &[u8]), PartFault>
-    ensures { Gives (λ x. (x.0, x.1.now)) result (line reading.name_at bytes.now) }
+    ensures { GivesPart (λ x. (x.0, x.1.now)) result (line reading.name_at bytes.now) }
 {
     let (name, rest) = name(alloc, bytes)?;
     let rest = skip(rest, b"\n")?;
@@ -129,7 +129,7 @@ impl Row for InnerRow {
 }
 
 fn inner_line(alloc: Global, bytes: &[u8]) -> Result<(InnerRow, &[u8]), PartFault>
-    ensures { Gives (λ x. (x.0, x.1.now)) result (line reading.inner_at bytes.now) }
+    ensures { GivesPart (λ x. (x.0, x.1.now)) result (line reading.inner_at bytes.now) }
 {
     let (row, rest) = inner(alloc, bytes)?;
     let rest = skip(rest, b"\n")?;
@@ -171,7 +171,7 @@ impl Row for Control {
 }
 
 fn control_line(alloc: Global, bytes: &[u8]) -> Result<(Control, &[u8]), PartFault>
-    ensures { Gives (λ x. (x.0, x.1.now)) result (line reading.control_at bytes.now) }
+    ensures { GivesPart (λ x. (x.0, x.1.now)) result (line reading.control_at bytes.now) }
 {
     let (control, rest) = control(alloc, bytes)?;
     let rest = skip(rest, b"\n")?;
@@ -180,7 +180,7 @@ fn control_line(alloc: Global, bytes: &[u8]) -> Result<(Control, &[u8]), PartFau
 
 #[tactic(auto, unfolding(crate::specs::Reading::control_at))]
 fn control(alloc: Global, bytes: &[u8]) -> Result<(Control, &[u8]), PartFault>
-    ensures { Gives (λ x. (x.0, x.1.now)) result (reading.control_at bytes.now) }
+    ensures { GivesPart (λ x. (x.0, x.1.now)) result (reading.control_at bytes.now) }
 {
     let (label, rest) = label(alloc, bytes)?;
     let rest = skip(rest, b" ")?;
@@ -234,7 +234,7 @@ fn node<'a>(
     signature: &Signature,
     bytes: &'a [u8],
 ) -> Result<(NodeRow, &'a [u8]), PartFault>
-    ensures { Gives (λ x. (x.0, x.1.now)) result (lines.node_at signature.now bytes.now) }
+    ensures { GivesPart (λ x. (x.0, x.1.now)) result (lines.node_at signature.now bytes.now) }
 {
     let (id, rest) = number(bytes)?;
     let rest = skip(rest, b" ")?;
@@ -280,7 +280,7 @@ const MOST_LINKS: usize = 4_294_967_294;
 /// The links at the end of a node's line, each behind a space, and the line feed.
 #[tactic(auto, unfolding(crate::specs::Lines::links_at))]
 fn links(alloc: Global, bytes: &[u8]) -> Result<(PortLinks, &[u8]), PartFault>
-    ensures { Gives (λ x. (x.0, x.1.now)) result (lines.links_at bytes.now) }
+    ensures { GivesPart (λ x. (x.0, x.1.now)) result (lines.links_at bytes.now) }
 {
     let (links, rest) = read_chain::<Link>(alloc, b'\n', b' ', bytes)?;
     match port_links(links) {

@@ -12,7 +12,7 @@ use Rattle.bg_lists.proofs.Sorting.{IsDistinct-map_on}
 use Rattle.bg_base.specs.declared.big.NodeRow.{NodeRow}
 use Rattle.bg_base.specs.declared.big.Big.{Big}
 use Rattle.bg_base.specs.Bigraph.{IsValid}
-use Rattle.bg_base.specs.Translation.{along, node_numbers}
+use Rattle.bg_base.specs.Translation.{number_renamed, node_numbers}
 use Rattle.bg_base.proofs.LookUps.{tied_numbers}
 use Rattle.bg_algebra.proofs.Renamed.{map-along}
 use Rattle.bg_rules.specs.Decomposition.{AreNew}
@@ -27,12 +27,12 @@ chosen_map : (g : ℕ → ℕ) (test : Bool) (y first second : ℕ) → (test �
 chosen_map g true y first second agree = refl
 chosen_map g false y first second agree = agree refl
 
-along-map : (g : ℕ → ℕ) (xs ys : List ℕ) (x : ℕ) → length xs ≡ length ys → Mem x xs → along xs (map g ys) x ≡ g (along xs ys x)
-unfolding along
+along-map : (g : ℕ → ℕ) (xs ys : List ℕ) (x : ℕ) → length xs ≡ length ys → Mem x xs → number_renamed xs (map g ys) x ≡ g (number_renamed xs ys x)
+unfolding number_renamed
 along-map g [] ys x long m = elim m [ ]
 along-map g (z ∷ zs) [] x long m = absurd (omega arith)
 along-map g (z ∷ zs) (y ∷ ys) x long m =
-    chosen_map g (z == x) y (along zs (map g ys) x) (along zs ys x)
+    chosen_map g (z == x) y (number_renamed zs (map g ys) x) (number_renamed zs ys x)
     (λ other. elim (Mem-cons_cases m) [
       | inl e ↦ absurd (false≢true (sym other ∙ eq-eqb z x e))
       | inr n ↦ along-map g zs ys x (omega arith) n
@@ -40,7 +40,7 @@ along-map g (z ∷ zs) (y ∷ ys) x long m =
 
 -- there and back
 along-back : (xs ys : List ℕ) → length xs ≡ length ys → IsDistinct (eq_by_cmp nat_cmp) xs → IsDistinct (eq_by_cmp nat_cmp) ys
-    → (x : ℕ) → Mem x xs → along ys xs (along xs ys x) ≡ x
+    → (x : ℕ) → Mem x xs → number_renamed ys xs (number_renamed xs ys x) ≡ x
 along-back xs ys long d e x m =
     let a = At-from_Mem m in At-one (along_at_place ys xs (sym long) e (along_at_place xs ys long d a.1)) a.1
 
@@ -56,7 +56,7 @@ IsDistinct-map_apart g xs one d =
 
 abbrev pub arranged : Big → List ℕ → List ℕ → List ℕ
 arranged pattern numbers nodes =
-    map (λ number. image_of pattern nodes (along numbers (node_numbers pattern.nodes) number)) (node_numbers (twin_of pattern numbers).nodes)
+    map (λ number. image_of pattern nodes (number_renamed numbers (node_numbers pattern.nodes) number)) (node_numbers (twin_of pattern numbers).nodes)
 
 module _ (pattern : Big) (numbers : List ℕ) (valid : IsValid pattern) (new : AreNew numbers (length pattern.nodes)) where
   pub as_many_new : length (node_numbers pattern.nodes) ≡ length numbers
@@ -69,14 +69,14 @@ module _ (pattern : Big) (numbers : List ℕ) (valid : IsValid pattern) (new : A
   twin_differ = node_numbers_differ (twin_of pattern numbers).nodes (twin_valid pattern numbers valid new).nodes_ascend
 
   twin_number : {node : ℕ} → Mem node (node_numbers pattern.nodes)
-      → Mem (along (node_numbers pattern.nodes) numbers node) (node_numbers (twin_of pattern numbers).nodes)
+      → Mem (number_renamed (node_numbers pattern.nodes) numbers node) (node_numbers (twin_of pattern numbers).nodes)
   twin_number {node} m =
       let w = number_row pattern.nodes m in
-      Mem-same (ap (along (node_numbers pattern.nodes) numbers) w.2) (number_mem (to_renamed pattern numbers pattern.edges w.1))
+      Mem-same (ap (number_renamed (node_numbers pattern.nodes) numbers) w.2) (number_mem (to_renamed pattern numbers pattern.edges w.1))
 
   -- each number of the twin is the new number of a node
   own_number : {number : ℕ} → Mem number (node_numbers (twin_of pattern numbers).nodes)
-      → (node : ℕ) × Mem node (node_numbers pattern.nodes) × (along (node_numbers pattern.nodes) numbers node ≡ number)
+      → (node : ℕ) × Mem node (node_numbers pattern.nodes) × (number_renamed (node_numbers pattern.nodes) numbers node ≡ number)
   own_number m =
       let w = number_row (twin_of pattern numbers).nodes m in
       let v = from_renamed pattern numbers pattern.edges w.1 in
@@ -91,13 +91,13 @@ module _ (pattern : Big) (numbers : List ℕ) (valid : IsValid pattern) (new : A
       let w = own_number m in Mem-same w.2 (along_mem (node_numbers pattern.nodes) numbers as_many_new own_differ w.1)
 
   pub old_number : {number : ℕ} → Mem number (node_numbers (twin_of pattern numbers).nodes)
-      → (node : ℕ) × Mem node (node_numbers pattern.nodes) × (along numbers (node_numbers pattern.nodes) number ≡ node)
-      × (along (node_numbers pattern.nodes) numbers node ≡ number)
+      → (node : ℕ) × Mem node (node_numbers pattern.nodes) × (number_renamed numbers (node_numbers pattern.nodes) number ≡ node)
+      × (number_renamed (node_numbers pattern.nodes) numbers node ≡ number)
   old_number m =
       let w = own_number m in (
         w.0,
         w.1,
-        ap (along numbers (node_numbers pattern.nodes)) (sym w.2)
+        ap (number_renamed numbers (node_numbers pattern.nodes)) (sym w.2)
             ∙ along-back (node_numbers pattern.nodes) numbers as_many_new own_differ new.differ w.0 w.1,
         w.2,
       )
@@ -109,8 +109,8 @@ module _ (pattern : Big) (numbers : List ℕ) (valid : IsValid pattern) (new : A
       record {
         agree = λ node m.
             let own = node_numbers (twin_of pattern numbers).nodes in
-            let number = along (node_numbers pattern.nodes) numbers node in
-            let old = λ (number : ℕ). image_of pattern nodes (along numbers (node_numbers pattern.nodes) number) in
+            let number = number_renamed (node_numbers pattern.nodes) numbers node in
+            let old = λ (number : ℕ). image_of pattern nodes (number_renamed numbers (node_numbers pattern.nodes) number) in
             along-map old own own number refl (twin_number m)
             ∙ ap old (along_itself own number)
             ∙ ap (image_of pattern nodes) (along-back (node_numbers pattern.nodes) numbers as_many_new own_differ new.differ node m);
@@ -136,7 +136,7 @@ module _ (pattern : Big) (numbers : List ℕ) (valid : IsValid pattern) (new : A
 
   pub arranged_new : (nodes : List ℕ) → AreNew nodes (length pattern.nodes) → AreNew (arranged pattern numbers nodes) (length pattern.nodes)
   arranged_new nodes nodes_new =
-      let old = λ (number : ℕ). image_of pattern nodes (along numbers (node_numbers pattern.nodes) number) in
+      let old = λ (number : ℕ). image_of pattern nodes (number_renamed numbers (node_numbers pattern.nodes) number) in
       record {
         as_many = sym (length-map (node_numbers (twin_of pattern numbers).nodes) old
             ∙ length-map (twin_of pattern numbers).nodes (λ (row : NodeRow). row.id) ∙ renamed_count pattern numbers pattern.edges);
@@ -145,7 +145,7 @@ module _ (pattern : Big) (numbers : List ℕ) (valid : IsValid pattern) (new : A
             let w = old_number n in
             let one : v.0 ≡ w.0 = image_injective pattern valid nodes nodes_new v.1 w.1
             (ap (image_of pattern nodes) (sym v.2) ∙ e ∙ ap (image_of pattern nodes) w.2) in
-            sym v.3 ∙ ap (along (node_numbers pattern.nodes) numbers) one ∙ w.3)
+            sym v.3 ∙ ap (number_renamed (node_numbers pattern.nodes) numbers) one ∙ w.3)
             twin_differ;
       }
 
@@ -157,6 +157,6 @@ module _ (pattern : Big) (numbers : List ℕ) (valid : IsValid pattern) (new : A
       let own = node_numbers pattern.nodes in
       let image = image_of (twin_of pattern numbers) (arranged pattern numbers nodes) in
       ap (map image) (sym (map-along own numbers as_many_new own_differ))
-      ∙ map-map (along own numbers) image own
-      ∙ map_agree (λ node. image (along own numbers node)) (image_of pattern nodes) own (arranged_agree nodes).agree
+      ∙ map-map (number_renamed own numbers) image own
+      ∙ map_agree (λ node. image (number_renamed own numbers node)) (image_of pattern nodes) own (arranged_agree nodes).agree
       ∙ images_along pattern valid nodes nodes_new

@@ -17,7 +17,7 @@ use Rattle.bg_base.specs.declared.big.NodeRow.{NodeRow}
 use Rattle.bg_base.specs.declared.big.InnerRow.{InnerRow}
 use Rattle.bg_base.specs.declared.big.Big.{Big}
 use Rattle.bg_base.specs.Bigraph.{IsValid, node_cmp, has_place}
-use Rattle.bg_base.specs.Translation.{along, place_renamed, link_renamed, row_renamed, inner_renamed, rename}
+use Rattle.bg_base.specs.Translation.{number_renamed, place_renamed, link_renamed, row_renamed, inner_renamed, rename}
 use Rattle.bg_base.specs.Composition.{compose, FacesAgree, SupportsApart}
 use Rattle.bg_base.specs.Elementary.{identity}
 use Rattle.bg_base.specs.Products.{tensor}
@@ -28,10 +28,10 @@ use Rattle.bg_rules.specs.Decomposition.{AreNew, Occurs, FitTogether}
 use Rattle.bg_rules.proofs.Patterns.{parent_there, site_there, place_node}
 use Rattle.bg_locality.specs.Twins.{twin_of, AreRearranged}
 
-pub along_itself : (xs : List ℕ) (x : ℕ) → along xs xs x ≡ x
-unfolding along
+pub along_itself : (xs : List ℕ) (x : ℕ) → number_renamed xs xs x ≡ x
+unfolding number_renamed
 along_itself [] x = refl
-along_itself (y ∷ ys) x = cond_both (y == x) y (along ys ys x) (λ z. z ≡ x) (λ e. eqb-true y x e) (λ _. along_itself ys x)
+along_itself (y ∷ ys) x = cond_both (y == x) y (number_renamed ys ys x) (λ z. z ≡ x) (λ e. eqb-true y x e) (λ _. along_itself ys x)
 
 -- ---- what is in a bigraph numbered anew
 
@@ -92,7 +92,7 @@ module _ (pattern : Big) (numbers : List ℕ) (valid : IsValid pattern) (new : A
 
     link_agrees : (link : Link) → link_renamed (twin_of pattern numbers) edges (link_renamed pattern pattern.edges link) ≡ link_renamed pattern edges link
     link_agrees (Edge edge) =
-        ap Edge (ap (λ e. along (twin_of pattern numbers).edges edges e) (along_itself pattern.edges edge) ∙ ap (λ es. along es edges edge) twin_edges)
+        ap Edge (ap (λ e. number_renamed (twin_of pattern numbers).edges edges e) (along_itself pattern.edges edge) ∙ ap (λ es. number_renamed es edges edge) twin_edges)
     link_agrees (Outer name) = refl
 
     row_agrees : (row : NodeRow) → Mem row pattern.nodes

@@ -17,7 +17,7 @@ use Rattle.bg_terms.specs.Expansion.{Meaning, with_values, node_term, meant, exp
 use Rattle.bg_terms.specs.Expressions.{Expression, node, reference, names, identity_of, merger_of, barren, empty, brackets, deeper, closure, nesting, binary}
 use Rattle.bg_terms.specs.Terms as terms
 use Rattle.bg_terms.specs.Terms.{Term}
-use Rattle.bg_terms.specs.Values.{Reached, Come, value, tallied, within, closed, nested, combined}
+use Rattle.bg_terms.specs.Values.{Reached, Come, value, tallied, within, name_closed, nested, combined}
 use Rattle.bg_values.specs.declared.refusal.Refusal.{Refusal}
 use Rattle.bg_values.specs.declared.refusal.LimitWord.TheVariants.{Depth}
 use Rattle.bg_values.specs.declared.refusal.Cause.TheVariants.{TooLarge, Unexpected}
@@ -88,10 +88,10 @@ deeper_go at s false go t goes = refl
 closed_go : (shapes : List Shape) (ms : List Running) (env : List Value) (at : ℕ) (word : List ℕ) (edge : ℕ) (s : State) (c : Reached) (r : Come)
     → ((v : Big × Reached) → r ≡ Ok v → lies_behind edge v.0 ≡ true)
     → pushed (record s { edges_open = edge ∷ s.edges_open; reached = c }) r >>= run shapes ms env (operations.Close at word ∷ [])
-    ≡ pushed s (r >>= λ v. within at (closed edge (Plain word) v.0) v.1)
+    ≡ pushed s (r >>= λ v. within at (name_closed edge (Plain word) v.0) v.1)
 closed_go shapes ms env at word edge s c (Ok v) behind =
     run_none shapes ms env _
-    ∙ ap (λ b. cond b (pushed s (within at (closed edge (Plain word) v.0) v.1)) (refused Unexpected at)) (behind v refl)
+    ∙ ap (λ b. cond b (pushed s (within at (name_closed edge (Plain word) v.0) v.1)) (refused Unexpected at)) (behind v refl)
 closed_go shapes ms env at word edge s c (Err e) behind = refl
 
 -- both operands stand on the stack

@@ -16,7 +16,7 @@ use Rattle.bg_base.proofs.LookUps.{node_cmp_total}
 use Rattle.bg_base.proofs.Counted.{length-counted, counted_ascends}
 use Rattle.bg_base.proofs.NameLaws.{same_link_from_test}
 use Rattle.bg_base.specs.Elementary.{counted}
-use Rattle.bg_base.specs.Translation.{along, node_numbers, rename, row_renamed, link_renamed, inner_renamed}
+use Rattle.bg_base.specs.Translation.{number_renamed, node_numbers, rename, row_renamed, link_renamed, inner_renamed}
 use Rattle.bg_lists.specs.Lists.{Mem}
 use Rattle.bg_lists.specs.Orders.{before, Ascending}
 use Rattle.bg_lists.proofs.Ascents.{Ascending-from_sorted, Ascending-map, Ascending-unmap}
@@ -75,14 +75,14 @@ either_holds false b e = inr e
 
 -- what is tied to an edge is tied to its new number
 renamed_point : (big : Big) (nodes edges : List ℕ) (edge : ℕ) → has_point big (Edge edge) ≡ true
-    → has_point (rename big nodes edges) (Edge (along big.edges edges edge)) ≡ true
+    → has_point (rename big nodes edges) (Edge (number_renamed big.edges edges edge)) ≡ true
 unfolding rename
 renamed_point big nodes edges edge used =
     elim (either_holds _ _ used) [
       | inl ports ↦ (let w = member_from_list_any (λ (r : NodeRow). list_any (λ other. same_link other (Edge edge)) r.links) big.nodes ports in
           let v = member_from_list_any (λ other. same_link other (Edge edge)) w.0.links w.2 in
           let is = same_link_from_test v.0 (Edge edge) v.2 in
-          port_is_point (rename big nodes edges) (row_renamed big nodes edges w.0) (Edge (along big.edges edges edge))
+          port_is_point (rename big nodes edges) (row_renamed big nodes edges w.0) (Edge (number_renamed big.edges edges edge))
           (Mem-sort (before node_cmp) (map (row_renamed big nodes edges) big.nodes) (Mem-map (row_renamed big nodes edges) w.1))
           (subst (λ l. Mem l (map (link_renamed big edges) w.0.links)) (ap (link_renamed big edges) is) (Mem-map (link_renamed big edges) v.1)))
       | inr inner ↦ (let w = member_from_list_any (λ (r : InnerRow). same_link r.link (Edge edge)) big.inner inner in
@@ -97,7 +97,7 @@ whole_used big valid =
     let numbers = counted 0 (length (lean big).edges) in
     let distinct = IsDistinct-from_Ascending (lean big).edges (Ascending-from_sorted (lean big).edges (lean_valid big valid).edges_ascend) in
     let became = map-along (lean big).edges numbers (as_many_edges (length (lean big).edges)) distinct in
-    let w = Mem-unmap (along (lean big).edges numbers) (lean big).edges (subst (Mem edge) (whole_edges big ∙ sym became) m) in
+    let w = Mem-unmap (number_renamed (lean big).edges numbers) (lean big).edges (subst (Mem edge) (whole_edges big ∙ sym became) m) in
     subst (λ e. has_point (whole big) (Edge e) ≡ true) w.2
     (renamed_point (lean big) (node_numbers (lean big).nodes) numbers w.0
     (All-member (λ e. IsTrue (has_point (lean big) (Edge e))) (lean big).edges (lean_used big) w.1)))

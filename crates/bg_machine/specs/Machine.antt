@@ -10,10 +10,10 @@ use Rattle.bg_code.specs.declared.operation.Operation.{Operation}
 use Rattle.bg_code.specs.declared.operation.Operation.TheVariants.{Node, Reference, Names, Identity, Merger, Barren, Empty, Count, Enter, Leave, Open, Close, Nest, Join}
 use Rattle.bg_machine.specs.States.{State, pushed, gone_on}
 use Rattle.bg_terms.specs.declared.shape.Shape.{Shape}
-use Rattle.bg_terms.specs.Expansion.{control_of}
+use Rattle.bg_terms.specs.Expansion.{control_of_shape}
 use Rattle.bg_terms.specs.Terms as terms
 use Rattle.bg_terms.specs.Terms.{Term}
-use Rattle.bg_terms.specs.Values.{Reached, Come, value, tallied, entered, single, plain_names, within, closed, nested, combined}
+use Rattle.bg_terms.specs.Values.{Reached, Come, value, tallied, entered, single, plain_names, within, name_closed, nested, combined}
 use Rattle.bg_values.specs.declared.refusal.Refusal.{Refusal}
 use Rattle.bg_values.specs.declared.refusal.LimitWord.TheVariants.{Depth}
 use Rattle.bg_values.specs.declared.refusal.Cause.TheVariants.{Unexpected, UnknownName, TooLarge}
@@ -42,7 +42,7 @@ joined_onto at operation below f g =
 -- a bigraph with its name closed by that edge, on top of what is below it
 abbrev pub closed_onto : ℕ → List ℕ → State → ℕ → Big → Result State Refusal
 closed_onto at word below edge big =
-    if lies_behind edge big then pushed below (within at (closed edge (Plain word) big) below.reached) else refused Unexpected at
+    if lies_behind edge big then pushed below (within at (name_closed edge (Plain word) big) below.reached) else refused Unexpected at
 
 -- a bigraph of the two on top, in their place; the numbers of the one on top lie behind those of the other
 abbrev pub joined : ℕ → (Big → Big → Result Big Refusal) → State → Result State Refusal
@@ -64,7 +64,7 @@ node_made at control words c =
 
 -- the node of a shape with these arguments
 abbrev pub node_come : ℕ → Option Shape → List (List ℕ) → List Value → Reached → Come
-node_come at (Some shape) words args c = node_made at (control_of shape args) words c
+node_come at (Some shape) words args c = node_made at (control_of_shape shape args) words c
 node_come at None words args c = refused UnknownName at
 
 -- a node whose arguments come to these values, or are refused

@@ -1,8 +1,8 @@
 //! Controls that enter the signature.
 ghost use Rattle.std.specs.Prelude.{◌≡◌, ◌≤◌, IfOk, OnErr, None};
 ghost use Rattle.bg_base.specs.Limits.{most_ports};
-ghost use Rattle.bg_base.specs.Signatures.{number_of};
-ghost use Rattle.bg_terms.specs.Expansion.{control_of};
+ghost use Rattle.bg_base.specs.Signatures.{control_number};
+ghost use Rattle.bg_terms.specs.Expansion.{control_of_shape};
 ghost use Rattle.bg_terms.specs.Values.{entered, entered_at};
 ghost use Rattle.bg_values.specs.Outcome.{GivesAnd};
 
@@ -25,7 +25,7 @@ pub fn enter(
     signature: &mut Signature,
 ) -> Result<u32, Stop>
     requires small { shape.now.arity ≤ most_ports }
-    ensures entered { GivesAnd result signature.new (entered at (control_of shape.now args.items) signature.old) }
+    ensures entered { GivesAnd result signature.new (entered at (control_of_shape shape.now args.items) signature.old) }
     ensures unchanged { OnErr result (signature.new ≡ signature.old) }
 {
     let label = label_of(alloc, shape, args)?;
@@ -53,7 +53,7 @@ fn add(
     signature: &mut Signature,
 ) -> Result<u32, Stop>
     requires small { shape.now.arity ≤ most_ports }
-    requires new { number_of signature.old label ≡ None }
+    requires new { control_number signature.old label ≡ None }
     ensures entered { GivesAnd result signature.new
         (entered_at at (record { label = label; arity = shape.now.arity; kind = shape.now.kind }) signature.old None) }
     ensures unchanged { OnErr result (signature.new ≡ signature.old) }

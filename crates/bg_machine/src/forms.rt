@@ -129,7 +129,7 @@ fn lone_atom(alloc: Global, control: u32, node: u32, names: &Rows<Name>) -> Mem<
 /// to F.
 pub(crate) fn closed(alloc: Global, big: Builder, word: &Ident, edge: u32) -> Mem<Builder>
     requires new { lies_behind edge big ≡ true }
-    ensures { IfOk result (λ whole. whole ≡ definition.closed edge (names.Plain word.now) big) }
+    ensures { IfOk result (λ whole. whole ≡ definition.name_closed edge (names.Plain word.now) big) }
 {
     let name = Name::Plain(word.copy(alloc)?);
     if !big.has_outer(&name) {

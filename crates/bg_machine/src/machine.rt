@@ -53,7 +53,7 @@ impl Machine {
     ghost use Rattle.bg_machine.specs.Machine as definition;
     ghost use Rattle.bg_machine.specs.Calls as calls;
     ghost use Rattle.bg_machine.specs.States.{pushed, gone_on, IsHeld};
-    ghost use Rattle.bg_terms.specs.Expansion.{control_of, with_values, node_term};
+    ghost use Rattle.bg_terms.specs.Expansion.{control_of_shape, with_values, node_term};
     ghost use Rattle.bg_terms.specs.Terms as terms;
     ghost use Rattle.bg_terms.specs.Values as values;
     ghost use Rattle.bg_values.specs.Operands.{outcomes};
@@ -265,7 +265,7 @@ impl Machine {
     ) -> Result<(), Stop>
         requires room { self.old.reached.nodes < self.old.reached.terms }
         requires small { shape.now.arity ≤ most_ports }
-        ensures { Goes result self.new (pushed self.old (definition.node_made at (control_of shape.now args.items) ports.now self.old.reached)) }
+        ensures { Goes result self.new (pushed self.old (definition.node_made at (control_of_shape shape.now args.items) ports.now self.old.reached)) }
     {
         prove!(self.nodes < self.terms);
         let node = self.nodes;

@@ -11,7 +11,7 @@ use Rattle.bg_base.specs.declared.big.NodeRow.{NodeRow}
 use Rattle.bg_base.specs.declared.big.Big.{Big}
 use Rattle.bg_base.specs.Bigraph.{IsValid, has_place}
 use Rattle.bg_place.specs.declared.graph.ParentRow.{ParentRow}
-use Rattle.bg_place.specs.Places.{parent_row, places_of, same_place, number_of, numbers_in, numbered, parent_in, parent_of, children_of, child_sites_of, climb, ancestors_in, depth_of}
+use Rattle.bg_place.specs.Places.{parent_row, places_of, same_place, node_number, numbers_in, numbered, parent_in, parent_of, children_of, child_sites_of, climb, ancestors_in, depth_of}
 use Rattle.bg_place.proofs.AncestryLaws.{whole_climb}
 use Rattle.bg_place.proofs.RowLaws.{same_place_from_test}
 
@@ -27,7 +27,7 @@ module _ (big : Big) (place : Place) (valid : IsValid big) (absent : has_place b
   none_in : (rows : List ParentRow) → ((row : ParentRow) → Mem row rows → has_place big row.parent ≡ true) → numbers_in place rows ≡ []
   none_in [] each = refl
   none_in (row ∷ rows) each =
-      ap (map number_of) (cond-false (same_place row.parent place) _ _
+      ap (map node_number) (cond-false (same_place row.parent place) _ _
       (false_from_ne_true (same_place row.parent place)
       (λ same. false≢true (sym absent ∙ ap (has_place big) (sym (same_place_from_test row.parent place same)) ∙ each row (here refl)))))
       ∙ none_in rows (λ other m. each other (there m))

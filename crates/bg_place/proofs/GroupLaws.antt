@@ -13,7 +13,7 @@ use Rattle.bg_lists.proofs.Groups.{stable_group, group_found}
 use Rattle.bg_base.specs.declared.names.Place.{Place}
 use Rattle.bg_base.specs.declared.names.Place.TheVariants.{Node, Region}
 use Rattle.bg_place.specs.declared.graph.ParentRow.{ParentRow}
-use Rattle.bg_place.specs.Places.{same_place, number_of, numbers_in, numbered}
+use Rattle.bg_place.specs.Places.{same_place, node_number, numbers_in, numbered}
 use Rattle.bg_place.specs.Rows.{parent_cmp, place_rank, row_rank, IsGroups, HasGroups}
 
 -- ---- places by their positions
@@ -53,7 +53,7 @@ stable_groups groups rows stable =
 
 -- the same rows in each place, so the same numbers
 pub same_numbers : (place : Place) (groups rows : List ParentRow) → HasGroups groups rows → numbers_in place groups ≡ numbers_in place rows
-same_numbers place groups rows has = ap (map number_of) (has.same place)
+same_numbers place groups rows has = ap (map node_number) (has.same place)
 
 -- two searches of rows in order find the numbers of one place
 pub searched : (place : Place) (all rows others : List ParentRow) (numbers parts : List ℕ) (wanted start count : ℕ)
@@ -67,9 +67,9 @@ searched place all rows others numbers parts wanted start count groups w e f g i
     let Upper : List ParentRow → Type 0
     = λ xs. IsPartitionedBy (λ y. leb (row_rank y) wanted) (take (length xs - start) (drop start xs))
     → IsPartitionPoint (λ y. leb (row_rank y) wanted ≡ true) (λ y. leb (row_rank y) wanted ≡ false) (take (length xs - start) (drop start xs)) count in
-    group_found row_rank number_of rows parts (subst (IsNonDecreasingBy row_rank) (sym e) groups.rise) (g ∙ groups.same ∙ ap (map number_of) (sym e))
+    group_found row_rank node_number rows parts (subst (IsNonDecreasingBy row_rank) (sym e) groups.rise) (g ∙ groups.same ∙ ap (map node_number) (sym e))
     wanted start count inside lower (subst Upper (f ∙ sym e) upper)
-    ∙ ap (map number_of) (filter_agree (λ (row : ParentRow). row_rank row == wanted) (λ (row : ParentRow). same_place row.parent place)
+    ∙ ap (map node_number) (filter_agree (λ (row : ParentRow). row_rank row == wanted) (λ (row : ParentRow). same_place row.parent place)
     (λ row. ap (λ r. row_rank row == r) w ∙ of_position place row) rows)
     ∙ ap (numbers_in place) e
 
@@ -77,14 +77,14 @@ searched place all rows others numbers parts wanted start count groups w e f g i
 
 -- numbers of rows that ascend
 pub numbers_ascend : (test : ParentRow → Bool) (rows : List ParentRow) → IsStrictlySortedBy parent_cmp rows
-    → IsStrictlySortedBy nat_cmp (map number_of (filter test rows))
+    → IsStrictlySortedBy nat_cmp (map node_number (filter test rows))
 numbers_ascend test rows up =
-    sorted_from_Ascending {cmp = nat_cmp} (map number_of (filter test rows))
-    (Ascending-map number_of (filter test rows) (λ x y less. less) (Ascending-filter test rows (Ascending-from_sorted rows up)))
+    sorted_from_Ascending {cmp = nat_cmp} (map node_number (filter test rows))
+    (Ascending-map node_number (filter test rows) (λ x y less. less) (Ascending-filter test rows (Ascending-from_sorted rows up)))
 
 later : (number : ℕ) (places : List Place) (row : ParentRow) → Mem row (numbered number places) → number ≤ row.node
 later number [] row m = elim m [ ]
-later number (place ∷ places) row (here e) = let same = ap number_of e in omega (arith, same)
+later number (place ∷ places) row (here e) = let same = ap node_number e in omega (arith, same)
 later number (place ∷ places) row (there m) = let more = later (number + 1) places row m in omega (arith, more)
 
 rises : (number : ℕ) (places : List Place) → Ascending (λ x y. parent_cmp x y ≡ Less) (numbered number places)

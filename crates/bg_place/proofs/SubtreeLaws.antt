@@ -7,7 +7,7 @@ use Rattle.bg_lists.proofs.Words.{member_from_find}
 use Rattle.bg_base.specs.declared.names.Place.{Place}
 use Rattle.bg_base.specs.declared.names.Place.TheVariants.{Node, Region}
 use Rattle.bg_place.specs.declared.graph.ParentRow.{ParentRow}
-use Rattle.bg_place.specs.Places.{climb, is_within, is_above, number_of}
+use Rattle.bg_place.specs.Places.{climb, is_within, is_above, node_number}
 use Rattle.bg_place.specs.Rows.{IsRowOf, IsSettled, lies_in, lies_at}
 use Rattle.bg_place.proofs.ClimbLaws.{climb_region}
 
@@ -56,4 +56,4 @@ module _ (rows : List ParentRow) (upper : ℕ) where
   -- the row of a node stands where its first row does
   pub lies_at-first : (node at : ℕ) (row : ParentRow) → IsRowOf rows node at row → lies_at rows upper at ≡ is_within rows upper node
   lies_at-first node at row is =
-      ap (λ found. is_within rows upper (unwrap_or (option_map number_of found) 0)) is.there ∙ ap (is_within rows upper) (row_number node at row is)
+      ap (λ found. is_within rows upper (unwrap_or (option_map node_number found) 0)) is.there ∙ ap (is_within rows upper) (row_number node at row is)

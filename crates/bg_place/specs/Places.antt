@@ -38,12 +38,12 @@ same_place (Node m) (Region n) = false
 same_place (Region m) (Node n) = false
 same_place (Region m) (Region n) = m == n
 
-abbrev pub number_of : ParentRow → ℕ
-number_of row = row.node
+abbrev pub node_number : ParentRow → ℕ
+node_number row = row.node
 
 -- the numbers of the rows that lie in the place, in their order
 abbrev pub numbers_in : Place → List ParentRow → List ℕ
-numbers_in place rows = map number_of (filter (λ (row : ParentRow). same_place row.parent place) rows)
+numbers_in place rows = map node_number (filter (λ (row : ParentRow). same_place row.parent place) rows)
 
 -- the nodes that lie in the place
 abbrev pub children_of : Places → Place → List ℕ
@@ -84,7 +84,7 @@ is_within rows upper lower = (lower == upper) || is_above rows upper lower
 -- the node and its descendants, by number
 abbrev pub subtree_of : Places → ℕ → List ℕ
 subtree_of places node =
-    map number_of (filter (λ (row : ParentRow). is_within places.parents node row.node) places.parents)
+    map node_number (filter (λ (row : ParentRow). is_within places.parents node row.node) places.parents)
 
 -- a row of a bigraph, where its places move like that
 abbrev pub moved_row : (Place → Place) → NodeRow → ParentRow

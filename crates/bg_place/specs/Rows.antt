@@ -7,7 +7,7 @@ use Rattle.bg_base.specs.declared.names.Place.{Place}
 use Rattle.bg_base.specs.declared.names.Place.TheVariants.{Node, Region}
 use Rattle.bg_place.specs.declared.graph.ParentRow.{ParentRow}
 use Rattle.bg_place.specs.declared.graph.Places.{Places}
-use Rattle.bg_place.specs.Places.{row_of, same_place, number_of, numbered, climb, is_within}
+use Rattle.bg_place.specs.Places.{row_of, same_place, node_number, numbered, climb, is_within}
 
 -- rows by their nodes
 abbrev pub parent_cmp : ParentRow → ParentRow → Ordering
@@ -34,7 +34,7 @@ row_rank row = place_rank row.parent
 -- the rows do not fall by their places, and the numbers are theirs
 pub record IsGroups (rows : List ParentRow) (numbers : List ℕ) : Type 0 where
   pub rise : IsNonDecreasingBy row_rank rows
-  pub same : numbers ≡ map number_of rows
+  pub same : numbers ≡ map node_number rows
 
 -- both have the same rows in each place, in the same order
 pub record HasGroups (groups rows : List ParentRow) : Type 0 where
@@ -52,7 +52,7 @@ lies_in rows upper (Region region) = false
 
 -- the node whose row stands there is that node, or lies in it
 abbrev pub lies_at : List ParentRow → ℕ → ℕ → Bool
-lies_at rows upper at = is_within rows upper (unwrap_or (option_map number_of (slice_get rows at)) 0)
+lies_at rows upper at = is_within rows upper (unwrap_or (option_map node_number (slice_get rows at)) 0)
 
 -- what a forest keeps at hand for its places
 pub record IsForest (places : Places) (children sites : List ParentRow) : Type 0 where

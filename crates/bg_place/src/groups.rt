@@ -63,7 +63,7 @@ fn rank(place: Place) -> u64
 
 /// The numbers of the rows.
 fn numbers(alloc: Global, rows: &[ParentRow]) -> Mem<Vec<u32>>
-    ensures { IfOk result (λ made. made.items ≡ map defined.number_of rows.now) }
+    ensures { IfOk result (λ made. made.items ≡ map defined.node_number rows.now) }
 {
     let mut made = Vec::new(alloc);
     for row in rows {

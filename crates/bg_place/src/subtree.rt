@@ -70,7 +70,7 @@ fn collect_within(
     requires ascending { IsStrictlySortedBy parent_cmp rows.now }
     requires settled { IsSettled rows.now }
     requires marks { AreMarks (lies_at rows.now node) marks.old }
-    ensures { IfOk result (λ nodes. nodes.items ≡ map defined.number_of (filter (λ row. defined.is_within rows.now node row.node) rows.now)) }
+    ensures { IfOk result (λ nodes. nodes.items ≡ map defined.node_number (filter (λ row. defined.is_within rows.now node row.node) rows.now)) }
 {
     let within = Within { rows, upper: node };
     let mut nodes = Vec::new(alloc);
@@ -86,7 +86,7 @@ fn collect_within(
 pub fn nodes_within(alloc: Global, rows: &[ParentRow], node: u32) -> Mem<Vec<u32>>
     requires ascending { IsStrictlySortedBy parent_cmp rows.now }
     requires settled { IsSettled rows.now }
-    ensures { IfOk result (λ nodes. nodes.items ≡ map defined.number_of (filter (λ row. defined.is_within rows.now node row.node) rows.now)) }
+    ensures { IfOk result (λ nodes. nodes.items ≡ map defined.node_number (filter (λ row. defined.is_within rows.now node row.node) rows.now)) }
 {
     let mut marks = no_marks(alloc, rows.len())?;
     let nodes = collect_within(alloc, rows, &mut marks, node)?;

@@ -15,7 +15,7 @@ use Rattle.bg_base.specs.Elementary.{counted, identity}
 use Rattle.bg_base.specs.Products.{tensor, lean}
 use Rattle.bg_base.specs.Translation.{row_renamed, rename}
 use Rattle.bg_base.proofs.Composed.{length-compose_nodes}
-use Rattle.bg_decompose.specs.Joining.{joined}
+use Rattle.bg_decompose.specs.Joining.{recomposed_from}
 use Rattle.bg_rules.specs.Decomposition.{Decomposes, frame}
 use Rattle.bg_rules.specs.Hosts.{IsHost}
 use Rattle.bg_rules.specs.Instantiation.{instantiate, next_after}
@@ -106,14 +106,14 @@ module _ (host : HostState) (rule : RuleParts) (context parameter : Big) (is_hos
 
   abbrev put_round : Big → Big
   put_round instance =
-      lean (joined rule.reactum (counted host.next_node (length rule.reactum.nodes)) context (counted host.next_edge (length rule.reactum.edges)) instance)
+      lean (recomposed_from rule.reactum (counted host.next_node (length rule.reactum.nodes)) context (counted host.next_edge (length rule.reactum.edges)) instance)
 
   put_round_instance : put_round (next_instance host rule parameter) ≡ recomposed host rule context parameter
   unfolding instantiate
   put_round_instance = refl
 
   pub big_is : (instance big : Big) → instance ≡ next_instance host rule parameter
-      → big ≡ lean (joined rule.reactum (counted host.next_node (length rule.reactum.nodes)) context (counted host.next_edge (length rule.reactum.edges)) instance)
+      → big ≡ lean (recomposed_from rule.reactum (counted host.next_node (length rule.reactum.nodes)) context (counted host.next_edge (length rule.reactum.edges)) instance)
       → big ≡ recomposed host rule context parameter
   big_is instance big is made = made ∙ ap put_round is ∙ put_round_instance
 

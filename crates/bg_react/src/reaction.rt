@@ -4,7 +4,7 @@ ghost use Rattle.bg_base.specs.Limits.{most_host_nodes, most_host_edges, largest
 ghost use Rattle.bg_base.specs.Bigraph.{IsValid};
 ghost use Rattle.bg_base.specs.Elementary.{counted};
 ghost use Rattle.bg_base.specs.Products as product;
-ghost use Rattle.bg_decompose.specs.Joining.{joined};
+ghost use Rattle.bg_decompose.specs.Joining.{recomposed_from};
 ghost use Rattle.bg_rules.specs.Decomposition.{Occurs};
 ghost use Rattle.bg_rules.specs.Hosts.{IsHost};
 ghost use Rattle.bg_rules.specs.Instantiation.{next_after};
@@ -241,7 +241,7 @@ fn with_reactum(
     requires between { GoesBetween host.now reactum.now context.now instance.now }
     requires nodes { host.now.next_node + length reactum.now.nodes < 2 ^ 32 }
     requires edges { host.now.next_edge + length reactum.now.edges < 2 ^ 32 }
-    ensures { IfOk result (λ big. big ≡ product.lean (joined reactum.now (counted host.now.next_node (length reactum.now.nodes)) context.now
+    ensures { IfOk result (λ big. big ≡ product.lean (recomposed_from reactum.now (counted host.now.next_node (length reactum.now.nodes)) context.now
         (counted host.now.next_edge (length reactum.now.edges)) instance.now)) }
 {
     let nodes = numbers_from(alloc, host.next_node(), reactum.nodes.len())?;

@@ -22,7 +22,7 @@ use Rattle.bg_base.specs.Order.{name_cmp}
 use Rattle.bg_base.specs.Bigraph.{has_place, has_link}
 use Rattle.bg_base.specs.Composition.{place_through, link_through, row_through}
 use Rattle.bg_base.specs.Elementary.{counted, identity, row_to_itself}
-use Rattle.bg_base.specs.Translation.{along, node_numbers, place_renamed, link_renamed, row_renamed}
+use Rattle.bg_base.specs.Translation.{number_renamed, node_numbers, place_renamed, link_renamed, row_renamed}
 use Rattle.bg_base.proofs.Counted.{length-counted, counted_ascends}
 use Rattle.bg_base.proofs.NameLaws.{same_name_from_test, test_same_name}
 use Rattle.bg_algebra.proofs.CompositionLaws.{At-counted}
@@ -50,15 +50,15 @@ use Rattle.bg_rewriting.proofs.Counts.{number_is}
 -- ---- numbers in a row become numbers in a row
 
 along_counted : (numbers : List ℕ) (next count : ℕ) → numbers ≡ counted 0 count → {node : ℕ} → Mem node numbers
-    → along numbers (counted next count) node ≡ next + node
+    → number_renamed numbers (counted next count) node ≡ next + node
 along_counted numbers next count e {node} m =
     let w = At-from_Mem (subst (λ ns. Mem node ns) e m) in
     let one : node ≡ 0 + w.0 = At-counted 0 count w.0 node w.1 in
     let long : length (counted 0 count) ≡ length (counted next count) = length-counted 0 count ∙ sym (length-counted next count) in
     let there = along_at_place (counted 0 count) (counted next count) long
     (IsDistinct-from_Ascending (counted 0 count) (counted_ascends 0 count)) w.1 in
-    let two = At-counted next count w.0 (along (counted 0 count) (counted next count) node) there in
-    ap (λ ns. along ns (counted next count) node) e ∙ (omega (arith, one, two))
+    let two = At-counted next count w.0 (number_renamed (counted 0 count) (counted next count) node) there in
+    ap (λ ns. number_renamed ns (counted next count) node) e ∙ (omega (arith, one, two))
 
 pub At-name : {name : Name} (names : List Name) → Mem name names → At name (position_or_len (λ (other : Name). is_eq (name_cmp other name)) names) names
 At-name {name} names m =

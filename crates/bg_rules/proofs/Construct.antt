@@ -19,7 +19,7 @@ use Rattle.bg_base.specs.declared.big.Big.{Big}
 use Rattle.bg_base.specs.Bigraph.{IsValid, IsGround}
 use Rattle.bg_base.specs.Composition.{place_through, link_through, inner_names}
 use Rattle.bg_base.specs.Elementary.{counted}
-use Rattle.bg_base.specs.Translation.{along, place_renamed, link_renamed}
+use Rattle.bg_base.specs.Translation.{number_renamed, place_renamed, link_renamed}
 use Rattle.bg_base.proofs.LookUps.{inner_of-member}
 use Rattle.bg_base.proofs.Counted.{Mem-counted, length-counted}
 use Rattle.bg_algebra.proofs.CompositionLaws.{At-counted}
@@ -294,7 +294,7 @@ module _ (host pattern : Big) (nodes : List ℕ) (is : IsPattern pattern) (host_
         edges_many = edges_chosen.long;
         edge_image = λ edge m.
             let w = At-from_Mem m in
-            edges_chosen.each w.0 edge (along pattern.edges edges_chosen.ys edge) w.1
+            edges_chosen.each w.0 edge (number_renamed pattern.edges edges_chosen.ys edge) w.1
             (along_at_place pattern.edges edges_chosen.ys edges_chosen.long (pattern_edges_differ pattern is.valid) w.1);
         sites_many = sym (length-counted 0 pattern.regions) ∙ sites_chosen.long;
         site_of = site_chosen;

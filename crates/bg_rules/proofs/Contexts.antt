@@ -24,7 +24,7 @@ use Rattle.bg_base.specs.declared.big.Big.{Big}
 use Rattle.bg_base.specs.Order.{name_cmp}
 use Rattle.bg_base.specs.Bigraph.{IsValid, node_cmp, inner_cmp, has_place, has_link}
 use Rattle.bg_base.specs.Composition.{inner_names}
-use Rattle.bg_base.specs.Translation.{along}
+use Rattle.bg_base.specs.Translation.{number_renamed}
 use Rattle.bg_base.proofs.LookUps.{has_row, has_edge, row_of-member, row_from_row_of, member_from_has_edge, tied_numbers, apart_numbers}
 use Rattle.bg_base.proofs.Climbs.{Climb, at_region, at_node, Climb-from_place}
 use Rattle.bg_algebra.proofs.Renamed.{map-along}
@@ -85,7 +85,7 @@ pub data Carries (host pattern : Big) (nodes : List ℕ) (name : Name) (link : L
 -- names of the parameter's ports
 pub record FitsHost (host pattern : Big) (nodes : List ℕ) (edges : List ℕ) (sites : List Place) (inner : List InnerRow) : Type 0 where
   pub edges_many : length pattern.edges ≡ length edges
-  pub edge_image : (edge : ℕ) → Mem edge pattern.edges → IsEdgeImage host pattern nodes edge (along pattern.edges edges edge)
+  pub edge_image : (edge : ℕ) → Mem edge pattern.edges → IsEdgeImage host pattern nodes edge (number_renamed pattern.edges edges edge)
   pub sites_many : pattern.regions ≡ length sites
   pub site_of : (region : ℕ) (place : Place) → At place region sites → IsSiteOf host pattern nodes region place
   pub names : inner_names inner ≡ pattern.outer ++ (parameter_of host pattern nodes).outer
@@ -128,12 +128,12 @@ module _ (host : Big) (nodes : List ℕ) (host_valid : IsValid host) where
 module _ (host pattern : Big) (nodes : List ℕ) (is : IsPattern pattern) (host_valid : IsValid host) (local : MeetsLocally host pattern nodes)
     (edges : List ℕ) (sites : List Place) (inner : List InnerRow) (fits : FitsHost host pattern nodes edges sites inner) where
   -- two edges of the pattern have two images
-  edge_once : {edge other : ℕ} → Mem edge pattern.edges → Mem other pattern.edges → along pattern.edges edges edge ≡ along pattern.edges edges other → edge ≡ other
+  edge_once : {edge other : ℕ} → Mem edge pattern.edges → Mem other pattern.edges → number_renamed pattern.edges edges edge ≡ number_renamed pattern.edges edges other → edge ≡ other
   edge_once {edge} {other} m n e =
       let w = used_edge pattern is m in
       let v = local.images w.0 w.2 in
       let p = image_port host pattern nodes host_valid is.valid local v.1 w.3 in
-      let onto : p.0 ≡ Edge (along pattern.edges edges edge) = (fits.edge_image edge m).onto w.0 v.0 w.1 p.0 v.1 w.3 p.1 in
+      let onto : p.0 ≡ Edge (number_renamed pattern.edges edges edge) = (fits.edge_image edge m).onto w.0 v.0 w.1 p.0 v.1 w.3 p.1 in
       let u = (fits.edge_image other n).only v.0 w.1 v.1.of_host (At-same (onto ∙ ap Edge e) p.1) in
       let same : w.0 ≡ u.0 = same_below host pattern nodes host_valid is.valid local v.1 u.1 refl in
       let link : Edge edge ≡ Edge other = At-one (subst (λ (r : NodeRow). At (Edge edge) w.1 r.links) same w.3) u.2 in cc
@@ -144,23 +144,23 @@ module _ (host pattern : Big) (nodes : List ℕ) (is : IsPattern pattern) (host_
       record {
         as_many = fits.edges_many;
         differ = subst (IsDistinct (eq_by_cmp nat_cmp)) (map-along pattern.edges edges fits.edges_many differ)
-            (IsDistinct-map_on (eq_by_cmp nat_cmp) (eq_by_cmp nat_cmp) (along pattern.edges edges) pattern.edges
-            (λ x y m n apart. apart_numbers (along pattern.edges edges x) (along pattern.edges edges y)
+            (IsDistinct-map_on (eq_by_cmp nat_cmp) (eq_by_cmp nat_cmp) (number_renamed pattern.edges edges) pattern.edges
+            (λ x y m n apart. apart_numbers (number_renamed pattern.edges edges x) (number_renamed pattern.edges edges y)
             (λ e. false≢true (sym apart ∙ tied_numbers x y (edge_once m n e)))) differ);
       }
 
   -- the image of an edge is an edge of the host
-  pub edge_image_there : {edge : ℕ} → Mem edge pattern.edges → Mem (along pattern.edges edges edge) host.edges
+  pub edge_image_there : {edge : ℕ} → Mem edge pattern.edges → Mem (number_renamed pattern.edges edges edge) host.edges
   edge_image_there {edge} m =
       let w = used_edge pattern is m in
       let v = local.images w.0 w.2 in
       let p = image_port host pattern nodes host_valid is.valid local v.1 w.3 in
-      let onto : p.0 ≡ Edge (along pattern.edges edges edge) = (fits.edge_image edge m).onto w.0 v.0 w.1 p.0 v.1 w.3 p.1 in
+      let onto : p.0 ≡ Edge (number_renamed pattern.edges edges edge) = (fits.edge_image edge m).onto w.0 v.0 w.1 p.0 v.1 w.3 p.1 in
       let has = link_there host host_valid v.1.of_host (Mem-from_At p.1) in
-      member_from_has_edge host.edges (along pattern.edges edges edge) (subst (λ l. has_link host l ≡ true) onto has)
+      member_from_has_edge host.edges (number_renamed pattern.edges edges edge) (subst (λ l. has_link host l ≡ true) onto has)
 
   -- a link of the host that is no image of an edge is a link of the context
-  link_left : (link : Link) → has_link host link ≡ true → ((edge : ℕ) → Mem edge pattern.edges → link ≡ Edge (along pattern.edges edges edge) → ⊥)
+  link_left : (link : Link) → has_link host link ≡ true → ((edge : ℕ) → Mem edge pattern.edges → link ≡ Edge (number_renamed pattern.edges edges edge) → ⊥)
       → has_link (context_of host nodes edges sites inner) link ≡ true
   link_left (Edge edge) has none =
       has_edge (edges_left host.edges edges)

@@ -14,7 +14,7 @@ use Rattle.bg_base.specs.declared.big.InnerRow.{InnerRow}
 use Rattle.bg_base.specs.declared.big.Big.{Big}
 use Rattle.bg_base.specs.Bigraph.{IsGround, has_place, has_link}
 use Rattle.bg_base.specs.Composition.{place_through, link_through}
-use Rattle.bg_base.specs.Translation.{along, node_numbers, place_renamed, link_renamed}
+use Rattle.bg_base.specs.Translation.{number_renamed, node_numbers, place_renamed, link_renamed}
 use Rattle.bg_base.proofs.LookUps.{inner_of-member}
 use Rattle.bg_rules.specs.Solid.{IsPattern}
 use Rattle.bg_rules.specs.LocalConditions.{Meets, at_place, above, image_of, IsImage, MeetsLocally}
@@ -125,9 +125,9 @@ module _ {host pattern : Big} {nodes : List ℕ} {context : Big} {edges : List �
 
   -- a link of the pattern that becomes the image of an edge is that edge; one of the parameter never does
   pattern_only : {row : NodeRow} {edge : ℕ} (link : Link) → Mem row pattern.nodes → Mem link row.links → Mem edge pattern.edges
-      → link_through context (link_renamed pattern edges link) ≡ Edge (along pattern.edges edges edge) → link ≡ Edge edge
+      → link_through context (link_renamed pattern edges link) ≡ Edge (number_renamed pattern.edges edges edge) → link ≡ Edge edge
   pattern_only {row} {edge} (Edge other) m k n e =
-      let same : along pattern.edges edges other ≡ along pattern.edges edges edge = cc in
+      let same : number_renamed pattern.edges edges other ≡ number_renamed pattern.edges edges edge = cc in
       ap Edge (edge_injective pattern is.valid edges glued.edges_new (edge_there pattern is.valid (link_there pattern is.valid m k) refl) n same)
   pattern_only (Outer name) m k n e =
       absurd (named_edge_apart (inl (name_there pattern is.valid (link_there pattern is.valid m k) refl)) e (edge_mem pattern is.valid edges glued.edges_new n))
@@ -141,18 +141,18 @@ module _ {host pattern : Big} {nodes : List ℕ} {context : Big} {edges : List �
       named_edge_apart (inr (name_there parameter glued.is_parameter.ground.valid (link_there parameter glued.is_parameter.ground.valid m k) refl)) e n
 
   only : {edge : ℕ} → Mem edge pattern.edges → (other : NodeRow) (port : ℕ) → Mem other host.nodes
-      → At (Edge (along pattern.edges edges edge)) port other.links
+      → At (Edge (number_renamed pattern.edges edges edge)) port other.links
       → (row : NodeRow) × IsImage host pattern nodes row other × At (Edge edge) port row.links
   only {edge} n other port m a =
       elim (glued.of_host other m) [
         | inl c ↦ absurd (context_edge_apart (link_there context glued.context_valid c (Mem-from_At a)) refl (edge_mem pattern is.valid edges glued.edges_new n))
-        | inr (inl w) ↦ (let there = subst (λ (r : NodeRow). At (Edge (along pattern.edges edges edge)) port r.links) (sym w.2) a in
+        | inr (inl w) ↦ (let there = subst (λ (r : NodeRow). At (Edge (number_renamed pattern.edges edges edge)) port r.links) (sym w.2) a in
             let v = At-unmap (λ (link : Link). link_through context (link_renamed pattern edges link)) w.0.links there in (
               w.0,
               record { of_pattern = w.1; of_host = m; same = sym (ap (λ (row : NodeRow). row.id) w.2) },
               At-same (pattern_only v.0 w.1 (Mem-from_At v.1) n v.2) v.1,
             ))
-        | inr (inr w) ↦ (let there = subst (λ (r : NodeRow). At (Edge (along pattern.edges edges edge)) port r.links) (sym w.2) a in
+        | inr (inr w) ↦ (let there = subst (λ (r : NodeRow). At (Edge (number_renamed pattern.edges edges edge)) port r.links) (sym w.2) a in
             let v = At-unmap (link_through context) w.0.links there in
             absurd (parameter_only v.0 w.1 (Mem-from_At v.1) (edge_mem pattern is.valid edges glued.edges_new n) v.2))
       ]
@@ -175,7 +175,7 @@ module _ {host pattern : Big} {nodes : List ℕ} {context : Big} {edges : List �
             (region_there (parent_region pattern is.valid m.of_pattern e)) n;
         shared = λ row image other twin port index link first second m n a b c d. image_link m a c ∙ sym (image_link n b d);
         closed = λ edge m. (
-          along pattern.edges edges edge,
+          number_renamed pattern.edges edges edge,
           record {
             onto = λ row other port link n a b. image_link n a b;
             only = only m;

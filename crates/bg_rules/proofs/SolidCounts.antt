@@ -16,7 +16,7 @@ use Rattle.bg_link.specs.Links.{degree_of, links_of}
 use Rattle.bg_link.proofs.PointLaws.{has_point-points_of}
 use Rattle.bg_place.specs.declared.graph.ParentRow.{ParentRow}
 use Rattle.bg_place.specs.declared.graph.Places.{Places}
-use Rattle.bg_place.specs.Places.{parent_row, places_of, same_place, number_of, numbers_in, numbered, children_of, child_sites_of}
+use Rattle.bg_place.specs.Places.{parent_row, places_of, same_place, node_number, numbers_in, numbered, children_of, child_sites_of}
 use Rattle.bg_place.proofs.RowLaws.{same_place_from_test, same_place-itself}
 use Rattle.bg_rules.specs.Solid.{has_child, are_apart}
 use Rattle.bg_rules.proofs.SolidLaws.{test_from_some}
@@ -29,8 +29,8 @@ any_in : (place : Place) (rows : List ParentRow)
 any_in place [] = refl
 any_in place (row ∷ rows) =
     let test : ParentRow → Bool = λ other. same_place other.parent place in
-    cond_both (test row) (row ∷ filter test rows) (filter test rows) (λ found. (test row || list_any test rows) ≡ not (length (map number_of found) == 0))
-    (λ pass. ap (λ b. b || list_any test rows) pass ∙ sym (test_from_some (suc (length (map number_of (filter test rows)))) (omega arith)))
+    cond_both (test row) (row ∷ filter test rows) (filter test rows) (λ found. (test row || list_any test rows) ≡ not (length (map node_number found) == 0))
+    (λ pass. ap (λ b. b || list_any test rows) pass ∙ sym (test_from_some (suc (length (map node_number (filter test rows)))) (omega arith)))
     (λ fail. ap (λ b. b || list_any test rows) fail ∙ any_in place rows)
 
 -- ---- each region has a child node
@@ -92,14 +92,14 @@ one_more : (place site : Place) (number : ℕ) (sites : List Place) → same_pla
 one_more place site number sites same =
     let row : ParentRow = record { node = number; parent = site } in
     let rest = filter (λ (other : ParentRow). same_place other.parent place) (numbered (number + 1) sites) in
-    ap (λ b. length (map number_of (cond b (row ∷ rest) rest))) same
+    ap (λ b. length (map node_number (cond b (row ∷ rest) rest))) same
 
 no_more : (place site : Place) (number : ℕ) (sites : List Place) → same_place site place ≡ false
     → sites_in place number (site ∷ sites) ≡ sites_in place (number + 1) sites
 no_more place site number sites apart =
     let row : ParentRow = record { node = number; parent = site } in
     let rest = filter (λ (other : ParentRow). same_place other.parent place) (numbered (number + 1) sites) in
-    ap (λ b. length (map number_of (cond b (row ∷ rest) rest))) apart
+    ap (λ b. length (map node_number (cond b (row ∷ rest) rest))) apart
 
 one_each : (number : ℕ) (sites : List Place) → are_apart sites ≡ true → (place : Place) → Mem place sites → sites_in place number sites ≡ 1
 one_each number [] apart place m = elim m [ ]

@@ -16,7 +16,7 @@ use Rattle.bg_base.specs.declared.big.InnerRow.{InnerRow}
 use Rattle.bg_base.specs.declared.big.Big.{Big}
 use Rattle.bg_base.specs.Bigraph.{IsGround, has_place}
 use Rattle.bg_base.specs.Composition.{place_through, link_through}
-use Rattle.bg_base.specs.Translation.{along, node_numbers, place_renamed, link_renamed}
+use Rattle.bg_base.specs.Translation.{number_renamed, node_numbers, place_renamed, link_renamed}
 use Rattle.bg_base.proofs.LookUps.{row_from_row_of, inner_cmp_total}
 use Rattle.bg_base.proofs.Climbs.{Climb, at_region, at_node, Climb-from_place}
 use Rattle.bg_algebra.proofs.CompositionLaws.{same_parts, same_nodes, same_edges as same_numbers}
@@ -147,15 +147,15 @@ module _ {host pattern : Big} {nodes : List ℕ} {context : Big} {edges : List �
       (subst (λ (r : NodeRow). At (link_through other_context (link_renamed pattern other_edges link)) port r.links) (sym (pattern_same m))
       (At-map (λ (link : Link). link_through other_context (link_renamed pattern other_edges link)) a))
 
-  edge_same : (edge : ℕ) → Mem edge pattern.edges → along pattern.edges edges edge ≡ along pattern.edges other_edges edge
+  edge_same : (edge : ℕ) → Mem edge pattern.edges → number_renamed pattern.edges edges edge ≡ number_renamed pattern.edges other_edges edge
   edge_same edge m =
       let w = used_edge pattern is m in
-      let both : Edge (along pattern.edges edges edge) ≡ Edge (along pattern.edges other_edges edge) = pattern_link w.2 w.3 in cc
+      let both : Edge (number_renamed pattern.edges edges edge) ≡ Edge (number_renamed pattern.edges other_edges edge) = pattern_link w.2 w.3 in cc
 
   pub same_edges : edges ≡ other_edges
   same_edges =
       sym (edges_along pattern is.valid edges glued.edges_new)
-      ∙ map_agree (along pattern.edges edges) (along pattern.edges other_edges) pattern.edges edge_same
+      ∙ map_agree (number_renamed pattern.edges edges) (number_renamed pattern.edges other_edges) pattern.edges edge_same
       ∙ edges_along pattern is.valid other_edges twin.edges_new
 
   context_edge_into : (edge : ℕ) → Mem edge context.edges → Mem edge other_context.edges

@@ -3,6 +3,6 @@ use Rattle.std.specs.Prelude.{ℕ}
 use Rattle.bg_rules.specs.declared.fault.RuleFault.{RuleFault}
 use Rattle.bg_rules.specs.declared.fault.RuleFault.TheVariants.{SidesDiffer, BadMap}
 
-abbrev pub number_of : RuleFault → ℕ
-number_of SidesDiffer = 47
-number_of BadMap = 48
+abbrev pub fault_number : RuleFault → ℕ
+fault_number SidesDiffer = 47
+fault_number BadMap = 48

@@ -15,11 +15,11 @@ pub enum RuleFault {
 
 impl RuleFault {
     ghost use Rattle.std.specs.Prelude.{◌≡◌};
-    ghost use Rattle.bg_rules.specs.Faults.{number_of};
+    ghost use Rattle.bg_rules.specs.Faults.{fault_number};
 
     /// The number of the refusal: 47 for `SidesDiffer`, 48 for `BadMap`.
     pub fn number(&self) -> u8
-        ensures { result ≡ number_of self.now }
+        ensures { result ≡ fault_number self.now }
     {
         match self {
             RuleFault::SidesDiffer => 47,

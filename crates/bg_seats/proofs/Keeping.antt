@@ -9,7 +9,7 @@ use Rattle.bg_base.specs.Limits.{most_steps}
 use Rattle.bg_base.specs.declared.history.Entry.{Entry}
 use Rattle.bg_seats.specs.declared.knowledge.Knowledge.{Knowledge}
 use Rattle.bg_seats.specs.Histories.{WorkersBelow}
-use Rattle.bg_seats.specs.Seating.{turn_of, pass_of, both_of, spent, Agrees, IsHistoryWord, holds, Told, CaughtUp, Compared, PassEnded, Loaded, Recorded, extended, joined, taken_in, pass_alone, turn_alone, counted, given_pass}
+use Rattle.bg_seats.specs.Seating.{turn_of, pass_of, both_of, spent, Agrees, IsHistoryWord, holds, Told, CaughtUp, Compared, PassEnded, Loaded, Recorded, extended, with_turn, taken_in, pass_alone, turn_alone, with_pass_given, given_pass}
 use Rattle.bg_seats.proofs.Lists.{set_at, each_set, each_snoc}
 use Rattle.bg_seats.proofs.Histories.{below-larger, below-snoc}
 use Rattle.bg_seats.proofs.Views.{agrees_pass, agrees_turn, agrees_both, agrees_spent, agrees_elsewhere, agrees_longer}
@@ -314,10 +314,10 @@ module _ {S : Type 0} where
   -- ---- the same of views that are known by an equation
 
   pub joins_turn_at : (seat worker : ℕ) (seen : List Entry) (other passes : ℕ) (history : List Entry) (pass turn : Knowledge) → pass ≡ pass_of worker seen → turn ≡ turn_of passes history
-      → Joins {S = S} holds seat pass other turn (joined pass turn) spent
+      → Joins {S = S} holds seat pass other turn (with_turn pass turn) spent
   joins_turn_at seat worker seen other passes history pass turn pass_is turn_is =
-      subst (λ x. Joins {S = S} holds seat x other turn (joined x turn) spent) (sym pass_is)
-      (subst (λ y. Joins {S = S} holds seat (pass_of worker seen) other y (joined (pass_of worker seen) y) spent) (sym turn_is) (joins_turn seat worker seen other passes history))
+      subst (λ x. Joins {S = S} holds seat x other turn (with_turn x turn) spent) (sym pass_is)
+      (subst (λ y. Joins {S = S} holds seat (pass_of worker seen) other y (with_turn (pass_of worker seen) y) spent) (sym turn_is) (joins_turn seat worker seen other passes history))
 
   pub joins_ended_at : (seat passes : ℕ) (history : List Entry) (other worker : ℕ) (seen : List Entry) (turn pass : Knowledge) → turn ≡ turn_of passes history → pass ≡ pass_of worker seen
       → Joins {S = S} holds seat turn other pass (taken_in turn pass) spent
@@ -354,15 +354,15 @@ module _ {S : Type 0} where
       → Splits {S = S} holds seat view (pass_alone view) (turn_alone view)
   splits_turn_at seat worker seen passes history view is = subst (λ x. Splits {S = S} holds seat x (pass_alone x) (turn_alone x)) (sym is) (splits_turn seat worker seen passes history)
 
-  pub splits_pass_at : (seat passes : ℕ) (history : List Entry) (view : Knowledge) → view ≡ turn_of passes history → Splits {S = S} holds seat view (counted view) (given_pass view)
-  splits_pass_at seat passes history view is = subst (λ x. Splits {S = S} holds seat x (counted x) (given_pass x)) (sym is) (splits_pass seat passes history)
+  pub splits_pass_at : (seat passes : ℕ) (history : List Entry) (view : Knowledge) → view ≡ turn_of passes history → Splits {S = S} holds seat view (with_pass_given view) (given_pass view)
+  splits_pass_at seat passes history view is = subst (λ x. Splits {S = S} holds seat x (with_pass_given x) (given_pass x)) (sym is) (splits_pass seat passes history)
 
   -- ---- the view after a join, and after an entry
 
   pub both_is : (worker : ℕ) (seen : List Entry) (passes : ℕ) (history : List Entry) (me : Me S Knowledge) (turn : Knowledge) (next : Me S Knowledge)
-      → me ≡ (pass_of worker seen, []) → turn ≡ turn_of passes history → next ≡ (joined me.0 turn, me.1) → next ≡ (both_of worker seen passes history, [])
+      → me ≡ (pass_of worker seen, []) → turn ≡ turn_of passes history → next ≡ (with_turn me.0 turn, me.1) → next ≡ (both_of worker seen passes history, [])
   both_is worker seen passes history me turn next me_is turn_is is =
-      is ∙ (ap (λ (x : Me S Knowledge). (joined x.0 turn, x.1)) me_is ∙ ap (λ y. (joined (pass_of worker seen) y, [])) turn_is)
+      is ∙ (ap (λ (x : Me S Knowledge). (with_turn x.0 turn, x.1)) me_is ∙ ap (λ y. (with_turn (pass_of worker seen) y, [])) turn_is)
 
   pub both_ended : (worker : ℕ) (seen : List Entry) (passes : ℕ) (history : List Entry) (me : Me S Knowledge) (pass : Knowledge) (next : Me S Knowledge)
       → me ≡ (turn_of passes history, []) → pass ≡ pass_of worker seen → next ≡ (taken_in me.0 pass, me.1) → next ≡ (both_of worker seen passes history, [])

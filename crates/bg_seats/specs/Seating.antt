@@ -63,20 +63,20 @@ list_of (view ∷ views) = view.history
 -- ---- how views change
 
 -- the turn after one pass more was given
-abbrev pub counted : Knowledge → Knowledge
-counted view = record view { turn = option_map (λ passes. passes + 1) view.turn }
+abbrev pub with_pass_given : Knowledge → Knowledge
+with_pass_given view = record view { turn = option_map (λ passes. passes + 1) view.turn }
 
 -- that pass
 abbrev pub given_pass : Knowledge → Knowledge
 given_pass view = pass_of (unwrap_or view.turn 0) view.history
 
 -- a pass that takes the turn
-abbrev pub joined : Knowledge → Knowledge → Knowledge
-joined pass turn = record { turn = turn.turn; worker = pass.worker; seen = pass.seen; history = turn.history }
+abbrev pub with_turn : Knowledge → Knowledge → Knowledge
+with_turn pass turn = record { turn = turn.turn; worker = pass.worker; seen = pass.seen; history = turn.history }
 
 -- the turn that takes in an ended pass
 abbrev pub taken_in : Knowledge → Knowledge → Knowledge
-taken_in turn pass = joined pass turn
+taken_in turn pass = with_turn pass turn
 
 -- a pass that has left the turn
 abbrev pub pass_alone : Knowledge → Knowledge

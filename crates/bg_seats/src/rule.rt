@@ -22,9 +22,9 @@ impl TableRule<u8, Knowledge, ()> for Seating {
 pub struct GivesPass;
 
 impl Split<Knowledge> for GivesPass {
-    ghost use Rattle.bg_seats.specs.Seating.{counted, given_pass};
+    ghost use Rattle.bg_seats.specs.Seating.{with_pass_given, given_pass};
 
-    ghost left = { counted };
+    ghost left = { with_pass_given };
 
     ghost right = { given_pass };
 }
@@ -33,9 +33,9 @@ impl Split<Knowledge> for GivesPass {
 pub struct TakesTurn;
 
 impl Join<Knowledge> for TakesTurn {
-    ghost use Rattle.bg_seats.specs.Seating.{joined, spent};
+    ghost use Rattle.bg_seats.specs.Seating.{with_turn, spent};
 
-    ghost both = { joined };
+    ghost both = { with_turn };
 
     ghost spent = { spent };
 }

@@ -22,7 +22,7 @@ use Rattle.bg_trees.specs.declared.statements.SynControl.{SynControl}
 use Rattle.bg_trees.specs.declared.statements.SynParam.{SynParam}
 use Rattle.bg_terms.specs.declared.shape.ControlEntry.{ControlEntry}
 use Rattle.bg_terms.specs.declared.shape.Shape.{Shape}
-use Rattle.bg_terms.specs.Expansion.{control_of, expand, meanings_of}
+use Rattle.bg_terms.specs.Expansion.{control_of_shape, expand, meanings_of}
 use Rattle.bg_terms.specs.Expressions.{Expression}
 use Rattle.bg_terms.specs.Read.{AreRead, IsRead, shapes_of}
 use Rattle.bg_terms.specs.Shapes.{AreShapes, AreOfShapes, FitsShapes}
@@ -34,7 +34,7 @@ use Rattle.bg_terms.proofs.Numbered.{bound, tested, untested}
 use Rattle.bg_terms.proofs.ShapesFit.{entered_fits}
 use Rattle.bg_values.proofs.Bindings.{ok_same}
 use Rattle.bg_values.specs.declared.refusal.Refusal.{Refusal}
-use Rattle.bg_values.specs.Names.{Entry, number_of}
+use Rattle.bg_values.specs.Names.{Entry, name_number}
 use Rattle.bg_values.specs.Parameters.{parameter_values, name_token}
 use Rattle.bg_values.specs.Reading.{number_token, number_at}
 use Rattle.bg_values.specs.Scopes.{ScopeParts, spelling}
@@ -59,7 +59,7 @@ as_many_more xs ys x y same = omega (arith, same, length-append xs (x ∷ []), l
 -- the word that the token spells is new in the table
 record IsNew {T : Type 0} (text : ScopeParts) (entries : List (Entry T)) (token : ℕ) (word : List ℕ) : Type 0 where
   spelled : spelling text token ≡ word
-  new : is_none (number_of word entries) ≡ true
+  new : is_none (name_number word entries) ≡ true
 
 none_there : {A B : Type 0} (o : Option A) (r : Result B Refusal) (e : Refusal) (y : B) → (if is_some o then Err e else r) ≡ Ok y → is_none o ≡ true
 none_there (Some x) r e y is = absurd cc
@@ -68,10 +68,10 @@ none_there None r e y is = refl
 is_new : {T : Type 0} (text : ScopeParts) (entries : List (Entry T)) (token : ℕ) (word : List ℕ) → new_word text entries token ≡ Ok word
     → IsNew text entries token word
 is_new text entries token word is =
-    let same = ok_same (untested (is_some (number_of (spelling text token) entries)) (Ok (spelling text token)) _ word is) in
+    let same = ok_same (untested (is_some (name_number (spelling text token) entries)) (Ok (spelling text token)) _ word is) in
     record {
       spelled = same;
-      new = ap (λ w. is_none (number_of w entries)) (sym same) ∙ none_there (number_of (spelling text token) entries) (Ok (spelling text token)) _ word is;
+      new = ap (λ w. is_none (name_number w entries)) (sym same) ∙ none_there (name_number (spelling text token) entries) (Ok (spelling text token)) _ word is;
     }
 
 word_spelled : (visible : Visible) (token : ℕ) (word : List ℕ) → word_at visible token ≡ Ok word → spelling visible.scope token ≡ word
@@ -141,12 +141,12 @@ rules_still shapes before after so paired = ap length so.rules_same ∙ paired �
 entered_once : (shapes : List Shape) → AreShapes shapes → (at formals : ℕ) (shape : Shape) (before after : Defined) → Mem shape shapes
     → IsSignature before.signature → AreOfShapes shapes before.signature → entered_at_once at formals shape before ≡ Ok after → Entered shapes before after
 entered_once shapes are at zero shape before after among kept of_shapes is =
-    let b = bound (entered at (control_of shape []) before.signature) (λ e. Ok (record before { signature = e.1 })) after is in
+    let b = bound (entered at (control_of_shape shape []) before.signature) (λ e. Ok (record before { signature = e.1 })) after is in
     let so = entered_fits shapes are at shape [] before.signature b.found.1 b.found.0 among kept of_shapes b.is in
     grown shapes before after b.found.1 b.goes_on so.0 so.1
 entered_once shapes are at (suc n) shape before after among kept of_shapes is = grown shapes before after before.signature is kept of_shapes
 
-module _ (before : Defined) (sound : IsSound before) (word : List ℕ) (none : is_none (number_of word before.controls) ≡ true) where
+module _ (before : Defined) (sound : IsSound before) (word : List ℕ) (none : is_none (name_number word before.controls) ≡ true) where
   shape_sound : (at formals : ℕ) (shape : Shape) → shape.word ≡ word → shape.arity ≤ most_ports → (after : Defined)
       → with_shape at word formals shape before ≡ Ok after → IsSound after
   shape_sound at formals shape named small after is =

@@ -93,7 +93,7 @@ abbrev pub Defines : {X : Type 0} → Result X Stop → Kept → Kept → (Defin
 Defines result old new statement = (d : Defined) → old ≡ kept d → Goes result new (kept_after (statement d))
 
 -- it is what is kept of some sound definitions
-pub record IsKept (k : Kept) : Type 0 where
+pub record IsKeptOfSound (k : Kept) : Type 0 where
   pub defined : Defined
   pub sound : IsSound defined
   pub is : k ≡ kept defined

@@ -47,12 +47,12 @@ pub record RuleExpression : Type 0 where
 -- ---- the map: `@ [1, 0]`
 
 -- an entry; all from 4,294,967,295 on are alike, since no bigraph has so many sites
-abbrev pub entry_at : ScopeParts → SynNumber → Result ℕ Refusal
-entry_at text tree = number_at text (number_token tree) >>= λ z. Ok (min (nat_abs z) 4294967295)
+abbrev pub map_entry_at : ScopeParts → SynNumber → Result ℕ Refusal
+map_entry_at text tree = number_at text (number_token tree) >>= λ z. Ok (min (nat_abs z) 4294967295)
 
 -- these entries and one more
 abbrev pub with_entry : ScopeParts → SynNumber → List ℕ → Result (List ℕ) Refusal
-with_entry text tree done = entry_at text tree >>= λ entry. Ok (done ++ entry ∷ [])
+with_entry text tree done = map_entry_at text tree >>= λ entry. Ok (done ++ entry ∷ [])
 
 -- these entries and those of the items
 abbrev pub with_entries : ScopeParts → List SynMoreNumItem → List ℕ → Result (List ℕ) Refusal

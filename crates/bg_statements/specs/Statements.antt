@@ -23,7 +23,7 @@ use Rattle.bg_trees.specs.declared.statements.SynReact.{SynReact}
 use Rattle.bg_trees.specs.declared.statements.SynStmt.{SynStmt}
 use Rattle.bg_trees.specs.declared.statements.SynStmt.TheVariants as statements
 use Rattle.bg_terms.specs.declared.shape.Shape.{Shape}
-use Rattle.bg_terms.specs.Expansion.{control_of, expand, meanings_of}
+use Rattle.bg_terms.specs.Expansion.{control_of_shape, expand, meanings_of}
 use Rattle.bg_terms.specs.Expressions.{Expression}
 use Rattle.bg_terms.specs.Read.{shapes_of}
 use Rattle.bg_terms.specs.Trees.{word_at, e_read}
@@ -31,7 +31,7 @@ use Rattle.bg_terms.specs.Values.{entered}
 use Rattle.bg_values.specs.declared.refusal.Refusal.{Refusal}
 use Rattle.bg_values.specs.declared.refusal.LimitWord.TheVariants.{Arity}
 use Rattle.bg_values.specs.declared.refusal.Cause.TheVariants.{DuplicateName, TooLarge}
-use Rattle.bg_values.specs.Names.{Entry, number_of}
+use Rattle.bg_values.specs.Names.{Entry, name_number}
 use Rattle.bg_values.specs.Outcome.{◌>>=◌, refused}
 use Rattle.bg_values.specs.Parameters.{parameter_values, name_token}
 use Rattle.bg_values.specs.Reading.{number_at, number_token}
@@ -40,7 +40,7 @@ use Rattle.bg_values.specs.Scopes.{ScopeParts, spelling}
 -- the word that the token spells, which no name of the space is yet
 abbrev pub new_word : {T : Type 0} → ScopeParts → List (Entry T) → ℕ → Result (List ℕ) Refusal
 new_word text entries token =
-    if is_some (number_of (spelling text token) entries) then refused DuplicateName token else Ok (spelling text token)
+    if is_some (name_number (spelling text token) entries) then refused DuplicateName token else Ok (spelling text token)
 
 -- the formals with one more, which does not repeat
 abbrev pub with_formal : ScopeParts → ℕ → List (Entry (Unit {0})) → Result (List (Entry (Unit {0}))) Refusal
@@ -67,7 +67,7 @@ arity_at text token = number_at text token >>= λ z. if nat_lt most_ports (nat_a
 
 -- a control without formals enters the signature at its statement
 abbrev pub entered_at_once : ℕ → ℕ → Shape → Defined → Result Defined Refusal
-entered_at_once at zero shape d = entered at (control_of shape []) d.signature >>= λ e. Ok (record d { signature = e.1 })
+entered_at_once at zero shape d = entered at (control_of_shape shape []) d.signature >>= λ e. Ok (record d { signature = e.1 })
 entered_at_once at (suc n) shape d = Ok d
 
 -- a control with so many formals and that shape

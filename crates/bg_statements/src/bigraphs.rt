@@ -14,13 +14,13 @@ use std::mem::replace;
 impl Definitions {
     ghost use Rattle.std.specs.Prelude.{◌≡◌, IsNone};
     ghost use Rattle.bg_code.specs.Code.{code_of};
-    ghost use Rattle.bg_code.specs.Lowering.{Reads};
+    ghost use Rattle.bg_code.specs.Lowering.{GivesOperations};
     ghost use Rattle.bg_statements.specs.Calls.{Defines, kept, kept_after};
     ghost use Rattle.bg_statements.specs.Defined.{Defined, visible_with};
     ghost use Rattle.bg_statements.specs.Statements as definition;
     ghost use Rattle.bg_terms.specs.Expressions.{Expression};
     ghost use Rattle.bg_terms.specs.Trees.{e_read};
-    ghost use Rattle.bg_values.specs.Names.{number_of};
+    ghost use Rattle.bg_values.specs.Names.{name_number};
     ghost use Rattle.bg_values.specs.Outcome.{Goes};
 
     /// A bigraph. It refuses with the first cause: 42 at its name where it is there, 42 at a formal that repeats, then
@@ -48,7 +48,7 @@ impl Definitions {
         formals: &NameTable<()>,
         tree: &SynE,
     ) -> Result<Vec<Operation>, Stop>
-        ensures { (d : Defined) → self.now ≡ kept d → Reads result ((e_read tree.now).1 (visible_with text.now formals.now d)) }
+        ensures { (d : Defined) → self.now ≡ kept d → GivesOperations result ((e_read tree.now).1 (visible_with text.now formals.now d)) }
     {
         let visible = Visible {
             scope: Scope {
@@ -70,7 +70,7 @@ impl Definitions {
         formals: u32,
         code: Vec<Operation>,
     ) -> Result<(), Stop>
-        requires new { IsNone (number_of word.now self.old.bigraphs) }
+        requires new { IsNone (name_number word.now self.old.bigraphs) }
         ensures { (d : Defined) (e : Expression) → self.old ≡ kept d → code.items ≡ code_of e
             → Goes result self.new (kept_after (definition.with_expression word.now formals e d)) }
     {

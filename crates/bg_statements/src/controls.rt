@@ -22,7 +22,7 @@ impl Definitions {
     ghost use Rattle.bg_statements.specs.Defined.{Defined, visible_with};
     ghost use Rattle.bg_statements.specs.Statements as definition;
     ghost use Rattle.bg_terms.specs.Trees.{word_at};
-    ghost use Rattle.bg_values.specs.Names.{number_of};
+    ghost use Rattle.bg_values.specs.Names.{name_number};
     ghost use Rattle.bg_values.specs.Outcome.{Gives};
 
     /// A control of that kind. It refuses with the first cause: 42 at its name where it is there, 42 at a formal that
@@ -85,7 +85,7 @@ impl Definitions {
         shape: Shape,
     ) -> Result<(), Stop>
         requires small { shape.arity ≤ most_ports }
-        requires new { IsNone (number_of word.now self.old.controls) }
+        requires new { IsNone (name_number word.now self.old.controls) }
         ensures { Defines result self.old self.new (definition.with_shape at word.now formals shape) }
     {
         if formals == 0 {

@@ -150,7 +150,7 @@ fn add_entry(text: &Scope, tree: &SynNumber, entries: &mut Vec<u32>) -> Result<(
 
 /// An entry of a map. One that 32 bits do not number is no site of any bigraph, and all those are alike.
 fn entry_at(text: &Scope, tree: &SynNumber) -> Result<u32, Refusal>
-    ensures { result ≡ definition.entry_at text.now tree.now }
+    ensures { result ≡ definition.map_entry_at text.now tree.now }
 {
     let number = number_at(text, number_token(tree))?;
     Ok(cut(number.unsigned_abs()))

@@ -28,7 +28,7 @@ impl Definitions {
     ghost use Rattle.bg_statements.specs.Defined.{Defined, visible_with};
     ghost use Rattle.bg_statements.specs.Rules.{RuleExpression, rule_read};
     ghost use Rattle.bg_statements.specs.Statements as definition;
-    ghost use Rattle.bg_values.specs.Names.{number_of};
+    ghost use Rattle.bg_values.specs.Names.{name_number};
     ghost use Rattle.bg_values.specs.Outcome.{Goes};
 
     /// A rule. It refuses with the first cause: 42 at its name where it is there, 42 at a formal that repeats, then the
@@ -81,7 +81,7 @@ impl Definitions {
         formals: u32,
         code: RuleCode,
     ) -> Result<(), Stop>
-        requires new { IsNone (number_of word.now self.old.rules) }
+        requires new { IsNone (name_number word.now self.old.rules) }
         ensures { (d : Defined) (rule : RuleExpression) → self.old ≡ kept d → code ≡ rule_code rule
             → Goes result self.new (kept_after (definition.with_rule_expression word.now formals rule d)) }
     {
@@ -97,7 +97,7 @@ impl Definitions {
         formals: u32,
         code: RuleCode,
     ) -> Result<(), Stop>
-        requires new { IsNone (number_of word.now self.old.rules) }
+        requires new { IsNone (name_number word.now self.old.rules) }
         ensures { (d : Defined) (rule : RuleExpression) → self.old ≡ kept d → code ≡ rule_code rule
             → Goes result self.new (Ok (kept (definition.and_rule word.now formals rule d))) }
     {

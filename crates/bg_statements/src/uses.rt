@@ -48,18 +48,18 @@ pub struct Uses {
 }
 
 impl Model for Uses {
-    ghost use Rattle.bg_statements.specs.Calls.{IsKept, Kept};
+    ghost use Rattle.bg_statements.specs.Calls.{IsKeptOfSound, Kept};
 
     ghost Value = { Kept };
 
     ghost view = { λ uses. uses.definitions };
 
-    ghost invariant = { λ uses. IsKept uses.definitions };
+    ghost invariant = { λ uses. IsKeptOfSound uses.definitions };
 }
 
 impl Uses {
     ghost use Rattle.std.specs.Prelude.{◌≡◌, IfOk};
-    ghost use Rattle.bg_statements.specs.Calls.{IsKept, coded_setting, kept, kept_after};
+    ghost use Rattle.bg_statements.specs.Calls.{IsKeptOfSound, coded_setting, kept, kept_after};
     ghost use Rattle.bg_statements.specs.Defined.{Defined};
     ghost use Rattle.bg_statements.specs.Settings.{IsWholeValue};
     ghost use Rattle.bg_statements.specs.Uses as definition;
@@ -84,7 +84,7 @@ impl Uses {
     /// The names that the block may use.
     pub fn spaces(&self) -> NameSpaces<'_>
         ensures same { result ≡ record { bigraphs = self.now.bigraphs; rules = self.now.rules; parameters = self.now.parameters } }
-        ensures kept { IsKept self.now }
+        ensures kept { IsKeptOfSound self.now }
     {
         NameSpaces {
             bigraphs: &self.definitions.bigraphs,
@@ -96,7 +96,7 @@ impl Uses {
     /// The controls that the statements have met.
     pub fn signature(&self) -> &Signature
         ensures same { result.now ≡ self.now.signature }
-        ensures kept { IsKept self.now }
+        ensures kept { IsKeptOfSound self.now }
     {
         &self.definitions.signature
     }
@@ -189,7 +189,7 @@ impl Uses {
     /// The codes of the bigraphs.
     fn codes(&self) -> &[Rows<Operation>]
         ensures same { result.now ≡ self.now.codes }
-        ensures kept { IsKept self.now }
+        ensures kept { IsKeptOfSound self.now }
     {
         self.definitions.codes.as_slice()
     }
@@ -197,7 +197,7 @@ impl Uses {
     /// The codes of the rules.
     fn rule_codes(&self) -> &[RuleCode]
         ensures same { result.now ≡ self.now.rule_codes }
-        ensures kept { IsKept self.now }
+        ensures kept { IsKeptOfSound self.now }
     {
         self.definitions.rule_codes.as_slice()
     }

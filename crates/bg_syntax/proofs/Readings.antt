@@ -18,7 +18,7 @@ use Rattle.bg_syntax.specs.Grammar.{grammar}
 use Rattle.bg_syntax.specs.Plan.{plan}
 use Rattle.bg_syntax.specs.Steps.{Steps, in_turn}
 use Rattle.bg_syntax.specs.Models.{kinds}
-use Rattle.bg_syntax.specs.Reading.{wants, wants_token, Moves, Loops, Fails, fails_unexpected, fails_deep, fails_memory, Chooses, Reads, ReadsItem}
+use Rattle.bg_syntax.specs.Reading.{wants, wants_token, Moves, Loops, Fails, fails_unexpected, fails_deep, fails_memory, Chooses, ReadsSymbol, ReadsItem}
 use Rattle.bg_syntax.proofs.Fits.{plan_fits}
 use Rattle.bg_base.specs.Limits.{most_levels}
 
@@ -187,7 +187,7 @@ pub moves_same : {ts : List Token} {n m : ℕ} {w : List Expected} {ss us : List
 moves_same {ts} {n} {m} {w} e a = subst (λ z. Moves ts n w z m) (sym e) a
 
 -- what `?` leaves
-pub err_exit : {X : Type 0} {ts : List Token} {n : ℕ} {w : List Expected} {e : SyntaxFault} (steps : X → List Step) (m : ℕ) (r : Result X SyntaxFault) → IsErrAnd r (λ f. f ≡ e) → Fails ts n w e → Reads steps ts n w m r
+pub err_exit : {X : Type 0} {ts : List Token} {n : ℕ} {w : List Expected} {e : SyntaxFault} (steps : X → List Step) (m : ℕ) (r : Result X SyntaxFault) → IsErrAnd r (λ f. f ≡ e) → Fails ts n w e → ReadsSymbol steps ts n w m r
 err_exit steps m (Ok x) h f = absurd h
 err_exit {ts} {n} {w} steps m (Err g) h f = subst (λ z. Fails ts n w z) (sym h) f
 

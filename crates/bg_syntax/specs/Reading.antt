@@ -50,9 +50,9 @@ pub record Chooses (tokens : List Token) (n : ℕ) (head : Symbol) (way : ℕ) :
   pub known : way < length (ways_of grammar (symbol_number head))
 
 -- what a function that reads a symbol answers
-abbrev pub Reads : {X : Type 0} → (X → List Step) → List Token → ℕ → List Expected → ℕ → Result X SyntaxFault → Type 0
-Reads steps tokens n parts m (Ok x) = Moves tokens n parts (steps x) m
-Reads steps tokens n parts m (Err fault) = Fails tokens n parts fault
+abbrev pub ReadsSymbol : {X : Type 0} → (X → List Step) → List Token → ℕ → List Expected → ℕ → Result X SyntaxFault → Type 0
+ReadsSymbol steps tokens n parts m (Ok x) = Moves tokens n parts (steps x) m
+ReadsSymbol steps tokens n parts m (Err fault) = Fails tokens n parts fault
 
 -- an item of a list, which takes at least one token; or the end of the list
 abbrev pub ReadsOption : {X : Type 0} → (X → List Step) → List Token → ℕ → ℕ → Symbol → List Step → ℕ → Option X → Type 0

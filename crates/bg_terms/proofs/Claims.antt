@@ -36,7 +36,7 @@ use Rattle.bg_terms.specs.declared.shape.BinaryOperation.TheVariants.{Compositio
 use Rattle.bg_terms.specs.Expressions.{Expression, node, reference, names, identity_of, merger_of, barren, empty, brackets, deeper, closure, nesting, binary}
 use Rattle.bg_terms.specs.Trees.{Visible, Reading, Behind, Onward, arguments, listed_tokens, ports_of, id_names, word_at, words_at, width_at}
 use Rattle.bg_terms.specs.Trees.{node_of, node_read, reference_of, reference_read, id_read, names_read, merger_read}
-use Rattle.bg_terms.specs.Trees.{brackets_read, closure_read, deeper_read, nested_read, along, joined}
+use Rattle.bg_terms.specs.Trees.{brackets_read, closure_read, deeper_read, nested_read, items_read, binary_read}
 use Rattle.bg_terms.specs.Trees.{a_read, k_read, n1_read, c_read, c1_item_read, e_read, e1_item_read, m_read, m1_item_read, n_read, p_read, p1_item_read}
 use Rattle.bg_terms.proofs.Made.{a_made, k_made, n1_made, c_made, c1_item_made, e_made, e1_item_made, m_made, m1_item_made, n_made, p_made, p1_item_made}
 
@@ -161,16 +161,16 @@ module _ (visible : Visible) (P : Expression → Type 0) (kept : IsKept visible 
   nested_says is_atom (Some behind) so e p = then_so P P (behind.1.1 visible) _ so (λ d q. kept.in_nesting behind.0 is_atom e d p q)
   nested_says is_atom None so e p = p
 
-  joined_says : (kind : BinaryOperation) (at : ℕ) (right : Reading) → Says right.1 → Keeps (joined kind at right)
+  joined_says : (kind : BinaryOperation) (at : ℕ) (right : Reading) → Says right.1 → Keeps (binary_read kind at right)
   joined_says kind at right so e p = then_so P P (right.1 visible) _ so (λ d q. kept.in_binary kind at e d p q)
 
-  items_say : {X : Type 0} (read : X → Onward) (items : List ((x : X) × Keeps (read x))) → Keeps (along (map read (map (λ w. w.0) items)))
+  items_say : {X : Type 0} (read : X → Onward) (items : List ((x : X) × Keeps (read x))) → Keeps (items_read (map read (map (λ w. w.0) items)))
   items_say read [] e p = p
   items_say read (w ∷ items) e p = then_so P P (read w.0 visible e) _ (w.1 e p) (λ d q. items_say read items d q)
 
   -- a tree with the items of its list
   row_says : {X : Type 0} (first : Reading) (read : X → Onward) (items : List ((x : X) × Keeps (read x))) → Says first.1
-      → IfOk (first.1 visible >>= along (map read (map (λ w. w.0) items)) visible) P
+      → IfOk (first.1 visible >>= items_read (map read (map (λ w. w.0) items)) visible) P
   row_says first read items so = then_so P P (first.1 visible) _ so (λ e p. items_say read items e p)
 
   -- ---- the trees, each with the claim for its parts

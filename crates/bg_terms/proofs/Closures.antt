@@ -18,7 +18,7 @@ use Rattle.bg_terms.specs.declared.shape.BinaryOperation.{BinaryOperation}
 use Rattle.bg_terms.specs.declared.shape.BinaryOperation.TheVariants.{Composition, Tensor, Parallel, Merge}
 use Rattle.bg_terms.specs.Terms as terms
 use Rattle.bg_terms.specs.Terms.{Term}
-use Rattle.bg_terms.specs.Values.{Reached, value, tallied, entered, within, single, wide, plain_names, nested, combined, closed, inner_meets, outer_meets}
+use Rattle.bg_terms.specs.Values.{Reached, value, tallied, entered, within, single, wide, plain_names, nested, combined, name_closed, inner_meets, outer_meets}
 use Rattle.bg_terms.specs.Numbering.{closures, AreEdgesWithin}
 use Rattle.bg_terms.proofs.Edges.{tensor_edges, parallel_edges, merge_edges, compose_edges, nest_edges, closed_edges}
 use Rattle.bg_terms.proofs.Numbered.{bound, tested, untested, Same, within_same, nested_same}
@@ -107,13 +107,13 @@ within_closures depth (terms.deeper at t) c d big is = within_closures (depth + 
 within_closures depth (terms.closure at word t) c d big is =
     let first = bound (value depth t (record c { edges = c.edges + 1 })) _ (big, d) is in
     let inside = within_closures depth t (record c { edges = c.edges + 1 }) first.found.1 first.found.0 first.is in
-    placed c.edges (1 + closures t) (closed c.edges (Plain word) first.found.0) big first.found.1 d
+    placed c.edges (1 + closures t) (name_closed c.edges (Plain word) first.found.0) big first.found.1 d
     (λ edge m. ⊎_elim
     (λ own. (omega (arith, own), omega (arith, own)))
     (λ other. (omega (arith, inside.from_there edge other), omega (arith, inside.below edge other)))
     (closed_edges c.edges (Plain word) first.found.0 edge m))
     (omega (arith, inside.next))
-    (within_same at (closed c.edges (Plain word) first.found.0) big first.found.1 d first.goes_on)
+    (within_same at (name_closed c.edges (Plain word) first.found.0) big first.found.1 d first.goes_on)
 within_closures depth (terms.nesting at is_atom t u) c d big is =
     let first = bound (value depth t c) _ (big, d) is in
     let f = within_closures depth t c first.found.1 first.found.0 first.is in

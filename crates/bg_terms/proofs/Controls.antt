@@ -7,7 +7,7 @@ use Rattle.std.specs.Cmp.Lexicographic.{other_text}
 use Rattle.bg_lists.specs.Lists.{Mem, here, there}
 use Rattle.bg_lists.proofs.Members.{Mem-append_cases, Mem-map, Mem-unmap}
 use Rattle.bg_lists.proofs.Words.{All-from_members}
-use Rattle.bg_values.specs.Names.{Entry, number_of, same_word, words}
+use Rattle.bg_values.specs.Names.{Entry, name_number, same_word, words}
 use Rattle.bg_terms.specs.declared.shape.ControlEntry.{ControlEntry}
 use Rattle.bg_terms.specs.declared.shape.Shape.{Shape}
 use Rattle.bg_terms.specs.Read.{shapes_of, AreControls}
@@ -43,11 +43,11 @@ is_none_from : {X : Type 0} (o : Option X) → is_none o ≡ true → o ≡ None
 is_none_from None is = refl
 is_none_from (Some x) is = absurd cc
 
-word_new : (word : List ℕ) (controls : List (Entry ControlEntry)) → is_none (number_of word controls) ≡ true
+word_new : (word : List ℕ) (controls : List (Entry ControlEntry)) → is_none (name_number word controls) ≡ true
     → (control : Entry ControlEntry) → Mem control controls → control.0 ≡ word → ⊥
 word_new word controls none control m same =
     other_text word control.0
-    (sym (none_passes (same_word word) (words controls) (is_none_from (number_of word controls) none) control.0 (Mem-map (λ (e : Entry ControlEntry). e.0) m))) (sym same)
+    (sym (none_passes (same_word word) (words controls) (is_none_from (name_number word controls) none) control.0 (Mem-map (λ (e : Entry ControlEntry). e.0) m))) (sym same)
 
 -- ---- one more control
 
@@ -59,7 +59,7 @@ pub controls_none : AreControls []
 controls_none = record { named = λ control m. elim m [ ]; small = λ control m. elim m [ ]; once = λ x y m n same. elim m [ ] }
 
 module _ (controls : List (Entry ControlEntry)) (word : List ℕ) (entry : ControlEntry) (are : AreControls controls)
-    (none : is_none (number_of word controls) ≡ true) (named : entry.shape.word ≡ word) (small : entry.shape.arity ≤ most_ports) where
+    (none : is_none (name_number word controls) ≡ true) (named : entry.shape.word ≡ word) (small : entry.shape.arity ≤ most_ports) where
   abbrev last : Entry ControlEntry
   last = (word, entry)
 

@@ -12,7 +12,7 @@ use Rattle.bg_base.specs.Bigraph.{outer_of}
 use Rattle.bg_base.specs.Elementary.{identity}
 use Rattle.bg_base.specs.Composition.{compose}
 use Rattle.bg_base.specs.Products.{tensor, parallel, merge, nest, close}
-use Rattle.bg_terms.specs.Values.{closed}
+use Rattle.bg_terms.specs.Values.{name_closed}
 
 in_sorted : (edge : ℕ) (xs ys : List ℕ) → Mem edge (sort (before nat_cmp) (xs ++ ys)) → Mem edge xs ⊎ Mem edge ys
 in_sorted edge xs ys m = Mem-append_cases xs ys (Mem-unsort (before nat_cmp) (xs ++ ys) m)
@@ -47,7 +47,7 @@ close_edges : (f : Big) (name : Name) (number edge : ℕ) → Mem edge (close f 
 unfolding close
 close_edges f name number edge m = Mem-unput (before nat_cmp) number f.edges m
 
-pub closed_edges : (number : ℕ) (name : Name) (f : Big) (edge : ℕ) → Mem edge (closed number name f).edges → (number ≡ edge) ⊎ Mem edge f.edges
+pub closed_edges : (number : ℕ) (name : Name) (f : Big) (edge : ℕ) → Mem edge (name_closed number name f).edges → (number ≡ edge) ⊎ Mem edge f.edges
 closed_edges number name f edge = by (is_some (outer_of f.outer name))
   where
     by : (b : Bool) → Mem edge (if b then close f name number else f).edges → (number ≡ edge) ⊎ Mem edge f.edges

@@ -23,7 +23,7 @@ use Rattle.bg_base.specs.Bigraph.{IsValidUnder, row_of, outer_of, arity_of, is_a
 use Rattle.bg_base.specs.Composition.{compose, faces_agree, SupportsApart}
 use Rattle.bg_base.specs.Elementary.{identity, merger, idle, barren, empty}
 use Rattle.bg_base.specs.Products.{tensor, parallel, merge, close}
-use Rattle.bg_base.specs.Signatures.{IsSignature, number_of}
+use Rattle.bg_base.specs.Signatures.{IsSignature, control_number}
 use Rattle.bg_base.proofs.LookUps.{row_from_row_of}
 use Rattle.bg_base.proofs.SignatureLaws.{one_more_control}
 use Rattle.bg_base.proofs.ComposedValid.{compose_valid_under}
@@ -42,7 +42,7 @@ use Rattle.bg_terms.specs.declared.shape.BinaryOperation.TheVariants.{Compositio
 use Rattle.bg_terms.specs.Order.{controls_of}
 use Rattle.bg_terms.specs.Terms as terms
 use Rattle.bg_terms.specs.Terms.{Term}
-use Rattle.bg_terms.specs.Values.{Reached, value, tallied, entered, entered_at, single, wide, plain_names, nested, combined, closed, inner_meets, outer_meets}
+use Rattle.bg_terms.specs.Values.{Reached, value, tallied, entered, entered_at, single, wide, plain_names, nested, combined, name_closed, inner_meets, outer_meets}
 use Rattle.bg_terms.proofs.Closures.{within_closures}
 use Rattle.bg_terms.proofs.Labels.{found}
 use Rattle.bg_terms.proofs.Numbered.{bound, tested, Same, within_same}
@@ -105,7 +105,7 @@ last_where b old control r = if b then Ok (length old, old ++ control ∷ []) el
 
 -- a control that enters last
 entry_last : (all : List Control) (control : Control) (old : List Control) (number : ℕ) (after : List Control) → IsSignature old → control.arity ≤ most_ports
-    → Within old all → Mem control all → number_of old control.label ≡ None → (b : Bool) → nat_lt (length old) most_controls ≡ b → (r : Refusal)
+    → Within old all → Mem control all → control_number old control.label ≡ None → (b : Bool) → nat_lt (length old) most_controls ≡ b → (r : Refusal)
     → last_where b old control r ≡ Ok (number, after) → Entry all control number after
 entry_last all control old number after kept small inside member new false room r e = absurd cc
 entry_last all control old number after kept small inside member new true room r e =
@@ -127,9 +127,9 @@ entry_last all control old number after kept small inside member new true room r
 pub enters : (all : List Control) (at : ℕ) (control : Control) (old : List Control) (number : ℕ) (after : List Control) → AreOneByLabel all
     → IsSignature old → control.arity ≤ most_ports → Within old all → Mem control all → entered at control old ≡ Ok (number, after)
     → Entry all control number after
-enters all at control old number after one kept small inside member is = by (number_of old control.label) refl is
+enters all at control old number after one kept small inside member is = by (control_number old control.label) refl is
   where
-    by : (o : Option ℕ) → number_of old control.label ≡ o → entered_at at control old o ≡ Ok (number, after) → Entry all control number after
+    by : (o : Option ℕ) → control_number old control.label ≡ o → entered_at at control old o ≡ Ok (number, after) → Entry all control number after
     by (Some found_at) known e =
         let there_already = found old control.label found_at known in
         let pair : (found_at, old) ≡ (number, after) = ok_same e in
@@ -196,7 +196,7 @@ combined_fits signature Merge at f g whole made f_fits g_fits apart = by _ (inne
         (merge_valid_under f g f_fits.valid g_fits.valid apart (inner_apart f g ae) signature f_fits g_fits)
 
 closed_fits : (signature : List Control) (number : ℕ) (name : Name) (f : Big) → IsValidUnder signature f → (Mem number f.edges → ⊥)
-    → IsValidUnder signature (closed number name f)
+    → IsValidUnder signature (name_closed number name f)
 closed_fits signature number name f fits new = by (is_some (outer_of f.outer name))
   where
     by : (b : Bool) → IsValidUnder signature (if b then close f name number else f)
@@ -271,10 +271,10 @@ module _ (all : List Control) (one : AreOneByLabel all) where
       let start : Reached = record c { edges = c.edges + 1 } in
       let first = bound (value depth t start) _ (big, d) is in
       let f = first.found.0 in
-      let same = within_same at (closed c.edges (Plain word) f) big first.found.1 d first.goes_on in
+      let same = within_same at (name_closed c.edges (Plain word) f) big first.found.1 d first.goes_on in
       let edges = within_closures depth t start first.found.1 f first.is in
       let so = fitting depth t start first.found.1 f first.is kept arities inside symbols in
-      fitting_same all first.found.1.signature d.signature (closed c.edges (Plain word) f) big
+      fitting_same all first.found.1.signature d.signature (name_closed c.edges (Plain word) f) big
       (record {
         fits = closed_fits first.found.1.signature c.edges (Plain word) f so.fits (λ m. omega (arith, edges.from_there c.edges m));
         kept = so.kept;

@@ -8,7 +8,7 @@ use Rattle.bg_base.specs.declared.labels.Value.{Value}
 use Rattle.bg_base.specs.declared.signature.Control.{Control}
 use Rattle.bg_base.specs.Signatures.{IsSignature}
 use Rattle.bg_trees.specs.declared.expressions.SynE.{SynE}
-use Rattle.bg_values.specs.Names.{Entry, number_of}
+use Rattle.bg_values.specs.Names.{Entry, name_number}
 use Rattle.bg_terms.specs.declared.shape.ControlEntry.{ControlEntry}
 use Rattle.bg_terms.specs.declared.shape.Shape.{Shape}
 use Rattle.bg_terms.specs.Expansion.{expand, meanings_of}
@@ -46,7 +46,7 @@ pub read_none : AreRead [] []
 read_none = record { table = controls_none; each = λ e m. elim m [ ] }
 
 pub read_control : (controls : List (Entry ControlEntry)) (definitions : List Expression) (word : List ℕ) (entry : ControlEntry) → AreRead controls definitions
-    → is_none (number_of word controls) ≡ true → entry.shape.word ≡ word → entry.shape.arity ≤ most_ports → AreRead (controls ++ (word, entry) ∷ []) definitions
+    → is_none (name_number word controls) ≡ true → entry.shape.word ≡ word → entry.shape.arity ≤ most_ports → AreRead (controls ++ (word, entry) ∷ []) definitions
 read_control controls definitions word entry are none named small = record {
   table = controls_more controls word entry are.table none named small;
   each = λ e m. subst (λ s. IsRead s e) (sym (map-append (λ (control : Entry ControlEntry). control.1.shape) controls ((word, entry) ∷ [])))

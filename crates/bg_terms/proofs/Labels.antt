@@ -3,7 +3,7 @@ use Rattle.std.proofs.Common.{◌≡◌, ◌++◌, ◌∷◌, [], ℕ, suc, Bool
 use Rattle.std.specs.Prelude.{if◌then◌else◌, slice_get, option_map}
 use Rattle.bg_base.specs.declared.labels.Label.{Label}
 use Rattle.bg_base.specs.declared.signature.Control.{Control}
-use Rattle.bg_base.specs.Signatures.{same_label, number_of}
+use Rattle.bg_base.specs.Signatures.{same_label, control_number}
 use Rattle.bg_base.proofs.ValueLaws.{same_label_from_test}
 use Rattle.bg_values.proofs.Items.{still_at}
 use Rattle.bg_terms.specs.Order.{label_at}
@@ -14,22 +14,22 @@ pub record Found (controls : List Control) (label : Label) (number : ℕ) : Type
   pub there : slice_get controls number ≡ Some control
   pub labelled : control.label ≡ label
 
-pub found : (controls : List Control) (label : Label) (number : ℕ) → number_of controls label ≡ Some number → Found controls label number
+pub found : (controls : List Control) (label : Label) (number : ℕ) → control_number controls label ≡ Some number → Found controls label number
 found [] label number is = absurd cc
 found (c ∷ cs) label number is = by (found cs label) (same_label c.label label) refl is
   where
-    deeper : ((n : ℕ) → number_of cs label ≡ Some n → Found cs label n) → (o : Option ℕ) → number_of cs label ≡ o → option_map suc o ≡ Some number → Found (c ∷ cs) label number
+    deeper : ((n : ℕ) → control_number cs label ≡ Some n → Found cs label n) → (o : Option ℕ) → control_number cs label ≡ o → option_map suc o ≡ Some number → Found (c ∷ cs) label number
     deeper others None there e = absurd cc
     deeper others (Some m) there e =
         let rest = others m there in
         let same : suc m ≡ number = cc in
         record { control = rest.control; there = subst (λ k. slice_get (c ∷ cs) k ≡ Some rest.control) same rest.there; labelled = rest.labelled }
 
-    by : ((n : ℕ) → number_of cs label ≡ Some n → Found cs label n) → (b : Bool) → same_label c.label label ≡ b → (if b then Some 0 else option_map suc (number_of cs label)) ≡ Some number → Found (c ∷ cs) label number
+    by : ((n : ℕ) → control_number cs label ≡ Some n → Found cs label n) → (b : Bool) → same_label c.label label ≡ b → (if b then Some 0 else option_map suc (control_number cs label)) ≡ Some number → Found (c ∷ cs) label number
     by others true same e =
         let first : 0 ≡ number = cc in
         record { control = c; there = subst (λ k. slice_get (c ∷ cs) k ≡ Some c) first refl; labelled = same_label_from_test c.label label same }
-    by others false same e = deeper others (number_of cs label) refl e
+    by others false same e = deeper others (control_number cs label) refl e
 
 -- a label keeps its number when a signature goes on
 pub still_labelled : (controls more : List Control) (number : ℕ) (label : Label) → label_at controls number ≡ Some label

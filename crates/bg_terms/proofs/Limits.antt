@@ -11,7 +11,7 @@ use Rattle.bg_values.specs.declared.refusal.Refusal.{Refusal}
 use Rattle.bg_values.proofs.Bindings.{ok_same}
 use Rattle.bg_terms.specs.Terms as terms
 use Rattle.bg_terms.specs.Terms.{Term}
-use Rattle.bg_terms.specs.Values.{Reached, value, tallied, entered, limited, within, single, wide, plain_names, nested, combined, closed}
+use Rattle.bg_terms.specs.Values.{Reached, value, tallied, entered, limited, within, single, wide, plain_names, nested, combined, name_closed}
 use Rattle.bg_terms.proofs.Numbered.{bound, tested}
 
 -- no more nodes, edges, regions and sites than are allowed
@@ -80,7 +80,7 @@ value_limited depth (terms.counted at t) c d big is =
 value_limited depth (terms.deeper at t) c d big is = value_limited (depth + 1) t c d big (tested _ _ _ _ is)
 value_limited depth (terms.closure at word t) c d big is =
     let first = bound (value depth t (record c { edges = c.edges + 1 })) _ (big, d) is in
-    within_says at (closed c.edges (Plain word) first.found.0) big first.found.1 d first.goes_on
+    within_says at (name_closed c.edges (Plain word) first.found.0) big first.found.1 d first.goes_on
 value_limited depth (terms.nesting at is_atom t u) c d big is =
     let first = bound (value depth t c) _ (big, d) is in
     let second = bound (value depth u first.found.1) _ (big, d) first.goes_on in

@@ -20,7 +20,7 @@ use Rattle.bg_terms.specs.declared.shape.BinaryOperation.{BinaryOperation}
 use Rattle.bg_terms.specs.declared.shape.BinaryOperation.TheVariants.{Composition, Tensor, Parallel, Merge}
 use Rattle.bg_terms.specs.Terms as terms
 use Rattle.bg_terms.specs.Terms.{Term}
-use Rattle.bg_terms.specs.Values.{Reached, value, tallied, entered, limited, within, single, wide, plain_names, nested, combined, closed}
+use Rattle.bg_terms.specs.Values.{Reached, value, tallied, entered, limited, within, single, wide, plain_names, nested, combined, name_closed}
 use Rattle.bg_terms.specs.Numbering.{symbols, AreNumbered}
 use Rattle.bg_terms.proofs.Numbers.{tensor_numbers, parallel_numbers, merge_numbers, compose_numbers, nest_numbers, close_numbers}
 
@@ -87,7 +87,7 @@ unfolding counted
 bare at big whole c t d numbers same is =
     made c.nodes 0 big whole t d numbers (omega (arith, same)) (within_same at big whole t d is)
 
-closed_numbers : (edge : ℕ) (name : Name) (big : Big) → node_numbers (closed edge name big).nodes ≡ node_numbers big.nodes
+closed_numbers : (edge : ℕ) (name : Name) (big : Big) → node_numbers (name_closed edge name big).nodes ≡ node_numbers big.nodes
 closed_numbers edge name big = by (is_some (outer_of big.outer name))
   where
     by : (b : Bool) → node_numbers (if b then close big name edge else big).nodes ≡ node_numbers big.nodes
@@ -158,9 +158,9 @@ numbered depth (terms.deeper at t) c d big is = numbered (depth + 1) t c d big (
 numbered depth (terms.closure at word t) c d big is =
     let first = bound (value depth t (record c { edges = c.edges + 1 })) _ (big, d) is in
     let inside = numbered depth t (record c { edges = c.edges + 1 }) first.found.1 first.found.0 first.is in
-    made c.nodes (symbols t) (closed c.edges (Plain word) first.found.0) big first.found.1 d
+    made c.nodes (symbols t) (name_closed c.edges (Plain word) first.found.0) big first.found.1 d
     (closed_numbers c.edges (Plain word) first.found.0 ∙ inside.numbers) inside.next
-    (within_same at (closed c.edges (Plain word) first.found.0) big first.found.1 d first.goes_on)
+    (within_same at (name_closed c.edges (Plain word) first.found.0) big first.found.1 d first.goes_on)
 numbered depth (terms.nesting at is_atom t u) c d big is =
     let first = bound (value depth t c) _ (big, d) is in
     let f = numbered depth t c first.found.1 first.found.0 first.is in

@@ -20,7 +20,7 @@ use Rattle.bg_base.specs.Bigraph.{node_cmp, outer_of}
 use Rattle.bg_base.specs.Elementary.{counted, identity, merger, idle, barren, empty, ion, atom}
 use Rattle.bg_base.specs.Composition.{compose, row_through}
 use Rattle.bg_base.specs.Products.{tensor, parallel, merge, nest, close, row_beside, row_in_one, row_closed}
-use Rattle.bg_base.specs.Signatures.{number_of}
+use Rattle.bg_base.specs.Signatures.{control_number}
 use Rattle.bg_base.specs.Translation.{node_numbers}
 use Rattle.bg_values.proofs.Bindings.{ok_same}
 use Rattle.bg_values.proofs.Items.{last_item}
@@ -28,7 +28,7 @@ use Rattle.bg_terms.specs.declared.shape.BinaryOperation.{BinaryOperation}
 use Rattle.bg_terms.specs.declared.shape.BinaryOperation.TheVariants.{Composition, Tensor, Parallel, Merge}
 use Rattle.bg_terms.specs.Terms as terms
 use Rattle.bg_terms.specs.Terms.{Term}
-use Rattle.bg_terms.specs.Values.{Reached, value, tallied, entered, entered_at, single, wide, plain_names, nested, combined, closed}
+use Rattle.bg_terms.specs.Values.{Reached, value, tallied, entered, entered_at, single, wide, plain_names, nested, combined, name_closed}
 use Rattle.bg_terms.specs.Numbering.{symbols}
 use Rattle.bg_terms.specs.Order.{controls_of, label_at, labels_of, labels_there, AreInOrder}
 use Rattle.bg_terms.proofs.Labels.{found, still_labelled}
@@ -118,7 +118,7 @@ close_controls : (edge : ℕ) (name : Name) (big : Big) → controls_in (close b
 unfolding close
 close_controls edge name big = controls_kept (row_closed name edge) (λ row. refl) big.nodes
 
-closed_controls : (edge : ℕ) (name : Name) (big : Big) → controls_in (closed edge name big).nodes ≡ controls_in big.nodes
+closed_controls : (edge : ℕ) (name : Name) (big : Big) → controls_in (name_closed edge name big).nodes ≡ controls_in big.nodes
 closed_controls edge name big = by (is_some (outer_of big.outer name))
   where
     by : (b : Bool) → controls_in (if b then close big name edge else big).nodes ≡ controls_in big.nodes
@@ -175,9 +175,9 @@ record Enters (before : List Control) (control : Control) (number : ℕ) (after 
 
 enters : (at : ℕ) (control : Control) (before : List Control) (number : ℕ) (after : List Control) → entered at control before ≡ Ok (number, after)
     → Enters before control number after
-enters at control before number after is = by (number_of before control.label) refl is
+enters at control before number after is = by (control_number before control.label) refl is
   where
-    by : (o : Option ℕ) → number_of before control.label ≡ o → entered_at at control before o ≡ Ok (number, after) → Enters before control number after
+    by : (o : Option ℕ) → control_number before control.label ≡ o → entered_at at control before o ≡ Ok (number, after) → Enters before control number after
     by (Some found_at) there e =
         let one = found before control.label found_at there in
         let pair : (found_at, before) ≡ (number, after) = ok_same e in
@@ -285,7 +285,7 @@ labelled depth (terms.closure at word t) c d big is =
     let start : Reached = record c { edges = c.edges + 1 } in
     let first = bound (value depth t start) _ (big, d) is in
     let f = first.found.0 in
-    let same = within_same at (closed c.edges (Plain word) f) big first.found.1 d first.goes_on in
+    let same = within_same at (name_closed c.edges (Plain word) f) big first.found.1 d first.goes_on in
     kept c.signature (controls_of t) first.found.1.signature (controls_in f.nodes) (controls_in big.nodes) d.signature
     (labelled depth t start first.found.1 f first.is)
     (ap (λ (b : Big). controls_in b.nodes) same.big_is ∙ closed_controls c.edges (Plain word) f)

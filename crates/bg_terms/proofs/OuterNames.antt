@@ -27,7 +27,7 @@ use Rattle.bg_terms.specs.declared.shape.BinaryOperation.{BinaryOperation}
 use Rattle.bg_terms.specs.declared.shape.BinaryOperation.TheVariants.{Composition, Tensor, Parallel, Merge}
 use Rattle.bg_terms.specs.Terms as terms
 use Rattle.bg_terms.specs.Terms.{Term}
-use Rattle.bg_terms.specs.Values.{Reached, value, tallied, entered, within, single, wide, plain_names, nested, combined, closed}
+use Rattle.bg_terms.specs.Values.{Reached, value, tallied, entered, within, single, wide, plain_names, nested, combined, name_closed}
 use Rattle.bg_terms.proofs.Numbered.{bound, tested, untested, within_same, nested_same}
 
 -- ---- lists of names
@@ -91,7 +91,7 @@ close_plain : (f : Big) (name : Name) (edge : ℕ) → HasPlain f → HasPlain (
 unfolding close
 close_plain f name edge are other m = are other (Mem-unfilter (λ (one : Name). not (is_eq (name_cmp one name))) f.outer m).0
 
-closed_plain : (edge : ℕ) (name : Name) (f : Big) → HasPlain f → HasPlain (closed edge name f)
+closed_plain : (edge : ℕ) (name : Name) (f : Big) → HasPlain f → HasPlain (name_closed edge name f)
 closed_plain edge name f are = by (is_some (outer_of f.outer name))
   where
     by : (b : Bool) → HasPlain (if b then close f name edge else f)
@@ -148,7 +148,7 @@ value_plain depth (terms.deeper at t) c d big is = value_plain (depth + 1) t c d
 value_plain depth (terms.closure at word t) c d big is =
     let start : Reached = record c { edges = c.edges + 1 } in
     let first = bound (value depth t start) _ (big, d) is in
-    kept_plain at (closed c.edges (Plain word) first.found.0) big first.found.1 d
+    kept_plain at (name_closed c.edges (Plain word) first.found.0) big first.found.1 d
     (closed_plain c.edges (Plain word) first.found.0 (value_plain depth t start first.found.1 first.found.0 first.is)) first.goes_on
 value_plain depth (terms.nesting at is_atom t u) c d big is =
     let first = bound (value depth t c) _ (big, d) is in

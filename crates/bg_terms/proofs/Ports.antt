@@ -4,7 +4,7 @@ use Rattle.std.specs.Prelude.{IfOk, option_map}
 use Rattle.std.proofs.lemmas.Option.{slice_get-map}
 use Rattle.bg_lists.proofs.Places.{At-slice_get, slice_get-At, At-append_left}
 use Rattle.bg_trees.specs.declared.expressions.SynE.{SynE}
-use Rattle.bg_values.specs.Names.{Entry, number_of, entry_at, look_up}
+use Rattle.bg_values.specs.Names.{Entry, name_number, entry_at, look_up}
 use Rattle.bg_values.specs.Scopes.{spelling}
 use Rattle.bg_terms.specs.declared.shape.ControlEntry.{ControlEntry}
 use Rattle.bg_terms.specs.declared.shape.Shape.{Shape}
@@ -35,7 +35,7 @@ shape_there : (controls : List (Entry ControlEntry)) (word : List ℕ) (number :
     → look_up word controls ≡ Some (number, entry) → slice_get (shapes_of controls) number ≡ Some entry.shape
 shape_there controls word number entry is =
     slice_get-map (λ (control : Entry ControlEntry). control.1.shape) controls number
-    ∙ by (slice_get controls number) (entry_there controls (number_of word controls) number entry is)
+    ∙ by (slice_get controls number) (entry_there controls (name_number word controls) number entry is)
   where
     by : (o : Option (Entry ControlEntry)) → option_map (λ (e : Entry ControlEntry). e.1) o ≡ Some entry
         → option_map (λ (control : Entry ControlEntry). control.1.shape) o ≡ Some entry.shape

@@ -12,7 +12,7 @@ use Rattle.bg_values.specs.Operands.{values}
 use Rattle.bg_values.proofs.Items.{member_at}
 use Rattle.bg_terms.specs.declared.shape.Shape.{Shape}
 use Rattle.bg_terms.specs.Arities.{HaveArities, AreOneByLabel}
-use Rattle.bg_terms.specs.Expansion.{Meaning, control_of, with_values, node_term, meant, expand, meanings_after, meanings_of}
+use Rattle.bg_terms.specs.Expansion.{Meaning, control_of_shape, with_values, node_term, meant, expand, meanings_after, meanings_of}
 use Rattle.bg_terms.specs.Expressions.{Expression, node, reference, names, identity_of, merger_of, barren, empty, brackets, deeper, closure, nesting, binary}
 use Rattle.bg_terms.specs.Order.{controls_of}
 use Rattle.bg_terms.specs.Shapes.{AreShapes, HasPorts, IsOfShapes, AreOfShapes, FitsShapes}
@@ -45,7 +45,7 @@ module _ (shapes : List Shape) (are : AreShapes shapes) where
       let so = known shape refl in
       record { arities = (so.1, are.small shape so.0); of_shapes = only so.0 }
     where
-      only : Mem shape shapes → (control : Control) → Mem control (control_of shape args ∷ []) → IsOfShapes shapes control
+      only : Mem shape shapes → (control : Control) → Mem control (control_of_shape shape args ∷ []) → IsOfShapes shapes control
       only among control (here is) = record { shape = shape; args = args; among = among; is = sym is }
       only among control (there m) = elim m [ ]
 
@@ -124,22 +124,22 @@ module _ (shapes : List Shape) (are : AreShapes shapes) where
   one_by_label controls of_shapes x y x_in y_in same =
       let a = of_shapes x x_in in
       let b = of_shapes y y_in in
-      let labels : (control_of a.shape a.args).label ≡ (control_of b.shape b.args).label =
+      let labels : (control_of_shape a.shape a.args).label ≡ (control_of_shape b.shape b.args).label =
       sym (ap (λ (c : Control). c.label) a.is) ∙ same ∙ ap (λ (c : Control). c.label) b.is in
       let shape_is = are.once a.shape b.shape a.among b.among (ap (λ (l : Label). l.name) labels) in
-      a.is ∙ ap (λ s. control_of s a.args) shape_is ∙ ap (control_of b.shape) (ap (λ (l : Label). l.args) labels) ∙ sym b.is
+      a.is ∙ ap (λ s. control_of_shape s a.args) shape_is ∙ ap (control_of_shape b.shape) (ap (λ (l : Label). l.args) labels) ∙ sym b.is
 
   -- a control of the shapes that enters the signature
   pub entered_fits : (at : ℕ) (shape : Shape) (args : List Value) (before after : List Control) (number : ℕ) → Mem shape shapes → IsSignature before
-      → AreOfShapes shapes before → entered at (control_of shape args) before ≡ Ok (number, after) → IsSignature after × AreOfShapes shapes after
+      → AreOfShapes shapes before → entered at (control_of_shape shape args) before ≡ Ok (number, after) → IsSignature after × AreOfShapes shapes after
   entered_fits at shape args before after number among kept of_shapes is =
-      let all = before ++ control_of shape args ∷ [] in
-      let all_shaped : AreOfShapes shapes all = λ control m. elim (Mem-append_cases before (control_of shape args ∷ []) m) [ inl l ↦ of_shapes control l | inr r ↦ last control r ] in
-      let entry = enters all at (control_of shape args) before number after (one_by_label all all_shaped) kept (are.small shape among)
-      (λ x m. Mem-append_left before (control_of shape args ∷ []) m) (Mem-append_right before (control_of shape args ∷ []) (here refl)) is in
+      let all = before ++ control_of_shape shape args ∷ [] in
+      let all_shaped : AreOfShapes shapes all = λ control m. elim (Mem-append_cases before (control_of_shape shape args ∷ []) m) [ inl l ↦ of_shapes control l | inr r ↦ last control r ] in
+      let entry = enters all at (control_of_shape shape args) before number after (one_by_label all all_shaped) kept (are.small shape among)
+      (λ x m. Mem-append_left before (control_of_shape shape args ∷ []) m) (Mem-append_right before (control_of_shape shape args ∷ []) (here refl)) is in
       (entry.kept, λ control m. all_shaped control (entry.inside control m))
     where
-      last : (control : Control) → Mem control (control_of shape args ∷ []) → IsOfShapes shapes control
+      last : (control : Control) → Mem control (control_of_shape shape args ∷ []) → IsOfShapes shapes control
       last control (here same) = record { shape = shape; args = args; among = among; is = sym same }
       last control (there m) = elim m [ ]
 

@@ -37,7 +37,7 @@ use Rattle.bg_terms.specs.declared.shape.BinaryOperation.{BinaryOperation}
 use Rattle.bg_terms.specs.declared.shape.BinaryOperation.TheVariants.{Composition, Tensor, Parallel, Merge}
 use Rattle.bg_terms.specs.Terms as terms
 use Rattle.bg_terms.specs.Terms.{Term}
-use Rattle.bg_terms.specs.Values.{Reached, value, tallied, entered, single, wide, plain_names, nested, combined, closed, inner_meets, outer_meets}
+use Rattle.bg_terms.specs.Values.{Reached, value, tallied, entered, single, wide, plain_names, nested, combined, name_closed, inner_meets, outer_meets}
 use Rattle.bg_terms.specs.Numbering.{symbols, closures, AreEdgesWithin}
 use Rattle.bg_terms.proofs.Numbered.{bound, tested, untested, Same, within_same, numbered}
 use Rattle.bg_terms.proofs.Closures.{within_closures}
@@ -86,7 +86,7 @@ single_valid : (kind : Kind) (control number : ℕ) (names : List Name) → IsVa
 single_valid Normal control number names = ion_valid control number names
 single_valid Atomic control number names = atom_valid control number names
 
-closed_valid : (number : ℕ) (name : Name) (f : Big) → IsValid f → (Mem number f.edges → ⊥) → IsValid (closed number name f)
+closed_valid : (number : ℕ) (name : Name) (f : Big) → IsValid f → (Mem number f.edges → ⊥) → IsValid (name_closed number name f)
 closed_valid number name f valid new = by (is_some (outer_of f.outer name))
   where
     by : (b : Bool) → IsValid (if b then close f name number else f)
@@ -193,10 +193,10 @@ valid depth (terms.closure at word t) c d big is =
     let start : Reached = record c { edges = c.edges + 1 } in
     let first = bound (value depth t start) _ (big, d) is in
     let edges = within_closures depth t start first.found.1 first.found.0 first.is in
-    kept_valid (closed c.edges (Plain word) first.found.0) big first.found.1 d
+    kept_valid (name_closed c.edges (Plain word) first.found.0) big first.found.1 d
     (closed_valid c.edges (Plain word) first.found.0 (valid depth t start first.found.1 first.found.0 first.is)
     (λ m. omega (arith, edges.from_there c.edges m)))
-    (within_same at (closed c.edges (Plain word) first.found.0) big first.found.1 d first.goes_on)
+    (within_same at (name_closed c.edges (Plain word) first.found.0) big first.found.1 d first.goes_on)
 valid depth (terms.nesting at is_atom t u) c d big is =
     let first = bound (value depth t c) _ (big, d) is in
     let f = first.found.0 in

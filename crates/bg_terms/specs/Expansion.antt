@@ -11,8 +11,8 @@ use Rattle.bg_terms.specs.Terms.{Term}
 use Rattle.bg_terms.specs.Terms as terms
 
 -- the control of a shape with these arguments
-abbrev pub control_of : Shape → List Value → Control
-control_of shape args = record { label = record { name = shape.word; args = args }; arity = shape.arity; kind = shape.kind }
+abbrev pub control_of_shape : Shape → List Value → Control
+control_of_shape shape args = record { label = record { name = shape.word; args = args }; arity = shape.arity; kind = shape.kind }
 
 -- what a definition is: a term for each list of arguments
 abbrev pub Meaning : Type 0
@@ -29,7 +29,7 @@ with_values at (Err refusal) f = terms.counted at (terms.refusal refusal)
 
 -- a node of the control that was found, with these ports and these arguments
 abbrev pub node_term : ℕ → Option Shape → List (List ℕ) → List Value → Term
-node_term at (Some shape) ports args = terms.node at (control_of shape args) ports
+node_term at (Some shape) ports args = terms.node at (control_of_shape shape args) ports
 node_term at None ports args = terms.counted at (unknown at)
 
 -- the term of the definition that was found, with these arguments

@@ -8,7 +8,7 @@ use Rattle.bg_base.specs.declared.signature.Control.{Control}
 use Rattle.bg_base.specs.Bigraph.{IsValidUnder}
 use Rattle.bg_base.specs.Signatures.{IsSignature}
 use Rattle.bg_terms.specs.declared.shape.Shape.{Shape}
-use Rattle.bg_terms.specs.Expansion.{control_of}
+use Rattle.bg_terms.specs.Expansion.{control_of_shape}
 use Rattle.bg_terms.specs.Expressions.{Expression, node, reference, names, identity_of, merger_of, barren, empty, brackets, deeper, closure, nesting, binary}
 
 -- no arity is above 16, and no word stands for two controls
@@ -36,7 +36,7 @@ pub record IsOfShapes (shapes : List Shape) (control : Control) : Type 0 where
   pub shape : Shape
   pub args : List Value
   pub among : Mem shape shapes
-  pub is : control ≡ control_of shape args
+  pub is : control ≡ control_of_shape shape args
 
 -- each control of the signature is one of the shapes with some arguments
 abbrev pub AreOfShapes : List Shape → List Control → Type 0

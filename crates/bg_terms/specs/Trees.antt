@@ -207,41 +207,41 @@ n_layer n =
     (n.part1.value.0, λ visible. n.part1.value.1 visible >>= nested_read (n.part1.value.2 visible) n.part2.value visible)
 
 -- the expression with the first item, and so on
-abbrev pub along : List Onward → Onward
-along [] visible e = Ok e
-along (item ∷ items) visible e = item visible e >>= along items visible
+abbrev pub items_read : List Onward → Onward
+items_read [] visible e = Ok e
+items_read (item ∷ items) visible e = item visible e >>= items_read items visible
 
 -- a binary operation with what the tree behind the operator says
-abbrev pub joined : BinaryOperation → ℕ → Reading → Onward
-joined kind at right visible e = right.1 visible >>= λ d. Ok (binary kind at e d)
+abbrev pub binary_read : BinaryOperation → ℕ → Reading → Onward
+binary_read kind at right visible e = right.1 visible >>= λ d. Ok (binary kind at e d)
 
 -- C = K C1, C1 = "*" K C1 | none
 abbrev pub c1_item_layer : SynC1Item-F Form Reading Behind Reading Onward Reading Onward Reading Onward Reading Reading Onward → Onward
-c1_item_layer x = joined Composition x.part1 x.part2.value
+c1_item_layer x = binary_read Composition x.part1 x.part2.value
 
 abbrev pub c_layer : SynC-F Form Reading Behind Reading Onward Reading Onward Reading Onward Reading Reading Onward → Reading
-c_layer x = (x.part1.value.0, λ visible. x.part1.value.1 visible >>= along x.part2.items visible)
+c_layer x = (x.part1.value.0, λ visible. x.part1.value.1 visible >>= items_read x.part2.items visible)
 
 -- M = C M1, M1 = "|" C M1 | none
 abbrev pub m1_item_layer : SynM1Item-F Form Reading Behind Reading Onward Reading Onward Reading Onward Reading Reading Onward → Onward
-m1_item_layer x = joined Merge x.part1 x.part2.value
+m1_item_layer x = binary_read Merge x.part1 x.part2.value
 
 abbrev pub m_layer : SynM-F Form Reading Behind Reading Onward Reading Onward Reading Onward Reading Reading Onward → Reading
-m_layer x = (x.part1.value.0, λ visible. x.part1.value.1 visible >>= along x.part2.items visible)
+m_layer x = (x.part1.value.0, λ visible. x.part1.value.1 visible >>= items_read x.part2.items visible)
 
 -- P = M P1, P1 = "||" M P1 | none
 abbrev pub p1_item_layer : SynP1Item-F Form Reading Behind Reading Onward Reading Onward Reading Onward Reading Reading Onward → Onward
-p1_item_layer x = joined Parallel x.part1 x.part2.value
+p1_item_layer x = binary_read Parallel x.part1 x.part2.value
 
 abbrev pub p_layer : SynP-F Form Reading Behind Reading Onward Reading Onward Reading Onward Reading Reading Onward → Reading
-p_layer x = (x.part1.value.0, λ visible. x.part1.value.1 visible >>= along x.part2.items visible)
+p_layer x = (x.part1.value.0, λ visible. x.part1.value.1 visible >>= items_read x.part2.items visible)
 
 -- E = P E1, E1 = "+" P E1 | none
 abbrev pub e1_item_layer : SynE1Item-F Form Reading Behind Reading Onward Reading Onward Reading Onward Reading Reading Onward → Onward
-e1_item_layer x = joined Tensor x.part1 x.part2.value
+e1_item_layer x = binary_read Tensor x.part1 x.part2.value
 
 abbrev pub e_layer : SynE-F Form Reading Behind Reading Onward Reading Onward Reading Onward Reading Reading Onward → Reading
-e_layer x = (x.part1.value.0, λ visible. x.part1.value.1 visible >>= along x.part2.items visible)
+e_layer x = (x.part1.value.0, λ visible. x.part1.value.1 visible >>= items_read x.part2.items visible)
 
 -- what the trees say
 

@@ -15,7 +15,7 @@ use Rattle.bg_base.specs.Bigraph.{inner_of, outer_of}
 use Rattle.bg_base.specs.Composition.{compose, faces_agree}
 use Rattle.bg_base.specs.Elementary.{identity, merger, idle, barren, empty, ion, atom}
 use Rattle.bg_base.specs.Products.{tensor, parallel, merge, nest, close}
-use Rattle.bg_base.specs.Signatures.{number_of}
+use Rattle.bg_base.specs.Signatures.{control_number}
 use Rattle.bg_values.specs.declared.refusal.Refusal.{Refusal}
 use Rattle.bg_values.specs.declared.refusal.Cause.TheVariants.{FacesDiffer, NamesMeet, InnerNamesMeet, WidthsDiffer, HasInnerNames, AtomicHasChild, TooLarge}
 use Rattle.bg_values.specs.declared.refusal.LimitWord.TheVariants.{Controls, Nodes, Edges, Places, Terms, Depth}
@@ -52,7 +52,7 @@ entered_at at control controls None =
 
 -- the same, looked up by its label
 abbrev pub entered : ℕ → Control → List Control → Result (ℕ × List Control) Refusal
-entered at control controls = entered_at at control controls (number_of controls control.label)
+entered at control controls = entered_at at control controls (control_number controls control.label)
 
 -- the bigraph, where it is within the limits
 abbrev pub limited : ℕ → Big → Result Big Refusal
@@ -101,8 +101,8 @@ nested at is_atom f g =
     Ok (nest f g)))
 
 -- the name closed by that edge, where it is an outer name
-abbrev pub closed : ℕ → Name → Big → Big
-closed edge name big = if is_some (outer_of big.outer name) then close big name edge else big
+abbrev pub name_closed : ℕ → Name → Big → Big
+name_closed edge name big = if is_some (outer_of big.outer name) then close big name edge else big
 
 -- what a term comes to, where so many `K` of the grammar are open around it, from what was reached before it
 abbrev pub value : ℕ → Term → Reached → Come
@@ -119,7 +119,7 @@ value depth (terms.empty at) c = tallied at c >>= within at empty
 value depth (terms.counted at t) c = tallied at c >>= value depth t
 value depth (terms.deeper at t) c = if nat_lt depth most_depth then value (depth + 1) t c else refused (TooLarge Depth) at
 value depth (terms.closure at word t) c =
-    value depth t (record c { edges = c.edges + 1 }) >>= λ v. within at (closed c.edges (Plain word) v.0) v.1
+    value depth t (record c { edges = c.edges + 1 }) >>= λ v. within at (name_closed c.edges (Plain word) v.0) v.1
 value depth (terms.nesting at is_atom t u) c =
     value depth t c >>= λ f. value depth u f.1 >>= λ g. nested at is_atom f.0 g.0 >>= λ big. within at big g.1
 value depth (terms.binary kind at t u) c =

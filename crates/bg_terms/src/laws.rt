@@ -15,7 +15,7 @@ ghost use Rattle.bg_terms.specs.declared.shape.Shape.{Shape};
 ghost use Rattle.bg_terms.specs.Expansion.{Meaning, expand, meanings_of, HasNoReference};
 ghost use Rattle.bg_terms.specs.Closures.{StandsBehind, IsEvaluatedAt};
 ghost use Rattle.bg_trees.specs.declared.expressions.SynE.{SynE};
-ghost use Rattle.bg_values.specs.Names.{Entry, number_of};
+ghost use Rattle.bg_values.specs.Names.{Entry, name_number};
 ghost use Rattle.bg_terms.specs.declared.shape.ControlEntry.{ControlEntry};
 ghost use Rattle.bg_terms.specs.Read.{shapes_of, IsRead, AreControls, AreRead, RefersBelow};
 ghost use Rattle.bg_terms.specs.Trees.{Visible, e_read};
@@ -114,7 +114,7 @@ pub fn expressions_of_trees_have_their_ports()
 pub fn controls_become_visible_one_by_one()
     ensures none { AreControls [] }
     ensures more { (controls : List (Entry ControlEntry)) (word : List ℕ) (entry : ControlEntry) → AreControls controls
-        → is_none (number_of word controls) ≡ true → entry.shape.word ≡ word → entry.shape.arity ≤ most_ports → AreControls (controls ++ (word, entry) ∷ []) }
+        → is_none (name_number word controls) ≡ true → entry.shape.word ≡ word → entry.shape.arity ≤ most_ports → AreControls (controls ++ (word, entry) ∷ []) }
     ensures shapes { (controls : List (Entry ControlEntry)) → AreControls controls → AreShapes (shapes_of controls) }
     ensures small { (controls : List (Entry ControlEntry)) → AreControls controls → All (λ (shape : Shape). shape.arity ≤ most_ports) (shapes_of controls) }
 {}
@@ -124,7 +124,7 @@ pub fn controls_become_visible_one_by_one()
 pub fn definitions_are_read_one_by_one()
     ensures none { AreRead [] [] }
     ensures control { (controls : List (Entry ControlEntry)) (definitions : List Expression) (word : List ℕ) (entry : ControlEntry)
-        → AreRead controls definitions → is_none (number_of word controls) ≡ true → entry.shape.word ≡ word → entry.shape.arity ≤ most_ports
+        → AreRead controls definitions → is_none (name_number word controls) ≡ true → entry.shape.word ≡ word → entry.shape.arity ≤ most_ports
         → AreRead (controls ++ (word, entry) ∷ []) definitions }
     ensures definition { (controls : List (Entry ControlEntry)) (definitions : List Expression) (expression : Expression)
         → AreRead controls definitions → IsRead (shapes_of controls) expression → AreRead controls (definitions ++ expression ∷ []) }

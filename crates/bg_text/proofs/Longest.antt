@@ -5,7 +5,7 @@ use Rattle.std.specs.Char.{is_ascii_digit, is_ascii_lowercase, is_ascii_uppercas
 use Rattle.std.proofs.lemmas.List.Sums.{prefix_len-le-length}
 use Rattle.bg_text.specs.declared.token.TokenKind.{TokenKind}
 use Rattle.bg_text.specs.declared.token.TokenKind.TheVariants.{Upper, Text, Arrow, BarBar}
-use Rattle.bg_text.specs.Spelling.{is_word_byte, is_text_byte, is_closed, lower_kind, number_kind, mark, symbol, only, kind_of}
+use Rattle.bg_text.specs.Spelling.{is_word_byte, is_text_byte, ends_with_quote, lower_kind, number_kind, mark, symbol, only, kind_of}
 use Rattle.bg_text.specs.Tokens.{IsLongest}
 use Rattle.bg_text.specs.Pieces.{begins_otherwise, begins_arrow, begins_bars}
 use Rattle.bg_text.proofs.RunLaws.{run_passes, run_fails, closed_is, closes}
@@ -78,7 +78,7 @@ quote_not_digit b e = grind arith
 quote_eqb : (b : ℕ) → b ≡ 34 → eqb b 34 ≡ true
 quote_eqb b e = grind arith
 
-pub text_at : (b : ℕ) (bytes : List ℕ) → b ≡ 34 → (m : ℕ) → kind_of (take (suc m) (b ∷ bytes)) ≡ only (is_closed (take m bytes)) Text
+pub text_at : (b : ℕ) (bytes : List ℕ) → b ≡ 34 → (m : ℕ) → kind_of (take (suc m) (b ∷ bytes)) ≡ only (ends_with_quote (take m bytes)) Text
 unfolding kind_of
 text_at b bytes e m = rw (quote_not_lower b e, quote_not_upper b e, quote_not_digit b e, quote_eqb b e) refl
 
@@ -94,7 +94,7 @@ place_of_quote (b ∷ bytes) (suc n) e = let h = place_of_quote bytes n e in ome
 text_longer : (b : ℕ) (bytes : List ℕ) → b ≡ 34 → (m : ℕ) → suc (suc (prefix_len is_text_byte bytes)) < m → m ≤ length (b ∷ bytes) → kind_of (take m (b ∷ bytes)) ≡ None
 text_longer b bytes e zero lt le = absurd (omega arith)
 text_longer b bytes e (suc m) lt le =
-    text_at b bytes e m ∙ ap (λ v. only v Text) (not_true (is_closed (take m bytes)) (λ h. let c = closed_is bytes m (omega arith) h in let s = c.size in omega arith))
+    text_at b bytes e m ∙ ap (λ v. only v Text) (not_true (ends_with_quote (take m bytes)) (λ h. let c = closed_is bytes m (omega arith) h in let s = c.size in omega arith))
 
 pub text_longest : (b : ℕ) (bytes : List ℕ) → b ≡ 34 → get_or bytes (prefix_len is_text_byte bytes) 0 ≡ 34 → IsLongest (b ∷ bytes) Text (suc (suc (prefix_len is_text_byte bytes)))
 text_longest b bytes e q = record {

@@ -8,7 +8,7 @@ use Rattle.std.proofs.lemmas.List.Sums.{prefix_len-le-length}
 use Rattle.bg_text.specs.declared.token.TokenKind.{TokenKind}
 use Rattle.bg_text.specs.declared.token.TokenKind.TheVariants.{Upper, Text, Arrow, BarBar}
 use Rattle.bg_text.specs.Spelling.{is_word_byte, is_text_byte, is_space, lower_kind, number_kind, mark, kind_of}
-use Rattle.bg_text.specs.Tokens.{IsGap, space, comment, is_not_line_feed, is_inside, IsLongest, IsToken, is_decimal, greatest, fault_of_digits, number_fault, Refuses, bad_byte, bad_in_text, open_text, bad_number}
+use Rattle.bg_text.specs.Tokens.{IsGap, space, comment, is_not_line_feed, is_inside, IsLongest, IsToken, is_decimal, greatest_int, fault_of_digits, number_fault, Refuses, bad_byte, bad_in_text, open_text, bad_number}
 use Rattle.bg_text.specs.declared.piece.Piece.{Piece}
 use Rattle.bg_text.specs.declared.piece.Piece.TheVariants.{Gap, Token, Bad}
 use Rattle.bg_text.specs.Pieces.{IsPiece, IsWithin, begins_otherwise, begins_arrow, begins_bars}
@@ -77,29 +77,29 @@ fault_is (x ∷ bytes) digits behind count e c d b =
     ap (λ v. cond v whole 0) e ∙ ap (λ k. fault_of_digits (take k (x ∷ bytes)) (drop k (x ∷ bytes))) (sym c)
     ∙ ap (λ y. fault_of_digits y (drop count (x ∷ bytes))) (sym d) ∙ ap (fault_of_digits digits) (sym b)
 
-large : (n : ℕ) → leb n greatest ≡ false → ltb greatest n ≡ true
+large : (n : ℕ) → leb n greatest_int ≡ false → ltb greatest_int n ≡ true
 large n e = grind arith
 
-not_large : (n : ℕ) → leb n greatest ≡ true → ltb greatest n ≡ false
+not_large : (n : ℕ) → leb n greatest_int ≡ true → ltb greatest_int n ≡ false
 not_large n e = grind arith
 
 pub decimal_refused : (bytes digits behind : List ℕ) (count : ℕ) → is_ascii_digit (get_or bytes 0 0) ≡ true → count ≡ prefix_len is_ascii_digit bytes → digits ≡ take count bytes → behind ≡ drop count bytes
     → is_decimal behind ≡ true → Refuses bytes 24 0
 decimal_refused bytes digits behind count e c d b t =
-    bad_number (omega arith) (fault_is bytes digits behind count e c d b ∙ ap (λ v. cond v 24 (cond (ltb greatest (digits_value 10 digits)) 23 0)) t)
+    bad_number (omega arith) (fault_is bytes digits behind count e c d b ∙ ap (λ v. cond v 24 (cond (ltb greatest_int (digits_value 10 digits)) 23 0)) t)
 
 pub large_refused : (bytes digits behind : List ℕ) (count : ℕ) → is_ascii_digit (get_or bytes 0 0) ≡ true → count ≡ prefix_len is_ascii_digit bytes → digits ≡ take count bytes → behind ≡ drop count bytes
-    → is_decimal behind ≡ false → leb (digits_value 10 digits) greatest ≡ false → Refuses bytes 23 0
+    → is_decimal behind ≡ false → leb (digits_value 10 digits) greatest_int ≡ false → Refuses bytes 23 0
 large_refused bytes digits behind count e c d b t h =
-    bad_number (omega arith) (fault_is bytes digits behind count e c d b ∙ ap (λ v. cond v 24 (cond (ltb greatest (digits_value 10 digits)) 23 0)) t
+    bad_number (omega arith) (fault_is bytes digits behind count e c d b ∙ ap (λ v. cond v 24 (cond (ltb greatest_int (digits_value 10 digits)) 23 0)) t
     ∙ ap (λ v. cond v 23 0) (large (digits_value 10 digits) h))
 
 pub number_is : (bytes digits behind : List ℕ) (kind : TokenKind) (count size : ℕ) → is_ascii_digit (get_or bytes 0 0) ≡ true → count ≡ prefix_len is_ascii_digit bytes → digits ≡ take count bytes → behind ≡ drop count bytes
-    → is_decimal behind ≡ false → leb (digits_value 10 digits) greatest ≡ true → kind ≡ number_kind digits → size ≡ length digits → IsToken bytes kind size
+    → is_decimal behind ≡ false → leb (digits_value 10 digits) greatest_int ≡ true → kind ≡ number_kind digits → size ≡ length digits → IsToken bytes kind size
 number_is bytes digits behind kind count size e c d b t h k s = record {
   is_longest = same_longest bytes (number_kind (take (prefix_len is_ascii_digit bytes) bytes)) kind (prefix_len is_ascii_digit bytes) size
       (k ∙ ap number_kind (d ∙ ap (λ n. take n bytes) c)) (taken is_ascii_digit bytes digits count size c d s) (digits_longest bytes e);
-  number = fault_is bytes digits behind count e c d b ∙ ap (λ v. cond v 24 (cond (ltb greatest (digits_value 10 digits)) 23 0)) t
+  number = fault_is bytes digits behind count e c d b ∙ ap (λ v. cond v 24 (cond (ltb greatest_int (digits_value 10 digits)) 23 0)) t
       ∙ ap (λ v. cond v 23 0) (not_large (digits_value 10 digits) h);
 }
 

@@ -2,7 +2,7 @@
 use Rattle.std.proofs.Common.{◌≡◌, ℕ, zero, suc, ◌+◌, ◌<◌, ◌≤◌, Bool, true, false, ◌&&◌, cond, eqb, eqb-true, List, [], ◌∷◌, length, get_or, take, refl, sym, ap, ◌∙◌, arith}
 use Rattle.std.specs.List.{prefix_len, list_all}
 use Rattle.std.proofs.lemmas.Bool.{and_parts}
-use Rattle.bg_text.specs.Spelling.{is_text_byte, is_closed}
+use Rattle.bg_text.specs.Spelling.{is_text_byte, ends_with_quote}
 use Rattle.bg_text.specs.Tokens.{is_inside}
 
 passes_if : (p : ℕ → Bool) (b : ℕ) (bytes : List ℕ) (v : Bool) → p b ≡ v → list_all p (take (prefix_len p bytes) bytes) ≡ true → list_all p (take (cond v (1 + prefix_len p bytes) 0) (b ∷ bytes)) ≡ true
@@ -49,7 +49,7 @@ closed_more b c bytes m e h =
     record { size = ap suc h.size ∙ ap suc (sym n); quote = ap (λ k. get_or (b ∷ c ∷ bytes) k 0) n ∙ h.quote }
 
 -- where bytes in front close a text, they are the run of text bytes and a quote
-pub closed_is : (bytes : List ℕ) (m : ℕ) → m ≤ length bytes → is_closed (take m bytes) ≡ true → IsClosed bytes m
+pub closed_is : (bytes : List ℕ) (m : ℕ) → m ≤ length bytes → ends_with_quote (take m bytes) ≡ true → IsClosed bytes m
 closed_is [] zero le e = absurd cc
 closed_is [] (suc m) le e = absurd (omega arith)
 closed_is (b ∷ bytes) zero le e = absurd cc
@@ -58,12 +58,12 @@ closed_is (b ∷ bytes) (suc zero) le e =
     record { size = ap suc (sym n); quote = ap (λ k. get_or (b ∷ bytes) k 0) n ∙ eqb-true b 34 e }
 closed_is (b ∷ []) (suc (suc m)) le e = absurd (omega arith)
 closed_is (b ∷ c ∷ bytes) (suc (suc m)) le e =
-    let t = and_parts (is_text_byte b) (is_closed (c ∷ take m bytes)) e in
+    let t = and_parts (is_text_byte b) (ends_with_quote (c ∷ take m bytes)) e in
     closed_more b c bytes (suc m) t.0 (closed_is (c ∷ bytes) (suc m) (omega arith) t.1)
 
 closes_more : (b : ℕ) (bytes : List ℕ) (v : Bool) → is_text_byte b ≡ v → get_or (b ∷ bytes) (cond v (1 + prefix_len is_text_byte bytes) 0) 0 ≡ 34
-    → (get_or bytes (prefix_len is_text_byte bytes) 0 ≡ 34 → is_closed (take (suc (prefix_len is_text_byte bytes)) bytes) ≡ true)
-    → is_closed (take (suc (cond v (1 + prefix_len is_text_byte bytes) 0)) (b ∷ bytes)) ≡ true
+    → (get_or bytes (prefix_len is_text_byte bytes) 0 ≡ 34 → ends_with_quote (take (suc (prefix_len is_text_byte bytes)) bytes) ≡ true)
+    → ends_with_quote (take (suc (cond v (1 + prefix_len is_text_byte bytes) 0)) (b ∷ bytes)) ≡ true
 closes_more b [] true e q h = absurd cc
 closes_more b (c ∷ bytes) true e q h =
     let n = prefix_len is_text_byte (c ∷ bytes) in
@@ -73,7 +73,7 @@ closes_more b (c ∷ bytes) true e q h =
 closes_more b bytes false e q h = is_quote b q
 
 -- where a quote stands behind the run of text bytes, they close a text
-pub closes : (bytes : List ℕ) → get_or bytes (prefix_len is_text_byte bytes) 0 ≡ 34 → is_closed (take (suc (prefix_len is_text_byte bytes)) bytes) ≡ true
+pub closes : (bytes : List ℕ) → get_or bytes (prefix_len is_text_byte bytes) 0 ≡ 34 → ends_with_quote (take (suc (prefix_len is_text_byte bytes)) bytes) ≡ true
 closes [] q = absurd (omega arith)
 closes (b ∷ bytes) q = closes_more b bytes (is_text_byte b) refl q (closes bytes)
 

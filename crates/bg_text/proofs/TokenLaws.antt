@@ -8,7 +8,7 @@ use Rattle.std.proofs.lemmas.List.{drop-drop}
 use Rattle.bg_text.specs.declared.token.Token.{Token}
 use Rattle.bg_text.specs.declared.token.TokenKind.{TokenKind}
 use Rattle.bg_text.specs.Spelling.{number_kind}
-use Rattle.bg_text.specs.Tokens.{greatest, is_decimal, fault_of_digits, number_fault, IsToken, Cuts, stop, gap, token, AreTokens, IsRefusal}
+use Rattle.bg_text.specs.Tokens.{greatest_int, is_decimal, fault_of_digits, number_fault, IsToken, Cuts, stop, gap, token, AreTokens, IsRefusal}
 use Rattle.bg_text.proofs.Longest.{digits_longest}
 use Rattle.bg_text.proofs.PieceLaws.{nothing_spelled, gap_within, refused_within}
 use Rattle.bg_text.proofs.Unique.{one_size}
@@ -53,7 +53,7 @@ first_passes b (suc size) bytes l e = (and_parts (is_ascii_digit b) (list_all is
 
 -- a token of digits is no greater number than the greatest
 pub small : (bytes : List ℕ) (kind : TokenKind) (size : ℕ) → IsToken bytes kind size → list_all is_ascii_digit (take size bytes) ≡ true
-    → ltb greatest (digits_value 10 (take size bytes)) ≡ false
+    → ltb greatest_int (digits_value 10 (take size bytes)) ≡ false
 unfolding number_fault
 small [] kind zero t e = refl
 small [] kind (suc size) t e = refl
@@ -63,8 +63,8 @@ small (b ∷ bytes) kind size t e =
     let size_is = one_size (b ∷ bytes) kind (number_kind (take run (b ∷ bytes))) size run t.is_longest (digits_longest (b ∷ bytes) digit) in
     let whole = fault_of_digits (take run (b ∷ bytes)) (drop run (b ∷ bytes)) in
     let fault : whole ≡ 0 = sym (ap (λ v. cond v whole 0) digit) ∙ t.number in
-    ap (λ n. ltb greatest (digits_value 10 (take n (b ∷ bytes)))) size_is
-    ∙ not_large (is_decimal (drop run (b ∷ bytes))) (ltb greatest (digits_value 10 (take run (b ∷ bytes)))) fault
+    ap (λ n. ltb greatest_int (digits_value 10 (take n (b ∷ bytes)))) size_is
+    ∙ not_large (is_decimal (drop run (b ∷ bytes))) (ltb greatest_int (digits_value 10 (take run (b ∷ bytes)))) fault
 
 -- ---- places
 

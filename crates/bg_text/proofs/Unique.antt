@@ -5,7 +5,7 @@ use Rattle.std.specs.Char.{is_ascii_digit}
 use Rattle.bg_text.specs.declared.token.TokenKind.{TokenKind}
 use Rattle.bg_text.specs.declared.token.TokenKind.TheVariants.{Text}
 use Rattle.bg_text.specs.declared.token.Token.{Token}
-use Rattle.bg_text.specs.Spelling.{is_text_byte, is_space, is_closed, only, number_kind, mark, kind_of}
+use Rattle.bg_text.specs.Spelling.{is_text_byte, is_space, ends_with_quote, only, number_kind, mark, kind_of}
 use Rattle.bg_text.specs.Tokens.{IsGap, space, comment, is_inside, IsLongest, IsToken, number_fault, Refuses, bad_byte, bad_in_text, open_text, bad_number, Cuts, stop, gap, token, AreTokens, IsRefusal}
 use Rattle.bg_text.proofs.RunLaws.{IsClosed, closed_is, text_run_inside}
 use Rattle.bg_text.proofs.Longest.{text_at, digits_longest}
@@ -152,7 +152,7 @@ quoted : (b : ℕ) (bytes : List ℕ) (kind : TokenKind) (size : ℕ) → b ≡ 
 quoted b bytes kind zero e t = let l = nothing_spelled (b ∷ bytes) 0 kind t.is_longest.spelled in absurd (omega arith)
 quoted b bytes kind (suc size) e t =
     let le = t.is_longest.inside in
-    let closed : IsClosed bytes size = closed_is bytes size (omega arith) (only_true (is_closed (take size bytes)) Text kind (sym (text_at b bytes e size) ∙ t.is_longest.spelled)) in
+    let closed : IsClosed bytes size = closed_is bytes size (omega arith) (only_true (ends_with_quote (take size bytes)) Text kind (sym (text_at b bytes e size) ∙ t.is_longest.spelled)) in
     closed.quote
 
 meets : (bytes : List ℕ) (n : ℕ) → get_or bytes n 0 ≡ 34 → n ≤ prefix_len is_inside bytes → n ≡ prefix_len is_inside bytes

@@ -87,10 +87,10 @@ symbol (a ∷ b ∷ c ∷ []) = if (a == 45) && ((b == 45) && (c == 62)) then So
 symbol bytes = None
 
 -- bytes of a text and then a quote
-abbrev pub is_closed : List ℕ → Bool
-is_closed [] = false
-is_closed (b ∷ []) = b == 34
-is_closed (b ∷ c ∷ bytes) = is_text_byte b && is_closed (c ∷ bytes)
+abbrev pub ends_with_quote : List ℕ → Bool
+ends_with_quote [] = false
+ends_with_quote (b ∷ []) = b == 34
+ends_with_quote (b ∷ c ∷ bytes) = is_text_byte b && ends_with_quote (c ∷ bytes)
 
 -- the kind, where the spelling passes
 abbrev pub only : Bool → TokenKind → Option TokenKind
@@ -103,5 +103,5 @@ kind_of (b ∷ bytes) =
     if is_ascii_lowercase b then only (list_all is_word_byte (b ∷ bytes)) (lower_kind (b ∷ bytes))
     else (if is_ascii_uppercase b then only (list_all is_word_byte (b ∷ bytes)) Upper
     else (if is_ascii_digit b then only (list_all is_ascii_digit (b ∷ bytes)) (number_kind (b ∷ bytes))
-    else (if b == 34 then only (is_closed bytes) Text
+    else (if b == 34 then only (ends_with_quote bytes) Text
     else symbol (b ∷ bytes))))

@@ -30,11 +30,11 @@ abbrev pub is_decimal : List ℕ → Bool
 is_decimal behind = (slice_index behind 0 == 46) && is_ascii_digit (slice_index behind 1)
 
 -- the greatest number, 2 ^ 63 - 1
-abbrev pub greatest : ℕ
-greatest = 9223372036854775807
+abbrev pub greatest_int : ℕ
+greatest_int = 9223372036854775807
 
 abbrev pub fault_of_digits : List ℕ → List ℕ → ℕ
-fault_of_digits digits behind = if is_decimal behind then 24 else (if nat_lt greatest (digits_value 10 digits) then 23 else 0)
+fault_of_digits digits behind = if is_decimal behind then 24 else (if nat_lt greatest_int (digits_value 10 digits) then 23 else 0)
 
 -- the code of the whole run of digits in front; 0 where it has none, and where no digit stands in front
 unfoldable pub number_fault : List ℕ → ℕ

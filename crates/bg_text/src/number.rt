@@ -45,7 +45,7 @@ const GREATEST: u64 = 9_223_372_036_854_775_807;
 /// Whether the digits spell no number above the greatest.
 fn is_small(digits: &[u8]) -> bool
     requires { IsTrue (list_all is_ascii_digit digits.now) }
-    ensures { result ≡ nat_le (digits_value 10 digits.now) definition.greatest }
+    ensures { result ≡ nat_le (digits_value 10 digits.now) definition.greatest_int }
 {
     let mut value = 0;
     for digit in digits {

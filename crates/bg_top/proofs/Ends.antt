@@ -4,7 +4,7 @@ use Rattle.std.specs.Prelude.{IfSome}
 use Rattle.std.specs.Option.{IsSomeAnd}
 use Rattle.std.proofs.lemmas.Bool.Decides.{eqb_tells}
 use Rattle.std.specs.declared.option.Option.{Option}
-use Rattle.bg_answers.specs.Answer.{Answer, number, too_long}
+use Rattle.bg_answers.specs.Answer.{Answer, status_number, too_long}
 use Rattle.bg_answers.specs.Promise.{Promise, IsRightAnswer, made, refused, IsSettled}
 use Rattle.bg_answers.specs.Refusal.{refusing}
 use Rattle.bg_answers.specs.declared.refusal.Refusal.{Refusal}
@@ -12,7 +12,7 @@ use Rattle.bg_answers.specs.declared.status.Status.{Status}
 use Rattle.bg_answers.specs.declared.status.Status.TheVariants.{Done, Refused, WrongWords, TooMany, NoRun, TooLong, Unsorted}
 use Rattle.bg_top.specs.Ended.{CallEnded, SomeAnswer, IsStopped, ComesWhere}
 use Rattle.bg_top.specs.Numbers.{failed_read, failed_write, out_of_memory}
-use Rattle.bg_top.specs.Right.{promise_of, input_of, is_long, IsReply, IsTaken, IsRefused, IsTooMuch, IsReplayOfNoRun, EndsWith, IsRight, IsAnsweredWith, AsksOf, Answers}
+use Rattle.bg_top.specs.Right.{promise_of, input_of, is_long, IsReply, IsTaken, IsRefused, IsTooMuch, IsReplayOfNoRun, EndsWith, IsRight, IsAnsweredWith, AsksOf, IsWritten}
 use Rattle.bg_top.specs.Staying.{Stay, IsRightWith}
 use Rattle.bg_top.proofs.Right.{over, the_input, input_is, long_input}
 use Rattle.bg_watch.specs.Watching.{Watched}
@@ -32,7 +32,7 @@ named n =
     else (if n == 8 then TooLong
     else Unsorted)))))
 
-number_named : (status : Status) → named (number status) ≡ status
+number_named : (status : Status) → named (status_number status) ≡ status
 unfolding named
 number_named Done = refl
 number_named Refused = refl
@@ -42,13 +42,13 @@ number_named NoRun = refl
 number_named TooLong = refl
 number_named Unsorted = refl
 
-same_status : (one other : Status) → number one ≡ number other → one ≡ other
+same_status : (one other : Status) → status_number one ≡ status_number other → one ≡ other
 same_status one other same = sym (number_named one) ∙ ap named same ∙ number_named other
 
 abbrev Goes : ℕ → Type 0
 Goes result = (result ≢ failed_read) × (result ≢ failed_write) × (result ≢ out_of_memory)
 
-number_goes : (status : Status) → Goes (number status)
+number_goes : (status : Status) → Goes (status_number status)
 number_goes Done = ((λ e. omega (arith, e)), (λ e. omega (arith, e)), (λ e. omega (arith, e)))
 number_goes Refused = ((λ e. omega (arith, e)), (λ e. omega (arith, e)), (λ e. omega (arith, e)))
 number_goes WrongWords = ((λ e. omega (arith, e)), (λ e. omega (arith, e)), (λ e. omega (arith, e)))
@@ -57,7 +57,7 @@ number_goes NoRun = ((λ e. omega (arith, e)), (λ e. omega (arith, e)), (λ e. 
 number_goes TooLong = ((λ e. omega (arith, e)), (λ e. omega (arith, e)), (λ e. omega (arith, e)))
 number_goes Unsorted = ((λ e. omega (arith, e)), (λ e. omega (arith, e)), (λ e. omega (arith, e)))
 
-status_goes : (result : ℕ) (status : Status) → result ≡ number status → Goes result
+status_goes : (result : ℕ) (status : Status) → result ≡ status_number status → Goes result
 status_goes result status is = subst Goes (sym is) (number_goes status)
 
 -- the call was stopped, or was not
@@ -151,7 +151,7 @@ module _ (most : ℕ) (watchers : List Watched) (result : ℕ) (reads writes flu
 
   -- a right answer with that result
   abbrev HasAnswer : Option Request → Option (List ℕ) → Type 0
-  HasAnswer asked left = (answer : Answer) × IsRight most asked watchers left answer × (result ≡ number answer.status)
+  HasAnswer asked left = (answer : Answer) × IsRight most asked watchers left answer × (result ≡ status_number answer.status)
 
   answer_of : (asked : Option Request) (left : Option (List ℕ)) → Ends asked left → Goes result → HasAnswer asked left
   answer_of asked left ended goes = let some = ended.answered goes.0 goes.1 goes.2 in (some.0, some.1, some.2.0)
@@ -166,7 +166,7 @@ module _ (most : ℕ) (watchers : List Watched) (result : ℕ) (reads writes flu
             (some.0, some.1, same_status some.0.status status (sym some.2 ∙ is));
         always = λ answered. ⊎_elim (λ stopped. inl stopped) (λ goes.
             let some = answer_of asked (Some input) ended goes in
-            inr (some.2 ∙ ap number (same_right watchers most asked input some.0 answered.0 some.1 answered.1 ∙ answered.2))) (stops result);
+            inr (some.2 ∙ ap status_number (same_right watchers most asked input some.0 answered.0 some.1 answered.1 ∙ answered.2))) (stops result);
       }
 
   -- so of other words for the same
@@ -182,7 +182,7 @@ module _ (most : ℕ) (watchers : List Watched) (result : ℕ) (reads writes flu
   statuses_from asked (Some input) ended = comes asked input ended
 
   -- refused words
-  words_only : (asked : Option Request) (left : Option (List ℕ)) → Ends asked left → result ≡ number WrongWords → asked ≡ None
+  words_only : (asked : Option Request) (left : Option (List ℕ)) → Ends asked left → result ≡ status_number WrongWords → asked ≡ None
   words_only None left ended is = refl
   words_only (Some request) left ended is =
       let some = answer_of (Some request) left ended (status_goes result WrongWords is) in
@@ -193,11 +193,11 @@ module _ (most : ℕ) (watchers : List Watched) (result : ℕ) (reads writes flu
       of (long same past) e = let both = sym e ∙ ap (λ (a : Answer). a.status) same in absurd cc
       of {input} (short few right) e = (own_status (promise_of request watchers) (settled request watchers) input right).0 e
 
-  words_always : (asked : Option Request) (left : Option (List ℕ)) → Ends asked left → asked ≡ None → IsStopped result ⊎ (result ≡ number WrongWords)
+  words_always : (asked : Option Request) (left : Option (List ℕ)) → Ends asked left → asked ≡ None → IsStopped result ⊎ (result ≡ status_number WrongWords)
   words_always None left ended none =
       ⊎_elim (λ stopped. inl stopped) (λ goes.
       let some = answer_of None left ended goes in
-      inr (some.2 ∙ ap (λ (a : Answer). number a.status) some.1)) (stops result)
+      inr (some.2 ∙ ap (λ (a : Answer). status_number a.status) some.1)) (stops result)
   words_always (Some request) left ended none = absurd cc
 
   pub words_from : (asked : Option Request) (left : Option (List ℕ)) → Ends asked left → ComesWhere result WrongWords (asked ≡ None)
@@ -299,15 +299,15 @@ module _ (most : ℕ) (watchers : List Watched) (result : ℕ) (reads writes flu
         only = λ is. no_run_there asked input ((comes asked input ended NoRun).only is);
         always = λ asks. ⊎_elim (λ stopped. inl stopped) (λ goes.
             let some = answer_of asked (Some input) ended goes in
-            inr (some.2 ∙ ap number (there_no_run asked input asks some.0 some.1))) (stops result);
+            inr (some.2 ∙ ap status_number (there_no_run asked input asks some.0 some.1))) (stops result);
       }
 
   -- what is written at status 0
-  pub written_from : (asked : Option Request) (left : Option (List ℕ)) → Ends asked left → result ≡ number Done
-      → IsSomeAnd asked (λ request. Answers watchers request left old new)
+  pub written_from : (asked : Option Request) (left : Option (List ℕ)) → Ends asked left → result ≡ status_number Done
+      → IsSomeAnd asked (λ request. IsWritten watchers request left old new)
   written_from None left ended is =
       let some = answer_of None left ended (status_goes result Done is) in
-      let both = sym is ∙ some.2 ∙ ap (λ (a : Answer). number a.status) some.1 in absurd cc
+      let both = sym is ∙ some.2 ∙ ap (λ (a : Answer). status_number a.status) some.1 in absurd cc
   written_from (Some request) left ended is =
       let goes = status_goes result Done is in
       let some = ended.answered goes.0 goes.1 goes.2 in
@@ -331,7 +331,7 @@ module _ (most : ℕ) (watchers : List Watched) (result : ℕ) (reads writes flu
       let some = ended.answered (λ is. no_read (ended.read_failure is).0) (λ is. no_write (ended.write_failure is).0) e.1 in
       inr (asks.0, of some.0 (judged_at watchers most request bytes some.0 some.1) some.2.0)) (eqb_tells result out_of_memory)
     where
-      of : (answer : Answer) → Judged watchers most request (input_of request bytes) answer → result ≡ number answer.status
+      of : (answer : Answer) → Judged watchers most request (input_of request bytes) answer → result ≡ status_number answer.status
           → EndsWith result watchers request (input_of request bytes)
       of answer (long same past) is = let both = sym past ∙ long_input most request bytes ∙ asks.0 in absurd cc
       of answer (short few (made m)) is = (answer, m, is)

@@ -3,7 +3,7 @@ use Rattle.std.specs.Prelude.{◌≡◌, ◌≢◌, ℕ, List, ◌⊎◌}
 use Rattle.std.specs.declared.option.Option.{Option}
 use Rattle.std.specs.Io.KnownBytes.{Appends, Keeps}
 use Rattle.bg_io.specs.Transfers.{AppendsPrefix}
-use Rattle.bg_answers.specs.Answer.{Answer, number}
+use Rattle.bg_answers.specs.Answer.{Answer, status_number}
 use Rattle.bg_answers.specs.declared.status.Status.{Status}
 use Rattle.bg_top.specs.Numbers.{failed_read, failed_write, out_of_memory}
 
@@ -22,7 +22,7 @@ pub record CallEnded (right : Answer → Type 0) (status : ℕ) (read_failed wri
   pub no_memory : status ≡ out_of_memory → (Keeps old new × kept) ⊎ SomeAnswer right (λ answer. AppendsPrefix old new answer.text)
   -- any other status is that of a right answer, whose text is written whole
   pub answered : status ≢ failed_read → status ≢ failed_write → status ≢ out_of_memory
-      → SomeAnswer right (λ answer. (status ≡ number answer.status) × Appends old new answer.text)
+      → SomeAnswer right (λ answer. (status ≡ status_number answer.status) × Appends old new answer.text)
   -- and the sink has passed it on
   pub passed_on : status ≢ failed_read → status ≢ failed_write → status ≢ out_of_memory → flushed
 
@@ -36,5 +36,5 @@ IsStopped result = (result ≡ failed_read) ⊎ (result ≡ failed_write) ⊎ (r
 
 -- the result is that of the status exactly where P holds, but for calls that were stopped
 pub record ComesWhere (result : ℕ) (status : Status) (P : Type 0) : Type 0 where
-  pub only : result ≡ number status → P
-  pub always : P → IsStopped result ⊎ (result ≡ number status)
+  pub only : result ≡ status_number status → P
+  pub always : P → IsStopped result ⊎ (result ≡ status_number status)

@@ -2,7 +2,7 @@
 use Rattle.std.specs.Prelude.{◌≡◌, ℕ, Bool, false, ◌&&◌, List, length, nat_lt, if◌then◌else◌, IfSome, MatchOption, MatchBool}
 use Rattle.std.specs.Option.{IsSomeAnd}
 use Rattle.std.specs.declared.option.Option.{Option}
-use Rattle.bg_answers.specs.Answer.{Answer, number, wrong_words, too_long}
+use Rattle.bg_answers.specs.Answer.{Answer, status_number, wrong_words, too_long}
 use Rattle.bg_answers.specs.Promise.{Promise, IsRightAnswer}
 use Rattle.bg_answers.specs.declared.refusal.Refusal.{Refusal}
 use Rattle.bg_answers.specs.declared.status.Status.{Status}
@@ -82,7 +82,7 @@ IsReplayOfNoRun request input = (request.command ≡ Replay) × IsNoRunInput inp
 
 -- the result is the status of what the command makes of the input
 abbrev pub EndsWith : ℕ → List Watched → Request → List ℕ → Type 0
-EndsWith result watchers request input = Makes watchers request input (λ answer. result ≡ number answer.status)
+EndsWith result watchers request input = Makes watchers request input (λ answer. result ≡ status_number answer.status)
 
 -- a right answer to what was left: `too long` past the most bytes, else the command's
 abbrev pub ReadsRight : ℕ → Request → List Watched → Option (List ℕ) → Answer → Type 0
@@ -103,6 +103,6 @@ abbrev pub AsksOf : ℕ → Option Request → List ℕ → (Request → List �
 AsksOf most asked bytes P = IsSomeAnd asked (λ request. (is_long most request bytes ≡ false) × P request (input_of request bytes))
 
 -- some input, which is what was left where that is told, and the text that the command makes of it, written whole
-abbrev pub Answers : List Watched → Request → Option (List ℕ) → Option (List ℕ) → Option (List ℕ) → Type 0
-Answers watchers request left old new = (input : List ℕ) × IsInput request left input
+abbrev pub IsWritten : List Watched → Request → Option (List ℕ) → Option (List ℕ) → Option (List ℕ) → Type 0
+IsWritten watchers request left old new = (input : List ℕ) × IsInput request left input
     × Writes (λ text. (promise_of request watchers).makes input (record { status = Done; text = text })) old new

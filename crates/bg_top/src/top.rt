@@ -1,11 +1,11 @@
 //! The top call.
 ghost use Rattle.std.specs.Prelude.{◌≡◌, ◌≢◌, ◌≤◌, ◌+◌, ◌⊎◌, None, Some, length, map, IfOk, IfSome, IsErrOf, IsTrue, OnErr};
 ghost use Rattle.std.specs.Option.{IsSomeAnd};
-ghost use Rattle.bg_answers.specs.Answer.{number, answer_of};
+ghost use Rattle.bg_answers.specs.Answer.{status_number, answer_of};
 ghost use Rattle.bg_io.specs.Faults.{Rose};
 ghost use Rattle.bg_top.specs.Ended.{CallEnded, ComesWhere};
 ghost use Rattle.bg_top.specs.Numbers.{failed_read, failed_write, out_of_memory, most_bytes};
-ghost use Rattle.bg_top.specs.Right.{IsReply, IsAnsweredWith, AsksOf, Answers, IsRefused, IsTooMuch, IsReplayOfNoRun, IsTaken, EndsWith, input_of, is_long};
+ghost use Rattle.bg_top.specs.Right.{IsReply, IsAnsweredWith, AsksOf, IsWritten, IsRefused, IsTooMuch, IsReplayOfNoRun, IsTaken, EndsWith, input_of, is_long};
 ghost use Rattle.bg_top.specs.Staying.{IsRightWith, StayFor};
 ghost use Rattle.bg_top.specs.Words.{asked, IsReadless};
 ghost use Rattle.bg_words.specs.Words.{IsInRange};
@@ -105,8 +105,8 @@ pub fn engine<S: Source, K: Sink, G: Gate + Sync, R: Threads + Wait + Sync>(
         → map (λ w. state w) watchers.new.items ≡ map (λ w. state w) watchers.old.items }
 
     // the text that the command makes of an input is written
-    ensures written { result ≡ number Status.Done →
-        IsSomeAnd (asked words.now) (λ request. Answers (map (λ w. state w) watchers.old.items) request (S.left source.old) (K.held sink.old) (K.held sink.new)) }
+    ensures written { result ≡ status_number Status.Done →
+        IsSomeAnd (asked words.now) (λ request. IsWritten (map (λ w. state w) watchers.old.items) request (S.left source.old) (K.held sink.old) (K.held sink.new)) }
 
     // an input that is accepted is answered by what the command makes of it
     ensures complete { IfSome (S.left source.old) (λ input. AsksOf most_bytes (asked words.now) input (IsTaken (map (λ w. state w) watchers.old.items))

@@ -4,7 +4,7 @@ use Rattle.bg_values.specs.declared.refusal.Refusal.{Refusal}
 use Rattle.bg_values.specs.Arithmetic.{Formula}
 use Rattle.bg_values.specs.Outcome.{◌>>=◌}
 use Rattle.bg_values.specs.Lowering.{behind}
-use Rattle.bg_values.specs.Reading.{Onward, along}
+use Rattle.bg_values.specs.Reading.{Onward, items_read}
 use Rattle.bg_values.specs.Scopes.{ScopeParts}
 use Rattle.bg_values.proofs.Items.{item_and_others}
 
@@ -29,6 +29,6 @@ module _ {S F : Type 0} (code : F → List S) where
 -- the items from one on are that one and the others
 pub along_from : {X : Type 0} (read : X → Onward) (items : List X) (index : ℕ) (item : X) → index < length items → item ≡ get_or items index item
     → (scope : ScopeParts) (first : ℕ) (f : Formula)
-    → along (map read (drop index items)) scope first f ≡ read item scope first f >>= along (map read (drop (index + 1) items)) scope first
+    → items_read (map read (drop index items)) scope first f ≡ read item scope first f >>= items_read (map read (drop (index + 1) items)) scope first
 along_from read items index item within is scope first f =
-    ap (λ xs. along (map read xs) scope first f) (item_and_others items index item within is)
+    ap (λ xs. items_read (map read xs) scope first f) (item_and_others items index item within is)

@@ -6,7 +6,7 @@ use Rattle.std.proofs.lemmas.Nat.{div-add-mod'}
 use Rattle.std.proofs.lemmas.Int.{ints, to_z-of_z, fits_signed_mul, unsigned_abs-mul}
 use Rattle.bg_base.specs.Elementary.{counted}
 use Rattle.bg_base.proofs.Counted.{counted_more}
-use Rattle.bg_values.specs.Parameters.{is_empty, steps, count}
+use Rattle.bg_values.specs.Parameters.{is_empty, steps_between, count}
 
 pub none_made : {X : Type 0} (f : ℕ → X) (made : List X) → made ≡ [] → made ≡ map f (counted 0 0)
 unfolding counted
@@ -52,7 +52,7 @@ after_lies_between a (pos k) b i filled l = by (b -ℤ a) refl (not_second (int_
     by (negsuc n) is up few = let upward : a ≤ℤ b = grind (arith, ints, up) in absurd (omega (arith, ints, is, upward))
 
 -- the steps, counted without a sign
-pub steps_unsigned : (a s b : ℤ) → unsigned_abs (b -ℤ a) / unsigned_abs s ≡ steps a s b
+pub steps_unsigned : (a s b : ℤ) → unsigned_abs (b -ℤ a) / unsigned_abs s ≡ steps_between a s b
 steps_unsigned a s b = divided (b -ℤ a) s
   where
     divided : (x y : ℤ) → unsigned_abs x / unsigned_abs y ≡ nat_abs (int_div x y)

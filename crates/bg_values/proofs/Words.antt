@@ -6,7 +6,7 @@ use Rattle.std.specs.List.{prefix_len, position_or_len}
 use Rattle.std.specs.Cmp.Lexicographic.{pointwise}
 use Rattle.indexmap.specs.IndexMap.{IndexMap, get, get_by, insert_entry}
 use Rattle.indexmap.proofs.CallerLemmas.{insert_entry-new}
-use Rattle.bg_values.specs.Names.{Entry, words, number_of}
+use Rattle.bg_values.specs.Names.{Entry, words, name_number}
 
 module _ {A B : Type 0} (test : B → Bool) (f : A → B) where
   prefix_of_map : (xs : List A) → prefix_len (λ x. not (test (f x))) xs ≡ prefix_len (λ y. not (test y)) (map f xs)
@@ -32,15 +32,15 @@ module _ {T : Type 0} where
   names_shown (e ∷ es) = ap (λ ws. e.0.items ∷ ws) (names_shown es)
 
   found_in : (word : List ℕ) (es : List (Vec ℕ Global × T))
-      → position (λ k. pointwise nat_eq word k.items) (map (λ (e : Vec ℕ Global × T). e.0) es) ≡ number_of word (map shown es)
+      → position (λ k. pointwise nat_eq word k.items) (map (λ (e : Vec ℕ Global × T). e.0) es) ≡ name_number word (map shown es)
   found_in word es =
       found_by_words (pointwise nat_eq word) (λ k. k.items) (map (λ (e : Vec ℕ Global × T). e.0) es)
       ∙ ap (position (pointwise nat_eq word)) (names_shown es)
 
   pub found_number : (word : List ℕ) (es : List (Vec ℕ Global × T)) (entries : List (Entry T)) (result : Option ℕ)
       → result ≡ position (λ k. pointwise nat_eq word k.items) (map (λ (e : Vec ℕ Global × T). e.0) es) → map shown es ≡ entries
-      → result ≡ number_of word entries
-  found_number word es entries result is same = is ∙ found_in word es ∙ ap (number_of word) same
+      → result ≡ name_number word entries
+  found_number word es entries result is same = is ∙ found_in word es ∙ ap (name_number word) same
 
   -- a word that is not there goes last
   pub added_last : {S : Type 0} (m : IndexMap (Vec ℕ Global) T S) (word : List ℕ) (key : Vec ℕ Global) (value : T) (entries : List (Entry T))

@@ -13,6 +13,6 @@ values_kept (Listed values) = values.value
 values_kept (Range bounds) = map (number_after bounds.first bounds.step) (counted 0 (count bounds.first bounds.step bounds.end))
 
 -- a range that is kept is not empty, and has at most 4,096 numbers
-abbrev pub IsKept : Kept → Type 0
-IsKept (Listed values) = Unit {0}
-IsKept (Range bounds) = (is_empty bounds.first bounds.step bounds.end ≡ false) × (count bounds.first bounds.step bounds.end ≤ most_values)
+abbrev pub IsKeptRange : Kept → Type 0
+IsKeptRange (Listed values) = Unit {0}
+IsKeptRange (Range bounds) = (is_empty bounds.first bounds.step bounds.end ≡ false) × (count bounds.first bounds.step bounds.end ≤ most_values)

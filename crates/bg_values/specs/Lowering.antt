@@ -21,6 +21,6 @@ abbrev pub Extends : {X : Type 0} → Result X Stop → List Step → List Step 
 Extends result old new item = (base : List Step) (f : Formula) → old ≡ base ++ code_of f → Goes result new (lowered base (item f))
 
 -- a call gives the steps of the formula that is read, or stops
-abbrev pub Reads : Result Code Stop → Result Formula Refusal → Type 0
-Reads (Ok code) read = (f : Formula) × (read ≡ Ok f) × IsCodeOf f code
-Reads (Err stop) read = Stops stop read
+abbrev pub GivesSteps : Result Code Stop → Result Formula Refusal → Type 0
+GivesSteps (Ok code) read = (f : Formula) × (read ≡ Ok f) × IsCodeOf f code
+GivesSteps (Err stop) read = Stops stop read

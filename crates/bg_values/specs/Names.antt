@@ -16,8 +16,8 @@ module _ {T : Type 0} where
   words entries = map (λ (e : Entry T). e.0) entries
 
   -- the number of the name, from 0
-  abbrev pub number_of : List ℕ → List (Entry T) → Option ℕ
-  number_of word entries = position (same_word word) (words entries)
+  abbrev pub name_number : List ℕ → List (Entry T) → Option ℕ
+  name_number word entries = position (same_word word) (words entries)
 
   -- the entry with that number: the number, and what the name stands for
   abbrev pub entry_at : List (Entry T) → Option ℕ → Option (ℕ × T)
@@ -26,4 +26,4 @@ module _ {T : Type 0} where
 
   -- the number of the name, and what it stands for
   abbrev pub look_up : List ℕ → List (Entry T) → Option (ℕ × T)
-  look_up word entries = entry_at entries (number_of word entries)
+  look_up word entries = entry_at entries (name_number word entries)

@@ -3,11 +3,11 @@ use Rattle.std.specs.Prelude.{ℕ, ℤ, pos, nat_eq, nat_le, if◌then◌else◌
 use Rattle.std.specs.List.{list_all}
 use Rattle.std.specs.Char.{is_ascii_digit}
 use Rattle.std.specs.Str.Parse.{digits_value}
-use Rattle.bg_text.specs.Tokens.{greatest}
+use Rattle.bg_text.specs.Tokens.{greatest_int}
 
 -- the number, where it is not above the greatest
 abbrev pub small_value : List ℕ → Option ℤ
-small_value digits = if nat_le (digits_value 10 digits) greatest then Some (pos (digits_value 10 digits)) else None
+small_value digits = if nat_le (digits_value 10 digits) greatest_int then Some (pos (digits_value 10 digits)) else None
 
 -- the number that the bytes spell, where they are digits alone; no bytes spell no number
 abbrev pub number_in : List ℕ → Option ℤ

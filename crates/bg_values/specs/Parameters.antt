@@ -35,12 +35,12 @@ abbrev pub is_empty : ℤ → ℤ → ℤ → Bool
 is_empty a s b = int_lt s (pos 1) || int_lt b a
 
 -- how many steps go from a towards b and not beyond
-abbrev pub steps : ℤ → ℤ → ℤ → ℕ
-steps a s b = nat_abs (int_div (b -ℤ a) s)
+abbrev pub steps_between : ℤ → ℤ → ℤ → ℕ
+steps_between a s b = nat_abs (int_div (b -ℤ a) s)
 
 -- how many numbers a range has that is not empty
 abbrev pub count : ℤ → ℤ → ℤ → ℕ
-count a s b = suc (steps a s b)
+count a s b = suc (steps_between a s b)
 
 -- the number after so many steps
 abbrev pub number_after : ℤ → ℤ → ℕ → Value
@@ -65,14 +65,14 @@ evaluated_range name bracket f g h =
     whole_of f.0 u >>= λ a. numbered_range name bracket a g.0 v h.0 w
 
 -- a range: its three parts, what they come to, then that each is a number
-abbrev pub ranged : ScopeParts → ℕ → ℕ → SynX → SynX → SynX → Result (List Value) Refusal
-ranged scope name bracket from step to =
+abbrev pub range_read : ScopeParts → ℕ → ℕ → SynX → SynX → SynX → Result (List Value) Refusal
+range_read scope name bracket from step to =
     operand_read scope from >>= λ f. operand_read scope step >>= λ g. operand_read scope to >>= λ h. evaluated_range name bracket f g h
 
 -- the numbers that a set says: a list, a range or one number
 abbrev pub int_values : ScopeParts → ℕ → SynIntSet → Result (List Value) Refusal
 int_values scope name (int_sets.Way1 bracket first more end) = listed scope name first more.items
-int_values scope name (int_sets.Way2 bracket from colon step colon2 to end) = ranged scope name bracket from step to
+int_values scope name (int_sets.Way2 bracket from colon step colon2 to end) = range_read scope name bracket from step to
 int_values scope name (int_sets.Way3 only) = listed scope name only []
 
 -- the texts of some tokens

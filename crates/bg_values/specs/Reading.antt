@@ -18,7 +18,7 @@ use Rattle.bg_values.specs.declared.formula.Operator.TheVariants.{Add, Subtract,
 use Rattle.bg_values.specs.declared.refusal.Refusal.{Refusal}
 use Rattle.bg_values.specs.declared.refusal.Cause.TheVariants.{Unexpected, UnknownName}
 use Rattle.bg_values.specs.Arithmetic.{Formula, whole, words, name, negation, operation}
-use Rattle.bg_values.specs.Names.{number_of}
+use Rattle.bg_values.specs.Names.{name_number}
 use Rattle.bg_values.specs.Numbers.{number_in}
 use Rattle.bg_values.specs.Outcome.{◌>>=◌, refused, there_or}
 use Rattle.bg_values.specs.Scopes.{ScopeParts, spelling}
@@ -51,7 +51,7 @@ text_at scope token = if is_text (between (spelling scope token)) then Ok (betwe
 
 -- the number of the visible name that a token spells
 abbrev pub name_at : ScopeParts → ℕ → Result ℕ Refusal
-name_at scope token = there_or UnknownName token (number_of (spelling scope token) scope.names)
+name_at scope token = there_or UnknownName token (name_number (spelling scope token) scope.names)
 
 -- the formulas of a number, of a text, of a name, and of a negation
 abbrev pub whole_at : ScopeParts → ℕ → Result Formula Refusal
@@ -63,13 +63,13 @@ words_at scope token = text_at scope token >>= λ text. Ok (words text)
 abbrev pub named_at : ScopeParts → ℕ → Result Formula Refusal
 named_at scope token = name_at scope token >>= λ number. Ok (name token number)
 
-abbrev pub negated : ℕ → Reading → ScopeParts → Result Formula Refusal
-negated at operand scope = operand.1 scope >>= λ f. Ok (negation at operand.0 f)
+abbrev pub negation_at : ℕ → Reading → ScopeParts → Result Formula Refusal
+negation_at at operand scope = operand.1 scope >>= λ f. Ok (negation at operand.0 f)
 
 -- a formula with the first item, and so on
-abbrev pub along : List Onward → Onward
-along [] scope first f = Ok f
-along (item ∷ items) scope first f = item scope first f >>= along items scope first
+abbrev pub items_read : List Onward → Onward
+items_read [] scope first f = Ok f
+items_read (item ∷ items) scope first f = item scope first f >>= items_read items scope first
 
 -- an operation of the formula and of what the tree behind the operator says
 abbrev pub operated : Operator → ℕ → Reading → Onward
@@ -87,7 +87,7 @@ abbrev pub u_layer : SynU-F Onward Reading Onward Reading Reading → Reading
 u_layer (u_1 number) = (number_token number, λ scope. whole_at scope (number_token number))
 u_layer (u_2 token) = (token, λ scope. words_at scope token)
 u_layer (u_3 token) = (token, λ scope. named_at scope token)
-u_layer (u_4 at u) = (at, negated at u.value)
+u_layer (u_4 at u) = (at, negation_at at u.value)
 u_layer (u_5 bracket x end) = (bracket, x.value.1)
 
 -- X1 = "+" T X1 | "-" T X1 | none
@@ -97,11 +97,11 @@ x1_item_layer (x1_2 at t) = operated Subtract at t.value
 
 -- T = U T1
 abbrev pub t_layer : SynT-F Onward Reading Onward Reading Reading → Reading
-t_layer t = (t.part1.value.0, λ scope. t.part1.value.1 scope >>= along t.part2.items scope t.part1.value.0)
+t_layer t = (t.part1.value.0, λ scope. t.part1.value.1 scope >>= items_read t.part2.items scope t.part1.value.0)
 
 -- X = T X1
 abbrev pub x_layer : SynX-F Onward Reading Onward Reading Reading → Reading
-x_layer x = (x.part1.value.0, λ scope. x.part1.value.1 scope >>= along x.part2.items scope x.part1.value.0)
+x_layer x = (x.part1.value.0, λ scope. x.part1.value.1 scope >>= items_read x.part2.items scope x.part1.value.0)
 
 -- what each tree says
 abbrev pub t1_item_read : SynT1Item → Onward

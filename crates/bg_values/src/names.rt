@@ -66,7 +66,7 @@ impl<T: Drop> NameTable<T> {
 
     /// The number of the name, counted from 0. Takes as long as the name has bytes, on average.
     pub fn find(&self, word: &[u8]) -> Option<u32>
-        ensures { result ≡ definition.number_of word.now self.now }
+        ensures { result ≡ definition.name_number word.now self.now }
     {
         match self.entries.get_index_of(word) {
             Some(number) => Some(number as u32),
@@ -100,7 +100,7 @@ impl<T: Drop> NameTable<T> {
         ensures added { IfOk result (λ new. MatchBool new
             (self.new ≡ self.old ++ (word.now, value) ∷ [])
             (self.new ≡ self.old)) }
-        ensures there { IfOk result (λ new. new ≡ is_none (definition.number_of word.now self.old)) }
+        ensures there { IfOk result (λ new. new ≡ is_none (definition.name_number word.now self.old)) }
         ensures unchanged { OnErr result (self.new ≡ self.old) }
     {
         match self.entries.get_index_of(word) {

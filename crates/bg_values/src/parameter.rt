@@ -113,7 +113,7 @@ fn ranged(
     step: &SynX,
     to: &SynX,
 ) -> Result<ParameterValues, Stop>
-    ensures { Gives result (definition.ranged scope.now name bracket from.now step.now to.now) }
+    ensures { Gives result (definition.range_read scope.now name bracket from.now step.now to.now) }
 {
     let from = operand_of(alloc, scope, from)?;
     let step = operand_of(alloc, scope, step)?;

@@ -2,7 +2,7 @@
 ghost use Rattle.std.specs.Prelude.{◌≡◌, map};
 ghost use Rattle.bg_values.specs.Outcome.{Gives, Goes};
 ghost use Rattle.bg_values.specs.Reading as definition;
-ghost use Rattle.bg_values.specs.Lowering.{lowered, Extends, Reads};
+ghost use Rattle.bg_values.specs.Lowering.{lowered, Extends, GivesSteps};
 
 use crate::formula::{Formula, Operator, Step};
 use crate::number::number_in;
@@ -16,7 +16,7 @@ use std::alloc::Global;
 /// The formula that a tree is, its names numbered as they stand among the visible ones. Refuses the first name that is
 /// not visible. Linear in the tree.
 pub fn formula_of(alloc: Global, scope: &Scope, tree: &SynX) -> Result<Formula, Stop>
-    ensures { Reads result ((definition.x_read tree.now).1 scope.now) }
+    ensures { GivesSteps result ((definition.x_read tree.now).1 scope.now) }
 {
     let mut steps = Vec::new(alloc);
     lower_x(alloc, scope, tree, &mut steps)?;
@@ -125,7 +125,7 @@ fn lower_x_items(
     items: &[SynX1Item],
     steps: &mut Vec<Step>,
 ) -> Result<(), Stop>
-    ensures { Extends result steps.old.items steps.new.items (definition.along (map definition.x1_item_read items.now) scope.now first) }
+    ensures { Extends result steps.old.items steps.new.items (definition.items_read (map definition.x1_item_read items.now) scope.now first) }
 {
     for item in items {
         lower_x_item(alloc, scope, first, item, steps)?;
@@ -209,7 +209,7 @@ fn lower_t_items(
     items: &[SynT1Item],
     steps: &mut Vec<Step>,
 ) -> Result<(), Stop>
-    ensures { Extends result steps.old.items steps.new.items (definition.along (map definition.t1_item_read items.now) scope.now first) }
+    ensures { Extends result steps.old.items steps.new.items (definition.items_read (map definition.t1_item_read items.now) scope.now first) }
 {
     for item in items {
         lower_t_item(alloc, scope, first, item, steps)?;
@@ -292,7 +292,7 @@ fn lower_negation(
     operand: &SynU,
     steps: &mut Vec<Step>,
 ) -> Result<(), Stop>
-    ensures { Goes result steps.new.items (lowered steps.old.items (definition.negated at (definition.u_read operand.now) scope.now)) }
+    ensures { Goes result steps.new.items (lowered steps.old.items (definition.negation_at at (definition.u_read operand.now) scope.now)) }
 {
     lower_u(alloc, scope, operand, steps)?;
     steps.push(Step::Negate {

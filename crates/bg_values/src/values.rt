@@ -28,13 +28,13 @@ enum Kept {
 impl Model for ParameterValues {
     ghost use Rattle.std.specs.Prelude.{List};
     ghost use Rattle.bg_base.specs.declared.labels.Value.{Value as OneValue};
-    ghost use Rattle.bg_values.specs.KeptValues.{IsKept, values_kept};
+    ghost use Rattle.bg_values.specs.KeptValues.{IsKeptRange, values_kept};
 
     ghost Value = { List OneValue };
 
     ghost view = { λ values. values_kept values.kept };
 
-    ghost invariant = { λ values. IsKept values.kept };
+    ghost invariant = { λ values. IsKeptRange values.kept };
 }
 
 impl ParameterValues {
@@ -124,7 +124,7 @@ pub(crate) struct Bounds {
 /// How many steps go from the first number towards the end and not beyond.
 pub(crate) fn steps_of(bounds: &Bounds) -> u128
     requires { definition.is_empty bounds.now.first bounds.now.step bounds.now.end ≡ false }
-    ensures { result ≡ definition.steps bounds.now.first bounds.now.step bounds.now.end }
+    ensures { result ≡ definition.steps_between bounds.now.first bounds.now.step bounds.now.end }
 {
     difference_of(bounds).unsigned_abs() / u128::from(bounds.step.unsigned_abs())
 }

@@ -25,11 +25,11 @@ abbrev pub one_more : ℕ → ℕ
 one_more count = min (count + 1) (2 ^ 64 - 1)
 
 -- what it becomes where it is told of an entry, after which the host has so many nodes
-abbrev pub told : Watched → Entry → ℕ → Watched
-told (tally count) entry nodes = tally (one_more count)
-told (last_rule rule) entry nodes = last_rule (Some entry.rule)
-told (peak most) entry nodes = peak (max most nodes)
-told (budget most count) entry nodes = budget most (one_more count)
+abbrev pub after_entry : Watched → Entry → ℕ → Watched
+after_entry (tally count) entry nodes = tally (one_more count)
+after_entry (last_rule rule) entry nodes = last_rule (Some entry.rule)
+after_entry (peak most) entry nodes = peak (max most nodes)
+after_entry (budget most count) entry nodes = budget most (one_more count)
 
 -- whether it has enough
 abbrev pub has_enough : Watched → Bool
@@ -57,13 +57,13 @@ line_of (budget most count) = codes "watch budget " ++ (decimal count ++ codes "
 abbrev pub staying : List Watched → Entry → ℕ → List Watched
 staying [] entry nodes = []
 staying (watcher ∷ watchers) entry nodes =
-    if has_enough (told watcher entry nodes) then staying watchers entry nodes else told watcher entry nodes ∷ staying watchers entry nodes
+    if has_enough (after_entry watcher entry nodes) then staying watchers entry nodes else after_entry watcher entry nodes ∷ staying watchers entry nodes
 
 -- the lines of the others, in order
 abbrev pub leaving : List Watched → Entry → ℕ → List ℕ
 leaving [] entry nodes = []
 leaving (watcher ∷ watchers) entry nodes =
-    if has_enough (told watcher entry nodes) then line_of (told watcher entry nodes) ++ leaving watchers entry nodes else leaving watchers entry nodes
+    if has_enough (after_entry watcher entry nodes) then line_of (after_entry watcher entry nodes) ++ leaving watchers entry nodes else leaving watchers entry nodes
 
 -- the watchers that stay where they are told of all entries, in order, each with the nodes of the host after it
 abbrev pub staying_all : List Watched → List Entry → List ℕ → List Watched

@@ -1,7 +1,7 @@
 //! Telling a list of watchers.
 ghost use Rattle.std.specs.Prelude.{◌≡◌, ◌+◌, ◌*◌, ◌≤◌, ◌++◌, length, map, OnOk, OnErr, vec_len, vec_capacity};
 ghost use Rattle.std.specs.List.{flat_map};
-ghost use Rattle.bg_watch.specs.Watching.{has_enough, is_enough, leaving, leaving_all, line_of, staying, staying_all, told, watch_lines};
+ghost use Rattle.bg_watch.specs.Watching.{has_enough, is_enough, leaving, leaving_all, line_of, staying, staying_all, after_entry, watch_lines};
 
 use crate::watcher::{Answer, Watcher};
 use bg_base::Entry;
@@ -83,7 +83,7 @@ fn write_lines(watchers: &[Box<dyn Watcher>], out: &mut Vec<u8>)
 
 /// The watcher is told of the entry.
 fn tell(watcher: &mut Box<dyn Watcher>, entry: &Entry, nodes: u32) -> Answer
-    ensures told { state watcher.new ≡ told (state watcher.old) entry.now nodes }
+    ensures told { state watcher.new ≡ after_entry (state watcher.old) entry.now nodes }
     ensures enough { is_enough result ≡ has_enough (state watcher.new) }
 {
     watcher.note(entry, nodes)

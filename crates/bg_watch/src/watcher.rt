@@ -1,6 +1,6 @@
 //! Who is told of the entries of a run.
 ghost use Rattle.std.specs.Prelude.{◌≡◌, ◌+◌, ◌≤◌, ◌++◌, vec_len, vec_capacity};
-ghost use Rattle.bg_watch.specs.Watching.{Watched, told, has_enough, is_enough, line_of};
+ghost use Rattle.bg_watch.specs.Watching.{Watched, after_entry, has_enough, is_enough, line_of};
 
 use bg_base::Entry;
 
@@ -20,7 +20,7 @@ pub trait Watcher: Drop {
 
     /// Is told of an entry and of the number of nodes of the host after it.
     fn note(&mut self, entry: &Entry, nodes: u32) -> Answer
-        ensures told { state self.new ≡ told (state self.old) entry.now nodes }
+        ensures told { state self.new ≡ after_entry (state self.old) entry.now nodes }
         ensures enough { is_enough result ≡ has_enough (state self.new) };
 
     /// Appends its line, of at most 64 bytes, for which there has to be room.

@@ -14,6 +14,6 @@ abbrev pub is_one_of : Numbers → ℕ → Bool
 is_one_of numbers number = nat_le numbers.least number && nat_le number numbers.greatest
 
 -- the number that the text writes, where it is of that form and one of these
-abbrev pub number_of : Numbers → List ℕ → Option ℕ
-number_of numbers text =
+abbrev pub option_value : Numbers → List ℕ → Option ℕ
+option_value numbers text =
     if is_number text && is_one_of numbers (digits_value 10 text) then Some (digits_value 10 text) else None

@@ -9,7 +9,7 @@ use Rattle.bg_words.specs.declared.asking.Request.{Request}
 use Rattle.bg_words.specs.declared.command.Command.{Command}
 use Rattle.bg_words.specs.declared.numbers.Numbers.{Numbers}
 use Rattle.bg_words.specs.Commands.{command_of}
-use Rattle.bg_words.specs.Numbers.{number_of}
+use Rattle.bg_words.specs.Numbers.{option_value}
 use Rattle.bg_words.specs.Options as option
 use Rattle.bg_words.specs.Options.{the_app}
 
@@ -25,7 +25,7 @@ command_in rows = first_of (codes "command") rows >>= command_of
 -- the number that the text of an option writes, or the default where there is no text
 abbrev pub number_or_default : Numbers → Option (List ℕ) → Option ℕ
 number_or_default numbers None = Some numbers.default
-number_or_default numbers (Some text) = number_of numbers text
+number_or_default numbers (Some text) = option_value numbers text
 
 -- the number of the option with that name
 abbrev pub number_in : List Row → List ℕ → Numbers → Option ℕ

@@ -18,7 +18,7 @@ pub(crate) struct Numbers {
 
 /// The number that the text writes in one to twenty digits, where it is one of these.
 pub(crate) fn number_of(text: &str, numbers: Numbers) -> Option<u64>
-    ensures { result ≡ definition.number_of numbers text.now }
+    ensures { result ≡ definition.option_value numbers text.now }
 {
     if !is_number(text) {
         return None;

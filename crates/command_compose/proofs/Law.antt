@@ -10,7 +10,7 @@ use Rattle.bg_listing.specs.Verdict.{signature_verdict, big_verdict}
 use Rattle.bg_listing.proofs.Passes.{signature_verdict_is, big_verdict_is}
 use Rattle.command_compose.specs.declared.operands.Operands.{Operands}
 use Rattle.bg_answers.specs.declared.refusal.Refusal.{Refusal}
-use Rattle.command_compose.specs.Compose.{Lists, IsComposition, start, cursor_before, listed, big_in, ended, operands, joined, composed}
+use Rattle.command_compose.specs.Compose.{Lists, IsComposition, start, cursor_before, listed_or_refused, big_in, ended_or_refused, operands, composed_or_refused, composed}
 use Rattle.command_compose.proofs.Joined.{by_tests, joined_whole}
 use Rattle.command_compose.proofs.Reading.{with_lower, with_upper}
 use Rattle.command_compose.proofs.Verdicts.{signature_there, big_there}
@@ -29,11 +29,11 @@ succeeds (Err fault) second found e = absurd cc
 same_value : {A E : Type 0} (read : Result A E) (x y : A) → read ≡ Ok x → read ≡ Ok y → x ≡ y
 same_value read x y first second = cc
 
-was_listed : {A : Type 0} (read : Result A (ℕ × ℕ)) (found : A) → listed read ≡ Ok found → read ≡ Ok found
+was_listed : {A : Type 0} (read : Result A (ℕ × ℕ)) (found : A) → listed_or_refused read ≡ Ok found → read ≡ Ok found
 was_listed (Ok x) found e = ap Ok cc
 was_listed (Err fault) found e = absurd cc
 
-was_ended : {A : Type 0} (input rest : List ℕ) (x found : A) → ended input rest x ≡ Ok found → (rest ≡ []) × (x ≡ found)
+was_ended : {A : Type 0} (input rest : List ℕ) (x found : A) → ended_or_refused input rest x ≡ Ok found → (rest ≡ []) × (x ≡ found)
 was_ended input [] x found e = (refl, cc)
 was_ended input (byte ∷ rest) x found e = absurd cc
 
@@ -65,15 +65,15 @@ operands_of input o lists =
     big_verdict_is sign kept input (cursor_before input (upper ++ lower)) o.upper lower lists.upper_readable (drop-front input front (upper ++ lower) lists.text) in
     let third : big_verdict sign input (cursor_before input lower) ≡ Ok (o.lower, []) =
     big_verdict_is sign kept input (cursor_before input lower) o.lower [] lists.lower_readable (drop-front input (front ++ upper) lower again ∙ sym (append-nil lower)) in
-    ap (λ v. listed v >>= λ s. with_upper input s.0 (big_in s.0 input s.1)) first
-    ∙ ap (λ v. with_upper input sign (listed v)) second
-    ∙ ap (λ v. with_lower input sign o.upper (listed v)) third
+    ap (λ v. listed_or_refused v >>= λ s. with_upper input s.0 (big_in s.0 input s.1)) first
+    ∙ ap (λ v. with_upper input sign (listed_or_refused v)) second
+    ∙ ap (λ v. with_lower input sign o.upper (listed_or_refused v)) third
 
 pub composed_of : (input output : List ℕ) → IsComposition input output → composed input ≡ Ok output
 unfolding composed
 composed_of input output is =
     let o = is.operands in
-    ap (λ r. r >>= λ p. joined p.upper p.lower >>= λ whole. Ok (big_text p.signature whole)) (operands_of input o is.listed)
+    ap (λ r. r >>= λ p. composed_or_refused p.upper p.lower >>= λ whole. Ok (big_text p.signature whole)) (operands_of input o is.listed)
     ∙ ap (λ r. r >>= λ whole. Ok (big_text o.signature whole)) (joined_whole o.upper o.lower is.faces is.supports)
     ∙ ap Ok (sym is.output_is)
 
@@ -104,11 +104,11 @@ lists_from input s g f first second third none =
 pub lists_of : (input : List ℕ) (o : Operands) → operands input ≡ Ok o → Lists input o
 unfolding operands
 lists_of input o is =
-    let one = succeeds (listed (signature_verdict input start)) (λ s. with_upper input s.0 (big_in s.0 input s.1)) o is in
+    let one = succeeds (listed_or_refused (signature_verdict input start)) (λ s. with_upper input s.0 (big_in s.0 input s.1)) o is in
     let s = one.value in
     let two = succeeds (big_in s.0 input s.1) (λ g. with_lower input s.0 g.0 (big_in s.0 input g.1)) o one.second_is in
     let g = two.value in
-    let three = succeeds (big_in s.0 input g.1) (λ f. ended input f.1 (record { signature = s.0; upper = g.0; lower = f.0 })) o two.second_is in
+    let three = succeeds (big_in s.0 input g.1) (λ f. ended_or_refused input f.1 (record { signature = s.0; upper = g.0; lower = f.0 })) o two.second_is in
     let f = three.value in
     let end = was_ended input f.1 (record { signature = s.0; upper = g.0; lower = f.0 }) o three.second_is in
     subst (Lists input) end.1 (lists_from input s g f
@@ -127,15 +127,15 @@ joins_by g f whole true true agree apart e = record { faces = FacesAgree-from_te
 joins_by g f whole true false agree apart e = absurd cc
 joins_by g f whole false supports agree apart e = absurd cc
 
-joins_of : (g f whole : Big) → joined g f ≡ Ok whole → Joins g f whole
+joins_of : (g f whole : Big) → composed_or_refused g f ≡ Ok whole → Joins g f whole
 joins_of g f whole is = joins_by g f whole (faces_agree g f) (supports_apart g f) refl refl is
 
 pub composition_of : (input output : List ℕ) → composed input ≡ Ok output → IsComposition input output
 unfolding composed
 composition_of input output is =
-    let read = succeeds (operands input) (λ o. joined o.upper o.lower >>= λ whole. Ok (big_text o.signature whole)) output is in
+    let read = succeeds (operands input) (λ o. composed_or_refused o.upper o.lower >>= λ whole. Ok (big_text o.signature whole)) output is in
     let o = read.value in
-    let join = succeeds (joined o.upper o.lower) (λ whole. Ok (big_text o.signature whole)) output read.second_is in
+    let join = succeeds (composed_or_refused o.upper o.lower) (λ whole. Ok (big_text o.signature whole)) output read.second_is in
     let joins = joins_of o.upper o.lower join.value join.first_is in
     let text : big_text o.signature join.value ≡ output = same_value {E = Refusal} (Ok (big_text o.signature join.value)) (big_text o.signature join.value) output refl join.second_is in
     record {

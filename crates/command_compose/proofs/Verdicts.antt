@@ -7,7 +7,7 @@ use Rattle.bg_base.specs.Limits.{most_ports}
 use Rattle.bg_base.specs.declared.signature.Control.{Control}
 use Rattle.bg_base.specs.declared.big.Big.{Big}
 use Rattle.bg_base.specs.declared.check.Part.{Part}
-use Rattle.bg_base.specs.Signatures.{number_of, same_label, IsSignature}
+use Rattle.bg_base.specs.Signatures.{control_number, same_label, IsSignature}
 use Rattle.bg_base.specs.Faults.{fault_of}
 use Rattle.bg_base.proofs.FaultLaws.{no_fault}
 use Rattle.bg_listing.specs.declared.cursor.Cursor.{Cursor}
@@ -44,10 +44,10 @@ finds_none true later e = absurd cc
 finds_none false None e = (refl, refl)
 finds_none false (Some n) e = absurd cc
 
-all_differ : (controls : List Control) (control : Control) → number_of controls control.label ≡ None → AllByRecursion (λ c. same c control ≡ false) controls
+all_differ : (controls : List Control) (control : Control) → control_number controls control.label ≡ None → AllByRecursion (λ c. same c control ≡ false) controls
 all_differ [] control e = tt
 all_differ (c ∷ controls) control e =
-    let parts = finds_none (same c control) (number_of controls control.label) e in (parts.0, all_differ controls control parts.1)
+    let parts = finds_none (same c control) (control_number controls control.label) e in (parts.0, all_differ controls control parts.1)
 
 all_more : {A : Type 0} (P : A → Type 0) (xs : List A) (x : A) → AllByRecursion P xs → P x → AllByRecursion P (xs ++ x ∷ [])
 all_more P [] x all p = (p, tt)
@@ -62,8 +62,8 @@ distinct_more (c ∷ controls) control distinct all =
 labels_differ : (before controls : List Control) → IsDistinct same before → repeat_among before controls ≡ None → IsDistinct same (before ++ controls)
 labels_differ before [] distinct none = subst (IsDistinct same) (sym (append-nil before)) distinct
 labels_differ before (c ∷ controls) distinct none =
-    let parts = finds_none (is_some (number_of before c.label)) (repeat_among (before ++ c ∷ []) controls) none in
-    let more = distinct_more before c distinct (all_differ before c (no_value (number_of before c.label) parts.0)) in
+    let parts = finds_none (is_some (control_number before c.label)) (repeat_among (before ++ c ∷ []) controls) none in
+    let more = distinct_more before c distinct (all_differ before c (no_value (control_number before c.label) parts.0)) in
     subst (IsDistinct same) (append_assoc before (c ∷ []) controls) (labels_differ (before ++ c ∷ []) controls more parts.1)
 
 no_repeat : (controls : List Control) → first_repeat controls ≡ None → IsDistinct same controls

@@ -8,7 +8,7 @@ use Rattle.bg_listing.specs.declared.cursor.Cursor.{Cursor}
 use Rattle.bg_listing.specs.Combinators.{◌>>=◌}
 use Rattle.bg_listing.specs.Limits.{IsReadableSignature, IsReadableBig}
 use Rattle.bg_listing.specs.Spelling.{signature_text, big_text}
-use Rattle.bg_listing.specs.Verdict.{signature_verdict, big_verdict, line_of}
+use Rattle.bg_listing.specs.Verdict.{signature_verdict, big_verdict, line_number}
 use Rattle.bg_answers.specs.Promise.{Promise}
 use Rattle.command_compose.specs.declared.operands.Operands.{Operands}
 use Rattle.bg_answers.specs.declared.refusal.Refusal.{Refusal}
@@ -41,35 +41,35 @@ start = record { offset = 0; line = 1 }
 
 -- the place in the input at which this much is left
 abbrev pub cursor_before : List ℕ → List ℕ → Cursor
-cursor_before input rest = record { offset = length input - length rest; line = line_of input (length rest) }
+cursor_before input rest = record { offset = length input - length rest; line = line_number input (length rest) }
 
 -- what is listed, or the refusal by a code and a line
-abbrev pub listed : {A : Type 0} → Result A (ℕ × ℕ) → Result A Refusal
-listed (Ok found) = Ok found
-listed (Err fault) = Err (Listing fault.0 fault.1)
+abbrev pub listed_or_refused : {A : Type 0} → Result A (ℕ × ℕ) → Result A Refusal
+listed_or_refused (Ok found) = Ok found
+listed_or_refused (Err fault) = Err (Listing fault.0 fault.1)
 
 -- the bigraph that is listed where this much is left, and what stands behind it
 abbrev pub big_in : List Control → List ℕ → List ℕ → Result (Big × List ℕ) Refusal
-big_in signature input rest = listed (big_verdict signature input (cursor_before input rest))
+big_in signature input rest = listed_or_refused (big_verdict signature input (cursor_before input rest))
 
 -- nothing stands behind; else the refusal of the line that does
-abbrev pub ended : {A : Type 0} → List ℕ → List ℕ → A → Result A Refusal
-ended input [] found = Ok found
-ended input (byte ∷ rest) found = Err (Listing 8 (line_of input (length (byte ∷ rest))))
+abbrev pub ended_or_refused : {A : Type 0} → List ℕ → List ℕ → A → Result A Refusal
+ended_or_refused input [] found = Ok found
+ended_or_refused input (byte ∷ rest) found = Err (Listing 8 (line_number input (length (byte ∷ rest))))
 
 -- the signature and the two bigraphs that the input lists
 unfoldable pub operands : List ℕ → Result Operands Refusal
 operands input =
-    listed (signature_verdict input start) >>= λ s. big_in s.0 input s.1 >>= λ g. big_in s.0 input g.1 >>= λ f.
-    ended input f.1 (record { signature = s.0; upper = g.0; lower = f.0 })
+    listed_or_refused (signature_verdict input start) >>= λ s. big_in s.0 input s.1 >>= λ g. big_in s.0 input g.1 >>= λ f.
+    ended_or_refused input f.1 (record { signature = s.0; upper = g.0; lower = f.0 })
 
 -- the composition of G and F
-abbrev pub joined : Big → Big → Result Big Refusal
-joined g f = if not (faces_agree g f) then Err FacesDiffer else (if not (supports_apart g f) then Err SupportMeets else Ok (compose g f))
+abbrev pub composed_or_refused : Big → Big → Result Big Refusal
+composed_or_refused g f = if not (faces_agree g f) then Err FacesDiffer else (if not (supports_apart g f) then Err SupportMeets else Ok (compose g f))
 
 -- the listing of the composition of what the input lists
 unfoldable pub composed : List ℕ → Result (List ℕ) Refusal
-composed input = operands input >>= λ o. joined o.upper o.lower >>= λ whole. Ok (big_text o.signature whole)
+composed input = operands input >>= λ o. composed_or_refused o.upper o.lower >>= λ whole. Ok (big_text o.signature whole)
 
 -- ---- what `compose` promises
 

@@ -2,8 +2,8 @@
 ghost use Rattle.std.specs.Prelude.{◌-◌, ◌<◌, ◌^◌, List, length, IfOk};
 ghost use Rattle.bg_base.specs.declared.signature.Control.{Control};
 ghost use Rattle.bg_base.specs.Bigraph.{IsValid, IsValidUnder};
-ghost use Rattle.command_compose.specs.Compose.{composed, joined};
-ghost use Rattle.bg_answers.specs.Failure.{Gives};
+ghost use Rattle.command_compose.specs.Compose.{composed, composed_or_refused};
+ghost use Rattle.bg_answers.specs.Failure.{GivesOrRefuses};
 
 use crate::operands::{Operands, read_operands};
 use bg_answers::Failure;
@@ -15,7 +15,7 @@ use std::alloc::Global;
 #[tactic(auto, unfolding(crate::specs::Compose::composed))]
 pub(crate) fn composition(alloc: Global, input: &[u8]) -> Result<Vec<u8>, Failure>
     requires { length input.now < 2 ^ 32 - 1 }
-    ensures { Gives (λ text. text.items) result (composed input.now) }
+    ensures { GivesOrRefuses (λ text. text.items) result (composed input.now) }
 {
     let Operands {
         signature,
@@ -32,7 +32,7 @@ pub(crate) fn composition(alloc: Global, input: &[u8]) -> Result<Vec<u8>, Failur
 fn join(alloc: Global, upper: Big, lower: Big) -> Result<Big, Failure>
     requires upper_valid { IsValid upper }
     requires lower_valid { IsValid lower }
-    ensures exact { Gives (λ whole. whole) result (joined upper lower) }
+    ensures exact { GivesOrRefuses (λ whole. whole) result (composed_or_refused upper lower) }
     ensures fits { (signature : List Control) → IsValidUnder signature upper → IsValidUnder signature lower
         → IfOk result (IsValidUnder signature) }
 {

@@ -1,7 +1,7 @@
 //! What `compose` reads.
 ghost use Rattle.std.specs.Prelude.{◌-◌, ◌<◌, ◌^◌, length, IfOk};
 ghost use Rattle.bg_base.specs.Bigraph.{IsValidUnder};
-ghost use Rattle.bg_answers.specs.Failure.{Gives};
+ghost use Rattle.bg_answers.specs.Failure.{GivesOrRefuses};
 
 use bg_answers::{Failure, Refusal};
 use bg_base::{Big, Signature};
@@ -25,7 +25,7 @@ ghost use Rattle.command_compose.specs.Compose.{operands};
 #[tactic(auto, unfolding(crate::specs::Compose::operands))]
 pub(crate) fn read_operands(alloc: Global, input: &[u8]) -> Result<Operands, Failure>
     requires { length input.now < 2 ^ 32 - 1 }
-    ensures exact { Gives (λ o. o) result (operands input.now) }
+    ensures exact { GivesOrRefuses (λ o. o) result (operands input.now) }
     ensures valid { IfOk result (λ o. IsValidUnder o.signature o.upper × IsValidUnder o.signature o.lower) }
 {
     let start = Cursor { offset: 0, line: 1 };

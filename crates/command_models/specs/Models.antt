@@ -9,7 +9,7 @@ use Rattle.bg_show_text.specs.SystemText.{system_text}
 use Rattle.command_models.specs.Check.{check_text}
 
 -- the text of the system that the input describes
-pub record IsTextOf (text_of : SystemParts → List ℕ) (input text : List ℕ) : Type 0 where
+pub record IsTextOfSystem (text_of : SystemParts → List ℕ) (input text : List ℕ) : Type 0 where
   pub system : SystemParts
   pub described : IsReading input (Ok system)
   pub text_is : text ≡ text_of system
@@ -19,7 +19,7 @@ text_promise text_of =
     record {
       accepts = IsModel;
       refuses = IsRefusedModel;
-      makes = λ input answer. (answer.status ≡ Done) × IsTextOf text_of input answer.text;
+      makes = λ input answer. (answer.status ≡ Done) × IsTextOfSystem text_of input answer.text;
     }
 
 -- `check` tells how much there is of everything

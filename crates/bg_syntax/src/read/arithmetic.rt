@@ -3,7 +3,7 @@ ghost use Rattle.std.specs.Prelude.{◌+◌, ◌≤◌, [], ◌∷◌, length};
 ghost use Rattle.bg_syntax.specs.declared.symbol.Symbol.TheVariants as symbols;
 ghost use Rattle.bg_syntax.specs.Steps.{opens};
 ghost use Rattle.bg_syntax.specs.ArithmeticSteps.{more_x_item_steps, more_x_steps, x_steps, x1_item_steps, x1_steps, t_steps, t1_item_steps, t1_steps, u_steps};
-ghost use Rattle.bg_syntax.specs.Reading.{wants, Reads, ReadsItem};
+ghost use Rattle.bg_syntax.specs.Reading.{wants, ReadsSymbol, ReadsItem};
 
 use crate::fault::SyntaxFault;
 use crate::reader::Reader;
@@ -37,7 +37,7 @@ impl Reader<'_> {
     pub fn more_x(&self, at: &mut usize, depth: u32) -> Result<Vec<SynMoreXItem>, SyntaxFault>
         requires inside { at.old ≤ length self.now.tokens.now }
         requires shallow { depth ≤ at.old }
-        ensures { Reads (λ x. more_x_steps x.items depth) self.now.tokens.now at.old (wants depth symbols.MoreX) at.new result }
+        ensures { ReadsSymbol (λ x. more_x_steps x.items depth) self.now.tokens.now at.old (wants depth symbols.MoreX) at.new result }
     {
         let mut items = Vec::new(self.alloc);
         while let Some(item) = self.more_x_item(at, depth)? {
@@ -51,7 +51,7 @@ impl Reader<'_> {
     pub fn x(&self, at: &mut usize, depth: u32) -> Result<SynX, SyntaxFault>
         requires inside { at.old ≤ length self.now.tokens.now }
         requires shallow { depth ≤ at.old }
-        ensures { Reads (λ x. x_steps x depth) self.now.tokens.now at.old (wants depth symbols.X) at.new result }
+        ensures { ReadsSymbol (λ x. x_steps x depth) self.now.tokens.now at.old (wants depth symbols.X) at.new result }
     {
         self.choose(*at, Symbol::X)?;
         let part1 = self.t(at, depth)?;
@@ -90,7 +90,7 @@ impl Reader<'_> {
     pub fn x1(&self, at: &mut usize, depth: u32) -> Result<Vec<SynX1Item>, SyntaxFault>
         requires inside { at.old ≤ length self.now.tokens.now }
         requires shallow { depth ≤ at.old }
-        ensures { Reads (λ x. x1_steps x.items depth) self.now.tokens.now at.old (wants depth symbols.X1) at.new result }
+        ensures { ReadsSymbol (λ x. x1_steps x.items depth) self.now.tokens.now at.old (wants depth symbols.X1) at.new result }
     {
         let mut items = Vec::new(self.alloc);
         while let Some(item) = self.x1_item(at, depth)? {
@@ -104,7 +104,7 @@ impl Reader<'_> {
     pub fn t(&self, at: &mut usize, depth: u32) -> Result<SynT, SyntaxFault>
         requires inside { at.old ≤ length self.now.tokens.now }
         requires shallow { depth ≤ at.old }
-        ensures { Reads (λ x. t_steps x depth) self.now.tokens.now at.old (wants depth symbols.T) at.new result }
+        ensures { ReadsSymbol (λ x. t_steps x depth) self.now.tokens.now at.old (wants depth symbols.T) at.new result }
     {
         self.choose(*at, Symbol::T)?;
         let part1 = self.u(at, depth)?;
@@ -143,7 +143,7 @@ impl Reader<'_> {
     pub fn t1(&self, at: &mut usize, depth: u32) -> Result<Vec<SynT1Item>, SyntaxFault>
         requires inside { at.old ≤ length self.now.tokens.now }
         requires shallow { depth ≤ at.old }
-        ensures { Reads (λ x. t1_steps x.items depth) self.now.tokens.now at.old (wants depth symbols.T1) at.new result }
+        ensures { ReadsSymbol (λ x. t1_steps x.items depth) self.now.tokens.now at.old (wants depth symbols.T1) at.new result }
     {
         let mut items = Vec::new(self.alloc);
         while let Some(item) = self.t1_item(at, depth)? {
@@ -157,7 +157,7 @@ impl Reader<'_> {
     pub fn u(&self, at: &mut usize, depth: u32) -> Result<SynU, SyntaxFault>
         requires inside { at.old ≤ length self.now.tokens.now }
         requires shallow { depth ≤ at.old }
-        ensures { Reads (λ x. u_steps x depth) self.now.tokens.now at.old (wants depth symbols.U) at.new result }
+        ensures { ReadsSymbol (λ x. u_steps x depth) self.now.tokens.now at.old (wants depth symbols.U) at.new result }
     {
         let way = self.choose(*at, Symbol::U)?;
         let depth = depth + 1;

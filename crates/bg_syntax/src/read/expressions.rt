@@ -3,7 +3,7 @@ ghost use Rattle.std.specs.Prelude.{◌+◌, ◌≤◌, [], ◌∷◌, length};
 ghost use Rattle.bg_syntax.specs.declared.symbol.Symbol.TheVariants as symbols;
 ghost use Rattle.bg_syntax.specs.Steps.{opens};
 ghost use Rattle.bg_syntax.specs.ExpressionsSteps.{reference_steps, args_steps, e_steps, e1_item_steps, e1_steps, p_steps, p1_item_steps, p1_steps, m_steps, m1_item_steps, m1_steps, c_steps, c1_item_steps, c1_steps, k_steps, n_steps, n1_steps, a_steps, id_tail_steps, id_names_steps};
-ghost use Rattle.bg_syntax.specs.Reading.{wants, Reads, ReadsItem};
+ghost use Rattle.bg_syntax.specs.Reading.{wants, ReadsSymbol, ReadsItem};
 
 use crate::fault::SyntaxFault;
 use crate::reader::Reader;
@@ -19,7 +19,7 @@ impl Reader<'_> {
     pub fn reference(&self, at: &mut usize, depth: u32) -> Result<SynRef, SyntaxFault>
         requires inside { at.old ≤ length self.now.tokens.now }
         requires shallow { depth ≤ at.old + 1 }
-        ensures { Reads (λ x. reference_steps x depth) self.now.tokens.now at.old (wants depth symbols.Ref) at.new result }
+        ensures { ReadsSymbol (λ x. reference_steps x depth) self.now.tokens.now at.old (wants depth symbols.Ref) at.new result }
     {
         self.choose(*at, Symbol::Ref)?;
         let part1 = self.take(at, depth, TokenKind::Lower)?;
@@ -31,7 +31,7 @@ impl Reader<'_> {
     pub fn args(&self, at: &mut usize, depth: u32) -> Result<SynArgs, SyntaxFault>
         requires inside { at.old ≤ length self.now.tokens.now }
         requires shallow { depth ≤ at.old }
-        ensures { Reads (λ x. args_steps x depth) self.now.tokens.now at.old (wants depth symbols.Args) at.new result }
+        ensures { ReadsSymbol (λ x. args_steps x depth) self.now.tokens.now at.old (wants depth symbols.Args) at.new result }
     {
         let way = self.choose(*at, Symbol::Args)?;
         match way {
@@ -51,7 +51,7 @@ impl Reader<'_> {
     pub fn e(&self, at: &mut usize, depth: u32) -> Result<SynE, SyntaxFault>
         requires inside { at.old ≤ length self.now.tokens.now }
         requires shallow { depth ≤ at.old }
-        ensures { Reads (λ x. e_steps x depth) self.now.tokens.now at.old (wants depth symbols.E) at.new result }
+        ensures { ReadsSymbol (λ x. e_steps x depth) self.now.tokens.now at.old (wants depth symbols.E) at.new result }
     {
         self.choose(*at, Symbol::E)?;
         let part1 = self.p(at, depth)?;
@@ -84,7 +84,7 @@ impl Reader<'_> {
     pub fn e1(&self, at: &mut usize, depth: u32) -> Result<Vec<SynE1Item>, SyntaxFault>
         requires inside { at.old ≤ length self.now.tokens.now }
         requires shallow { depth ≤ at.old }
-        ensures { Reads (λ x. e1_steps x.items depth) self.now.tokens.now at.old (wants depth symbols.E1) at.new result }
+        ensures { ReadsSymbol (λ x. e1_steps x.items depth) self.now.tokens.now at.old (wants depth symbols.E1) at.new result }
     {
         let mut items = Vec::new(self.alloc);
         while let Some(item) = self.e1_item(at, depth)? {
@@ -98,7 +98,7 @@ impl Reader<'_> {
     pub fn p(&self, at: &mut usize, depth: u32) -> Result<SynP, SyntaxFault>
         requires inside { at.old ≤ length self.now.tokens.now }
         requires shallow { depth ≤ at.old }
-        ensures { Reads (λ x. p_steps x depth) self.now.tokens.now at.old (wants depth symbols.P) at.new result }
+        ensures { ReadsSymbol (λ x. p_steps x depth) self.now.tokens.now at.old (wants depth symbols.P) at.new result }
     {
         self.choose(*at, Symbol::P)?;
         let part1 = self.m(at, depth)?;
@@ -131,7 +131,7 @@ impl Reader<'_> {
     pub fn p1(&self, at: &mut usize, depth: u32) -> Result<Vec<SynP1Item>, SyntaxFault>
         requires inside { at.old ≤ length self.now.tokens.now }
         requires shallow { depth ≤ at.old }
-        ensures { Reads (λ x. p1_steps x.items depth) self.now.tokens.now at.old (wants depth symbols.P1) at.new result }
+        ensures { ReadsSymbol (λ x. p1_steps x.items depth) self.now.tokens.now at.old (wants depth symbols.P1) at.new result }
     {
         let mut items = Vec::new(self.alloc);
         while let Some(item) = self.p1_item(at, depth)? {
@@ -145,7 +145,7 @@ impl Reader<'_> {
     pub fn m(&self, at: &mut usize, depth: u32) -> Result<SynM, SyntaxFault>
         requires inside { at.old ≤ length self.now.tokens.now }
         requires shallow { depth ≤ at.old }
-        ensures { Reads (λ x. m_steps x depth) self.now.tokens.now at.old (wants depth symbols.M) at.new result }
+        ensures { ReadsSymbol (λ x. m_steps x depth) self.now.tokens.now at.old (wants depth symbols.M) at.new result }
     {
         self.choose(*at, Symbol::M)?;
         let part1 = self.c(at, depth)?;
@@ -178,7 +178,7 @@ impl Reader<'_> {
     pub fn m1(&self, at: &mut usize, depth: u32) -> Result<Vec<SynM1Item>, SyntaxFault>
         requires inside { at.old ≤ length self.now.tokens.now }
         requires shallow { depth ≤ at.old }
-        ensures { Reads (λ x. m1_steps x.items depth) self.now.tokens.now at.old (wants depth symbols.M1) at.new result }
+        ensures { ReadsSymbol (λ x. m1_steps x.items depth) self.now.tokens.now at.old (wants depth symbols.M1) at.new result }
     {
         let mut items = Vec::new(self.alloc);
         while let Some(item) = self.m1_item(at, depth)? {
@@ -192,7 +192,7 @@ impl Reader<'_> {
     pub fn c(&self, at: &mut usize, depth: u32) -> Result<SynC, SyntaxFault>
         requires inside { at.old ≤ length self.now.tokens.now }
         requires shallow { depth ≤ at.old }
-        ensures { Reads (λ x. c_steps x depth) self.now.tokens.now at.old (wants depth symbols.C) at.new result }
+        ensures { ReadsSymbol (λ x. c_steps x depth) self.now.tokens.now at.old (wants depth symbols.C) at.new result }
     {
         self.choose(*at, Symbol::C)?;
         let part1 = self.k(at, depth)?;
@@ -225,7 +225,7 @@ impl Reader<'_> {
     pub fn c1(&self, at: &mut usize, depth: u32) -> Result<Vec<SynC1Item>, SyntaxFault>
         requires inside { at.old ≤ length self.now.tokens.now }
         requires shallow { depth ≤ at.old }
-        ensures { Reads (λ x. c1_steps x.items depth) self.now.tokens.now at.old (wants depth symbols.C1) at.new result }
+        ensures { ReadsSymbol (λ x. c1_steps x.items depth) self.now.tokens.now at.old (wants depth symbols.C1) at.new result }
     {
         let mut items = Vec::new(self.alloc);
         while let Some(item) = self.c1_item(at, depth)? {
@@ -239,7 +239,7 @@ impl Reader<'_> {
     pub fn k(&self, at: &mut usize, depth: u32) -> Result<SynK, SyntaxFault>
         requires inside { at.old ≤ length self.now.tokens.now }
         requires shallow { depth ≤ at.old }
-        ensures { Reads (λ x. k_steps x depth) self.now.tokens.now at.old (wants depth symbols.K) at.new result }
+        ensures { ReadsSymbol (λ x. k_steps x depth) self.now.tokens.now at.old (wants depth symbols.K) at.new result }
     {
         let way = self.choose(*at, Symbol::K)?;
         let depth = depth + 1;
@@ -264,7 +264,7 @@ impl Reader<'_> {
     pub fn n(&self, at: &mut usize, depth: u32) -> Result<SynN, SyntaxFault>
         requires inside { at.old ≤ length self.now.tokens.now }
         requires shallow { depth ≤ at.old + 1 }
-        ensures { Reads (λ x. n_steps x depth) self.now.tokens.now at.old (wants depth symbols.N) at.new result }
+        ensures { ReadsSymbol (λ x. n_steps x depth) self.now.tokens.now at.old (wants depth symbols.N) at.new result }
     {
         self.choose(*at, Symbol::N)?;
         let part1 = self.a(at, depth)?;
@@ -282,7 +282,7 @@ impl Reader<'_> {
     pub fn n1(&self, at: &mut usize, depth: u32) -> Result<SynN1, SyntaxFault>
         requires inside { at.old ≤ length self.now.tokens.now }
         requires shallow { depth ≤ at.old + 1 }
-        ensures { Reads (λ x. n1_steps x depth) self.now.tokens.now at.old (wants depth symbols.N1) at.new result }
+        ensures { ReadsSymbol (λ x. n1_steps x depth) self.now.tokens.now at.old (wants depth symbols.N1) at.new result }
     {
         let way = self.choose(*at, Symbol::N1)?;
         match way {
@@ -301,7 +301,7 @@ impl Reader<'_> {
     pub fn a(&self, at: &mut usize, depth: u32) -> Result<SynA, SyntaxFault>
         requires inside { at.old ≤ length self.now.tokens.now }
         requires shallow { depth ≤ at.old + 1 }
-        ensures { Reads (λ x. a_steps x depth) self.now.tokens.now at.old (wants depth symbols.A) at.new result }
+        ensures { ReadsSymbol (λ x. a_steps x depth) self.now.tokens.now at.old (wants depth symbols.A) at.new result }
     {
         let way = self.choose(*at, Symbol::A)?;
         match way {
@@ -354,7 +354,7 @@ impl Reader<'_> {
     // IdTail = "(" Number IdNames ")" | "{" NameList "}" | none
     pub fn id_tail(&self, at: &mut usize, depth: u32) -> Result<SynIdTail, SyntaxFault>
         requires inside { at.old ≤ length self.now.tokens.now }
-        ensures { Reads (λ x. id_tail_steps x depth) self.now.tokens.now at.old (wants depth symbols.IdTail) at.new result }
+        ensures { ReadsSymbol (λ x. id_tail_steps x depth) self.now.tokens.now at.old (wants depth symbols.IdTail) at.new result }
     {
         let way = self.choose(*at, Symbol::IdTail)?;
         match way {
@@ -378,7 +378,7 @@ impl Reader<'_> {
     // IdNames = "," "{" NameList "}" | none
     pub fn id_names(&self, at: &mut usize, depth: u32) -> Result<SynIdNames, SyntaxFault>
         requires inside { at.old ≤ length self.now.tokens.now }
-        ensures { Reads (λ x. id_names_steps x depth) self.now.tokens.now at.old (wants depth symbols.IdNames) at.new result }
+        ensures { ReadsSymbol (λ x. id_names_steps x depth) self.now.tokens.now at.old (wants depth symbols.IdNames) at.new result }
     {
         let way = self.choose(*at, Symbol::IdNames)?;
         match way {

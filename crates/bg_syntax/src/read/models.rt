@@ -4,7 +4,7 @@ ghost use Rattle.std.specs.Prelude.{◌≤◌, [], ◌∷◌, length};
 ghost use Rattle.bg_syntax.specs.declared.symbol.Symbol.TheVariants as symbols;
 ghost use Rattle.bg_syntax.specs.Steps.{opens};
 ghost use Rattle.bg_syntax.specs.ModelsSteps.{model_steps, stmts_item_steps, stmts_steps, block_steps, block_behind5_steps, block_behind10_steps, params_item_steps, params_steps, classes_steps, more_cl_item_steps, more_cl_steps, class_steps, preds_steps, refs_steps, more_ref_item_steps, more_ref_steps};
-ghost use Rattle.bg_syntax.specs.Reading.{wants, wants_behind, Reads, ReadsItem};
+ghost use Rattle.bg_syntax.specs.Reading.{wants, wants_behind, ReadsSymbol, ReadsItem};
 
 use crate::fault::SyntaxFault;
 use crate::reader::Reader;
@@ -40,7 +40,7 @@ impl Reader<'_> {
     pub fn model(&self, at: &mut usize, depth: u32) -> Result<SynModel, SyntaxFault>
         requires inside { at.old ≤ length self.now.tokens.now }
         requires shallow { depth ≤ at.old }
-        ensures { Reads (λ x. model_steps x depth) self.now.tokens.now at.old (wants depth symbols.Model) at.new result }
+        ensures { ReadsSymbol (λ x. model_steps x depth) self.now.tokens.now at.old (wants depth symbols.Model) at.new result }
     {
         self.choose(*at, Symbol::Model)?;
         let part1 = self.stmts(at, depth)?;
@@ -72,7 +72,7 @@ impl Reader<'_> {
     pub fn stmts(&self, at: &mut usize, depth: u32) -> Result<Vec<SynStmtsItem>, SyntaxFault>
         requires inside { at.old ≤ length self.now.tokens.now }
         requires shallow { depth ≤ at.old }
-        ensures { Reads (λ x. stmts_steps x.items depth) self.now.tokens.now at.old (wants depth symbols.Stmts) at.new result }
+        ensures { ReadsSymbol (λ x. stmts_steps x.items depth) self.now.tokens.now at.old (wants depth symbols.Stmts) at.new result }
     {
         let mut items = Vec::new(self.alloc);
         while let Some(item) = self.stmts_item(at, depth)? {
@@ -85,7 +85,7 @@ impl Reader<'_> {
     pub fn block(&self, at: &mut usize, depth: u32) -> Result<SynBlock, SyntaxFault>
         requires inside { at.old ≤ length self.now.tokens.now }
         requires shallow { depth ≤ at.old }
-        ensures { Reads (λ x. block_steps x depth) self.now.tokens.now at.old (wants depth symbols.Block) at.new result }
+        ensures { ReadsSymbol (λ x. block_steps x depth) self.now.tokens.now at.old (wants depth symbols.Block) at.new result }
     {
         let way = self.choose(*at, Symbol::Block)?;
         match way {
@@ -123,7 +123,7 @@ impl Reader<'_> {
     fn block_behind5(&self, at: &mut usize, depth: u32) -> Result<BlockBehind5, SyntaxFault>
         requires inside { at.old ≤ length self.now.tokens.now }
         requires shallow { depth ≤ at.old }
-        ensures { Reads (λ x. block_behind5_steps x depth) self.now.tokens.now at.old (wants_behind depth symbols.Block 0 5) at.new result }
+        ensures { ReadsSymbol (λ x. block_behind5_steps x depth) self.now.tokens.now at.old (wants_behind depth symbols.Block 0 5) at.new result }
     {
         let part6 = self.take(at, depth, TokenKind::Semicolon)?;
         let part7 = self.take(at, depth, TokenKind::KwRules)?;
@@ -145,7 +145,7 @@ impl Reader<'_> {
     fn block_behind10(&self, at: &mut usize, depth: u32) -> Result<BlockBehind10, SyntaxFault>
         requires inside { at.old ≤ length self.now.tokens.now }
         requires shallow { depth ≤ at.old }
-        ensures { Reads (λ x. block_behind10_steps x depth) self.now.tokens.now at.old (wants_behind depth symbols.Block 0 10) at.new result }
+        ensures { ReadsSymbol (λ x. block_behind10_steps x depth) self.now.tokens.now at.old (wants_behind depth symbols.Block 0 10) at.new result }
     {
         let part11 = self.take(at, depth, TokenKind::CloseSquare)?;
         let part12 = self.take(at, depth, TokenKind::Semicolon)?;
@@ -183,7 +183,7 @@ impl Reader<'_> {
     pub fn params(&self, at: &mut usize, depth: u32) -> Result<Vec<SynParamsItem>, SyntaxFault>
         requires inside { at.old ≤ length self.now.tokens.now }
         requires shallow { depth ≤ at.old }
-        ensures { Reads (λ x. params_steps x.items depth) self.now.tokens.now at.old (wants depth symbols.Params) at.new result }
+        ensures { ReadsSymbol (λ x. params_steps x.items depth) self.now.tokens.now at.old (wants depth symbols.Params) at.new result }
     {
         let mut items = Vec::new(self.alloc);
         while let Some(item) = self.params_item(at, depth)? {
@@ -196,7 +196,7 @@ impl Reader<'_> {
     pub fn classes(&self, at: &mut usize, depth: u32) -> Result<SynClasses, SyntaxFault>
         requires inside { at.old ≤ length self.now.tokens.now }
         requires shallow { depth ≤ at.old }
-        ensures { Reads (λ x. classes_steps x depth) self.now.tokens.now at.old (wants depth symbols.Classes) at.new result }
+        ensures { ReadsSymbol (λ x. classes_steps x depth) self.now.tokens.now at.old (wants depth symbols.Classes) at.new result }
     {
         let way = self.choose(*at, Symbol::Classes)?;
         match way {
@@ -234,7 +234,7 @@ impl Reader<'_> {
     pub fn more_cl(&self, at: &mut usize, depth: u32) -> Result<Vec<SynMoreClItem>, SyntaxFault>
         requires inside { at.old ≤ length self.now.tokens.now }
         requires shallow { depth ≤ at.old }
-        ensures { Reads (λ x. more_cl_steps x.items depth) self.now.tokens.now at.old (wants depth symbols.MoreCl) at.new result }
+        ensures { ReadsSymbol (λ x. more_cl_steps x.items depth) self.now.tokens.now at.old (wants depth symbols.MoreCl) at.new result }
     {
         let mut items = Vec::new(self.alloc);
         while let Some(item) = self.more_cl_item(at, depth)? {
@@ -247,7 +247,7 @@ impl Reader<'_> {
     pub fn class(&self, at: &mut usize, depth: u32) -> Result<SynClass, SyntaxFault>
         requires inside { at.old ≤ length self.now.tokens.now }
         requires shallow { depth ≤ at.old }
-        ensures { Reads (λ x. class_steps x depth) self.now.tokens.now at.old (wants depth symbols.Class) at.new result }
+        ensures { ReadsSymbol (λ x. class_steps x depth) self.now.tokens.now at.old (wants depth symbols.Class) at.new result }
     {
         let way = self.choose(*at, Symbol::Class)?;
         match way {
@@ -270,7 +270,7 @@ impl Reader<'_> {
     pub fn preds(&self, at: &mut usize, depth: u32) -> Result<SynPreds, SyntaxFault>
         requires inside { at.old ≤ length self.now.tokens.now }
         requires shallow { depth ≤ at.old }
-        ensures { Reads (λ x. preds_steps x depth) self.now.tokens.now at.old (wants depth symbols.Preds) at.new result }
+        ensures { ReadsSymbol (λ x. preds_steps x depth) self.now.tokens.now at.old (wants depth symbols.Preds) at.new result }
     {
         let way = self.choose(*at, Symbol::Preds)?;
         match way {
@@ -291,7 +291,7 @@ impl Reader<'_> {
     pub fn refs(&self, at: &mut usize, depth: u32) -> Result<SynRefs, SyntaxFault>
         requires inside { at.old ≤ length self.now.tokens.now }
         requires shallow { depth ≤ at.old }
-        ensures { Reads (λ x. refs_steps x depth) self.now.tokens.now at.old (wants depth symbols.Refs) at.new result }
+        ensures { ReadsSymbol (λ x. refs_steps x depth) self.now.tokens.now at.old (wants depth symbols.Refs) at.new result }
     {
         let way = self.choose(*at, Symbol::Refs)?;
         match way {
@@ -329,7 +329,7 @@ impl Reader<'_> {
     pub fn more_ref(&self, at: &mut usize, depth: u32) -> Result<Vec<SynMoreRefItem>, SyntaxFault>
         requires inside { at.old ≤ length self.now.tokens.now }
         requires shallow { depth ≤ at.old }
-        ensures { Reads (λ x. more_ref_steps x.items depth) self.now.tokens.now at.old (wants depth symbols.MoreRef) at.new result }
+        ensures { ReadsSymbol (λ x. more_ref_steps x.items depth) self.now.tokens.now at.old (wants depth symbols.MoreRef) at.new result }
     {
         let mut items = Vec::new(self.alloc);
         while let Some(item) = self.more_ref_item(at, depth)? {

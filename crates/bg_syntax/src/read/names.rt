@@ -3,7 +3,7 @@ ghost use Rattle.std.specs.Prelude.{◌≤◌, [], ◌∷◌, length};
 ghost use Rattle.bg_syntax.specs.declared.symbol.Symbol.TheVariants as symbols;
 ghost use Rattle.bg_syntax.specs.Steps.{opens};
 ghost use Rattle.bg_syntax.specs.NamesSteps.{number_steps, formals_steps, more_low_item_steps, more_low_steps, names_steps, name_list_steps};
-ghost use Rattle.bg_syntax.specs.Reading.{wants, Reads, ReadsItem};
+ghost use Rattle.bg_syntax.specs.Reading.{wants, ReadsSymbol, ReadsItem};
 
 use crate::fault::SyntaxFault;
 use crate::reader::Reader;
@@ -15,7 +15,7 @@ impl Reader<'_> {
     // Number = zero | one | num
     pub fn number(&self, at: &mut usize, depth: u32) -> Result<SynNumber, SyntaxFault>
         requires inside { at.old ≤ length self.now.tokens.now }
-        ensures { Reads (λ x. number_steps x depth) self.now.tokens.now at.old (wants depth symbols.Number) at.new result }
+        ensures { ReadsSymbol (λ x. number_steps x depth) self.now.tokens.now at.old (wants depth symbols.Number) at.new result }
     {
         let way = self.choose(*at, Symbol::Number)?;
         match way {
@@ -37,7 +37,7 @@ impl Reader<'_> {
     // Formals = "(" lower MoreLow ")" | none
     pub fn formals(&self, at: &mut usize, depth: u32) -> Result<SynFormals, SyntaxFault>
         requires inside { at.old ≤ length self.now.tokens.now }
-        ensures { Reads (λ x. formals_steps x depth) self.now.tokens.now at.old (wants depth symbols.Formals) at.new result }
+        ensures { ReadsSymbol (λ x. formals_steps x depth) self.now.tokens.now at.old (wants depth symbols.Formals) at.new result }
     {
         let way = self.choose(*at, Symbol::Formals)?;
         match way {
@@ -75,7 +75,7 @@ impl Reader<'_> {
     // MoreLow = "," lower MoreLow | none
     pub fn more_low(&self, at: &mut usize, depth: u32) -> Result<Vec<SynMoreLowItem>, SyntaxFault>
         requires inside { at.old ≤ length self.now.tokens.now }
-        ensures { Reads (λ x. more_low_steps x.items depth) self.now.tokens.now at.old (wants depth symbols.MoreLow) at.new result }
+        ensures { ReadsSymbol (λ x. more_low_steps x.items depth) self.now.tokens.now at.old (wants depth symbols.MoreLow) at.new result }
     {
         let mut items = Vec::new(self.alloc);
         while let Some(item) = self.more_low_item(at, depth)? {
@@ -87,7 +87,7 @@ impl Reader<'_> {
     // Names = "{" NameList "}" | none
     pub fn names(&self, at: &mut usize, depth: u32) -> Result<SynNames, SyntaxFault>
         requires inside { at.old ≤ length self.now.tokens.now }
-        ensures { Reads (λ x. names_steps x depth) self.now.tokens.now at.old (wants depth symbols.Names) at.new result }
+        ensures { ReadsSymbol (λ x. names_steps x depth) self.now.tokens.now at.old (wants depth symbols.Names) at.new result }
     {
         let way = self.choose(*at, Symbol::Names)?;
         match way {
@@ -104,7 +104,7 @@ impl Reader<'_> {
     // NameList = lower MoreLow | none
     pub fn name_list(&self, at: &mut usize, depth: u32) -> Result<SynNameList, SyntaxFault>
         requires inside { at.old ≤ length self.now.tokens.now }
-        ensures { Reads (λ x. name_list_steps x depth) self.now.tokens.now at.old (wants depth symbols.NameList) at.new result }
+        ensures { ReadsSymbol (λ x. name_list_steps x depth) self.now.tokens.now at.old (wants depth symbols.NameList) at.new result }
     {
         let way = self.choose(*at, Symbol::NameList)?;
         match way {

@@ -3,7 +3,7 @@ ghost use Rattle.std.specs.Prelude.{◌≤◌, [], ◌∷◌, length};
 ghost use Rattle.bg_syntax.specs.declared.symbol.Symbol.TheVariants as symbols;
 ghost use Rattle.bg_syntax.specs.Steps.{opens};
 ghost use Rattle.bg_syntax.specs.StatementsSteps.{stmt_steps, fun_steps, after_fun_steps, control_steps, bigraph_steps, react_steps, tail_steps, if_tail_steps, eta_tail_steps, eta_steps, numbers_steps, more_num_item_steps, more_num_steps, cond_steps, tests_item_steps, tests_steps, test_steps, negation_steps, side_steps, param_steps, int_set_steps, text_set_steps, more_text_item_steps, more_text_steps};
-ghost use Rattle.bg_syntax.specs.Reading.{wants, Reads, ReadsItem};
+ghost use Rattle.bg_syntax.specs.Reading.{wants, ReadsSymbol, ReadsItem};
 
 use crate::fault::SyntaxFault;
 use crate::reader::Reader;
@@ -20,7 +20,7 @@ impl Reader<'_> {
     pub fn stmt(&self, at: &mut usize, depth: u32) -> Result<SynStmt, SyntaxFault>
         requires inside { at.old ≤ length self.now.tokens.now }
         requires shallow { depth ≤ at.old }
-        ensures { Reads (λ x. stmt_steps x depth) self.now.tokens.now at.old (wants depth symbols.Stmt) at.new result }
+        ensures { ReadsSymbol (λ x. stmt_steps x depth) self.now.tokens.now at.old (wants depth symbols.Stmt) at.new result }
     {
         let way = self.choose(*at, Symbol::Stmt)?;
         match way {
@@ -61,7 +61,7 @@ impl Reader<'_> {
     // Fun = fun | none
     pub fn fun(&self, at: &mut usize, depth: u32) -> Result<SynFun, SyntaxFault>
         requires inside { at.old ≤ length self.now.tokens.now }
-        ensures { Reads (λ x. fun_steps x depth) self.now.tokens.now at.old (wants depth symbols.Fun) at.new result }
+        ensures { ReadsSymbol (λ x. fun_steps x depth) self.now.tokens.now at.old (wants depth symbols.Fun) at.new result }
     {
         let way = self.choose(*at, Symbol::Fun)?;
         match way {
@@ -77,7 +77,7 @@ impl Reader<'_> {
     pub fn after_fun(&self, at: &mut usize, depth: u32) -> Result<SynAfterFun, SyntaxFault>
         requires inside { at.old ≤ length self.now.tokens.now }
         requires shallow { depth ≤ at.old }
-        ensures { Reads (λ x. after_fun_steps x depth) self.now.tokens.now at.old (wants depth symbols.AfterFun) at.new result }
+        ensures { ReadsSymbol (λ x. after_fun_steps x depth) self.now.tokens.now at.old (wants depth symbols.AfterFun) at.new result }
     {
         let way = self.choose(*at, Symbol::AfterFun)?;
         match way {
@@ -108,7 +108,7 @@ impl Reader<'_> {
     // Control = upper Formals "=" Number ";"
     pub fn control(&self, at: &mut usize, depth: u32) -> Result<SynControl, SyntaxFault>
         requires inside { at.old ≤ length self.now.tokens.now }
-        ensures { Reads (λ x. control_steps x depth) self.now.tokens.now at.old (wants depth symbols.Control) at.new result }
+        ensures { ReadsSymbol (λ x. control_steps x depth) self.now.tokens.now at.old (wants depth symbols.Control) at.new result }
     {
         self.choose(*at, Symbol::Control)?;
         let part1 = self.take(at, depth, TokenKind::Upper)?;
@@ -129,7 +129,7 @@ impl Reader<'_> {
     pub fn bigraph(&self, at: &mut usize, depth: u32) -> Result<SynBigraph, SyntaxFault>
         requires inside { at.old ≤ length self.now.tokens.now }
         requires shallow { depth ≤ at.old }
-        ensures { Reads (λ x. bigraph_steps x depth) self.now.tokens.now at.old (wants depth symbols.Bigraph) at.new result }
+        ensures { ReadsSymbol (λ x. bigraph_steps x depth) self.now.tokens.now at.old (wants depth symbols.Bigraph) at.new result }
     {
         self.choose(*at, Symbol::Bigraph)?;
         let part1 = self.take(at, depth, TokenKind::Lower)?;
@@ -150,7 +150,7 @@ impl Reader<'_> {
     pub fn react(&self, at: &mut usize, depth: u32) -> Result<SynReact, SyntaxFault>
         requires inside { at.old ≤ length self.now.tokens.now }
         requires shallow { depth ≤ at.old }
-        ensures { Reads (λ x. react_steps x depth) self.now.tokens.now at.old (wants depth symbols.React) at.new result }
+        ensures { ReadsSymbol (λ x. react_steps x depth) self.now.tokens.now at.old (wants depth symbols.React) at.new result }
     {
         self.choose(*at, Symbol::React)?;
         let part1 = self.take(at, depth, TokenKind::Lower)?;
@@ -177,7 +177,7 @@ impl Reader<'_> {
     pub fn tail(&self, at: &mut usize, depth: u32) -> Result<SynTail, SyntaxFault>
         requires inside { at.old ≤ length self.now.tokens.now }
         requires shallow { depth ≤ at.old }
-        ensures { Reads (λ x. tail_steps x depth) self.now.tokens.now at.old (wants depth symbols.Tail) at.new result }
+        ensures { ReadsSymbol (λ x. tail_steps x depth) self.now.tokens.now at.old (wants depth symbols.Tail) at.new result }
     {
         let way = self.choose(*at, Symbol::Tail)?;
         match way {
@@ -199,7 +199,7 @@ impl Reader<'_> {
     pub fn if_tail(&self, at: &mut usize, depth: u32) -> Result<SynIfTail, SyntaxFault>
         requires inside { at.old ≤ length self.now.tokens.now }
         requires shallow { depth ≤ at.old }
-        ensures { Reads (λ x. if_tail_steps x depth) self.now.tokens.now at.old (wants depth symbols.IfTail) at.new result }
+        ensures { ReadsSymbol (λ x. if_tail_steps x depth) self.now.tokens.now at.old (wants depth symbols.IfTail) at.new result }
     {
         let way = self.choose(*at, Symbol::IfTail)?;
         match way {
@@ -214,7 +214,7 @@ impl Reader<'_> {
     // EtaTail = Eta | none
     pub fn eta_tail(&self, at: &mut usize, depth: u32) -> Result<SynEtaTail, SyntaxFault>
         requires inside { at.old ≤ length self.now.tokens.now }
-        ensures { Reads (λ x. eta_tail_steps x depth) self.now.tokens.now at.old (wants depth symbols.EtaTail) at.new result }
+        ensures { ReadsSymbol (λ x. eta_tail_steps x depth) self.now.tokens.now at.old (wants depth symbols.EtaTail) at.new result }
     {
         let way = self.choose(*at, Symbol::EtaTail)?;
         match way {
@@ -229,7 +229,7 @@ impl Reader<'_> {
     // Eta = "@" "[" Numbers "]"
     pub fn eta(&self, at: &mut usize, depth: u32) -> Result<SynEta, SyntaxFault>
         requires inside { at.old ≤ length self.now.tokens.now }
-        ensures { Reads (λ x. eta_steps x depth) self.now.tokens.now at.old (wants depth symbols.Eta) at.new result }
+        ensures { ReadsSymbol (λ x. eta_steps x depth) self.now.tokens.now at.old (wants depth symbols.Eta) at.new result }
     {
         self.choose(*at, Symbol::Eta)?;
         let part1 = self.take(at, depth, TokenKind::At)?;
@@ -247,7 +247,7 @@ impl Reader<'_> {
     // Numbers = Number MoreNum | none
     pub fn numbers(&self, at: &mut usize, depth: u32) -> Result<SynNumbers, SyntaxFault>
         requires inside { at.old ≤ length self.now.tokens.now }
-        ensures { Reads (λ x. numbers_steps x depth) self.now.tokens.now at.old (wants depth symbols.Numbers) at.new result }
+        ensures { ReadsSymbol (λ x. numbers_steps x depth) self.now.tokens.now at.old (wants depth symbols.Numbers) at.new result }
     {
         let way = self.choose(*at, Symbol::Numbers)?;
         match way {
@@ -283,7 +283,7 @@ impl Reader<'_> {
     // MoreNum = "," Number MoreNum | none
     pub fn more_num(&self, at: &mut usize, depth: u32) -> Result<Vec<SynMoreNumItem>, SyntaxFault>
         requires inside { at.old ≤ length self.now.tokens.now }
-        ensures { Reads (λ x. more_num_steps x.items depth) self.now.tokens.now at.old (wants depth symbols.MoreNum) at.new result }
+        ensures { ReadsSymbol (λ x. more_num_steps x.items depth) self.now.tokens.now at.old (wants depth symbols.MoreNum) at.new result }
     {
         let mut items = Vec::new(self.alloc);
         while let Some(item) = self.more_num_item(at, depth)? {
@@ -296,7 +296,7 @@ impl Reader<'_> {
     pub fn cond(&self, at: &mut usize, depth: u32) -> Result<SynCond, SyntaxFault>
         requires inside { at.old ≤ length self.now.tokens.now }
         requires shallow { depth ≤ at.old }
-        ensures { Reads (λ x. cond_steps x depth) self.now.tokens.now at.old (wants depth symbols.Cond) at.new result }
+        ensures { ReadsSymbol (λ x. cond_steps x depth) self.now.tokens.now at.old (wants depth symbols.Cond) at.new result }
     {
         self.choose(*at, Symbol::Cond)?;
         let part1 = self.take(at, depth, TokenKind::KwIf)?;
@@ -334,7 +334,7 @@ impl Reader<'_> {
     pub fn tests(&self, at: &mut usize, depth: u32) -> Result<Vec<SynTestsItem>, SyntaxFault>
         requires inside { at.old ≤ length self.now.tokens.now }
         requires shallow { depth ≤ at.old }
-        ensures { Reads (λ x. tests_steps x.items depth) self.now.tokens.now at.old (wants depth symbols.Tests) at.new result }
+        ensures { ReadsSymbol (λ x. tests_steps x.items depth) self.now.tokens.now at.old (wants depth symbols.Tests) at.new result }
     {
         let mut items = Vec::new(self.alloc);
         while let Some(item) = self.tests_item(at, depth)? {
@@ -347,7 +347,7 @@ impl Reader<'_> {
     pub fn test(&self, at: &mut usize, depth: u32) -> Result<SynTest, SyntaxFault>
         requires inside { at.old ≤ length self.now.tokens.now }
         requires shallow { depth ≤ at.old }
-        ensures { Reads (λ x. test_steps x depth) self.now.tokens.now at.old (wants depth symbols.Test) at.new result }
+        ensures { ReadsSymbol (λ x. test_steps x depth) self.now.tokens.now at.old (wants depth symbols.Test) at.new result }
     {
         self.choose(*at, Symbol::Test)?;
         let part1 = self.negation(at, depth)?;
@@ -365,7 +365,7 @@ impl Reader<'_> {
     // Not = "!" | none
     pub fn negation(&self, at: &mut usize, depth: u32) -> Result<SynNot, SyntaxFault>
         requires inside { at.old ≤ length self.now.tokens.now }
-        ensures { Reads (λ x. negation_steps x depth) self.now.tokens.now at.old (wants depth symbols.Not) at.new result }
+        ensures { ReadsSymbol (λ x. negation_steps x depth) self.now.tokens.now at.old (wants depth symbols.Not) at.new result }
     {
         let way = self.choose(*at, Symbol::Not)?;
         match way {
@@ -380,7 +380,7 @@ impl Reader<'_> {
     // Side = ctx | param
     pub fn side(&self, at: &mut usize, depth: u32) -> Result<SynSide, SyntaxFault>
         requires inside { at.old ≤ length self.now.tokens.now }
-        ensures { Reads (λ x. side_steps x depth) self.now.tokens.now at.old (wants depth symbols.Side) at.new result }
+        ensures { ReadsSymbol (λ x. side_steps x depth) self.now.tokens.now at.old (wants depth symbols.Side) at.new result }
     {
         let way = self.choose(*at, Symbol::Side)?;
         match way {
@@ -399,7 +399,7 @@ impl Reader<'_> {
     pub fn param(&self, at: &mut usize, depth: u32) -> Result<SynParam, SyntaxFault>
         requires inside { at.old ≤ length self.now.tokens.now }
         requires shallow { depth ≤ at.old }
-        ensures { Reads (λ x. param_steps x depth) self.now.tokens.now at.old (wants depth symbols.Param) at.new result }
+        ensures { ReadsSymbol (λ x. param_steps x depth) self.now.tokens.now at.old (wants depth symbols.Param) at.new result }
     {
         let way = self.choose(*at, Symbol::Param)?;
         match way {
@@ -426,7 +426,7 @@ impl Reader<'_> {
     pub fn int_set(&self, at: &mut usize, depth: u32) -> Result<SynIntSet, SyntaxFault>
         requires inside { at.old ≤ length self.now.tokens.now }
         requires shallow { depth ≤ at.old }
-        ensures { Reads (λ x. int_set_steps x depth) self.now.tokens.now at.old (wants depth symbols.IntSet) at.new result }
+        ensures { ReadsSymbol (λ x. int_set_steps x depth) self.now.tokens.now at.old (wants depth symbols.IntSet) at.new result }
     {
         let way = self.choose(*at, Symbol::IntSet)?;
         match way {
@@ -457,7 +457,7 @@ impl Reader<'_> {
     // TextSet = "{" text MoreText "}" | text
     pub fn text_set(&self, at: &mut usize, depth: u32) -> Result<SynTextSet, SyntaxFault>
         requires inside { at.old ≤ length self.now.tokens.now }
-        ensures { Reads (λ x. text_set_steps x depth) self.now.tokens.now at.old (wants depth symbols.TextSet) at.new result }
+        ensures { ReadsSymbol (λ x. text_set_steps x depth) self.now.tokens.now at.old (wants depth symbols.TextSet) at.new result }
     {
         let way = self.choose(*at, Symbol::TextSet)?;
         match way {
@@ -498,7 +498,7 @@ impl Reader<'_> {
     // MoreText = "," text MoreText | none
     pub fn more_text(&self, at: &mut usize, depth: u32) -> Result<Vec<SynMoreTextItem>, SyntaxFault>
         requires inside { at.old ≤ length self.now.tokens.now }
-        ensures { Reads (λ x. more_text_steps x.items depth) self.now.tokens.now at.old (wants depth symbols.MoreText) at.new result }
+        ensures { ReadsSymbol (λ x. more_text_steps x.items depth) self.now.tokens.now at.old (wants depth symbols.MoreText) at.new result }
     {
         let mut items = Vec::new(self.alloc);
         while let Some(item) = self.more_text_item(at, depth)? {

@@ -1,12 +1,12 @@
 use Rattle.std.proofs.Common.{Err, subst}
-use Rattle.bg_elab.specs.Reading.{Reads}
+use Rattle.bg_elab.specs.Reading.{GivesReading}
 use Rattle.bg_elab.proofs.Readings.{inside}
 use Rattle.bg_answers.proofs.described.system_of.Goals as goal
 
 pub refused_at-requires-clause-inside : goal.refused_at-requires-clause-inside
 refused_at-requires-clause-inside c =
     inside c.args.input.now c.in-Err-Bad.code c.in-Err-Bad.detail c.in-Err-Bad.offset
-    (subst (λ z. Reads (Err z) c.args.input.now) c.in-Err-Bad.field-0-is c.in-Err-Bad.ensures)
+    (subst (λ z. GivesReading (Err z) c.args.input.now) c.in-Err-Bad.field-0-is c.in-Err-Bad.ensures)
 
 pub returns-in-Err-Bad : goal.returns-in-Err-Bad
 returns-in-Err-Bad c =
@@ -14,6 +14,6 @@ returns-in-Err-Bad c =
       code = c.in-Err-Bad.code;
       detail = c.in-Err-Bad.detail;
       offset = c.in-Err-Bad.offset;
-      refused = subst (λ z. Reads (Err z) c.args.input.now) c.in-Err-Bad.field-0-is c.in-Err-Bad.ensures;
+      refused = subst (λ z. GivesReading (Err z) c.args.input.now) c.in-Err-Bad.field-0-is c.in-Err-Bad.ensures;
       refusal_is = c.refused_at.ensures;
     }

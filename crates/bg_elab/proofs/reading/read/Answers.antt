@@ -1,6 +1,6 @@
 use Rattle.std.proofs.Common.{Err, length, ap, sym, subst, ◌∙◌, arith}
 use Rattle.bg_elab.specs.Elaboration.{text_of, Elaborates}
-use Rattle.bg_elab.specs.Reading.{of_syntax, Reads}
+use Rattle.bg_elab.specs.Reading.{of_syntax, GivesReading}
 use Rattle.bg_syntax.specs.Models.{IsTreeOf, IsSyntaxFault}
 use Rattle.bg_elab.proofs.Readings.{residual_read, syntax_read, elaborated_read}
 use Rattle.bg_text.proofs.TokenLaws.{as_many_bytes}
@@ -20,7 +20,7 @@ pub returns-in-Err : goal.returns-in-Err
 returns-in-Err c =
     let told = subst (λ z. IsSyntaxFault z c.in-Err.fault) c.deref.ensures.value c.in-Err.ensures.fault in
     let read = syntax_read c.args.bytes.now c.in_ok-found.found.items c.in-Err.fault c.in_ok-found.ensures.tokens told in
-    subst (λ z. Reads (Err z) c.args.bytes.now) (sym (c.of_syntax.ensures ∙ ap (λ z. of_syntax (text_of c.args.bytes.now z) c.in-Err.fault) c.deref-in-Err.ensures.value)) read
+    subst (λ z. GivesReading (Err z) c.args.bytes.now) (sym (c.of_syntax.ensures ∙ ap (λ z. of_syntax (text_of c.args.bytes.now z) c.in-Err.fault) c.deref-in-Err.ensures.value)) read
 
 pub elaborate-requires-clause-tokens : goal.elaborate-requires-clause-tokens
 elaborate-requires-clause-tokens c =

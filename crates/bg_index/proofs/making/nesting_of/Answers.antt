@@ -5,7 +5,7 @@ use Rattle.bg_base.specs.declared.big.NodeRow.{NodeRow}
 use Rattle.bg_base.specs.Bigraph.{node_cmp}
 use Rattle.bg_place.specs.declared.graph.Places.{Places}
 use Rattle.bg_index.specs.declared.entries.Slot.{Slot}
-use Rattle.bg_index.specs.Indexed.{rows_of, AreKept, AreRegions}
+use Rattle.bg_index.specs.Indexed.{rows_of, AreSlotsOf, AreRegions}
 use Rattle.bg_index.proofs.MakingLaws.{slots_ascend}
 use Rattle.bg_index.proofs.making.nesting_of.Goals as goal
 
@@ -23,7 +23,7 @@ returns-clause-nested c =
     record {
       slots_ascend = slots_ascend c.in_ok-forest.forest nodes slots kept
           (subst (λ (xs : List NodeRow). IsStrictlySortedBy node_cmp xs) (sym rows) c.requires.valid.nodes_ascend);
-      kept = subst (λ (places : Places). AreKept places nodes slots) c.in_ok-forest.ensures kept;
+      kept = subst (λ (places : Places). AreSlotsOf places nodes slots) c.in_ok-forest.ensures kept;
       regions_are = subst (λ (places : Places). AreRegions places c.in_ok-regions.regions.items) c.in_ok-forest.ensures c.in_ok-regions.ensures.are;
       regions_few = c.in_ok-regions.ensures.few;
     }

@@ -3,7 +3,7 @@ use Rattle.bg_base.specs.declared.big.NodeRow.{NodeRow}
 use Rattle.bg_base.specs.declared.big.Big.{Big}
 use Rattle.bg_base.specs.Elementary.{counted}
 use Rattle.bg_base.specs.Products.{lean}
-use Rattle.bg_decompose.specs.Joining.{joined}
+use Rattle.bg_decompose.specs.Joining.{recomposed_from}
 use Rattle.bg_react.specs.Growth.{GoesBetween}
 use Rattle.bg_react.proofs.Reacted.{regions_there, parameter_below, next_is, instance_is, goes_between, big_is}
 use Rattle.bg_react.proofs.reaction.big_after.Goals as goal
@@ -36,5 +36,5 @@ returns c =
     big_is c.args.host.now c.args.rule.now c.args.context.now c.args.parameter.now c.requires.is_host c.requires.is_rule c.requires.between
     c.in_ok-instance.field-0.big c.in_ok-big.big is
     (c.in_ok-big.ensures
-    ∙ ap (λ (r : Big). lean (joined r (counted c.args.host.now.next_node (length r.nodes)) c.args.context.now (counted c.args.host.now.next_edge (length r.edges))
+    ∙ ap (λ (r : Big). lean (recomposed_from r (counted c.args.host.now.next_node (length r.nodes)) c.args.context.now (counted c.args.host.now.next_edge (length r.edges))
     c.in_ok-instance.field-0.big)) c.reactum-2.ensures.same)

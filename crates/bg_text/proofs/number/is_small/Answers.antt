@@ -2,10 +2,10 @@ use Rattle.std.proofs.Common.{◌≡◌, ◌+◌, ◌<◌, ℕ, false, leb, arit
 use Rattle.std.specs.Str.Parse.{digits_value}
 use Rattle.std.proofs.lemmas.Int.Digits.{digits_value_more}
 use Rattle.std.proofs.lemmas.Str.Parse.{digits_value-take-le}
-use Rattle.bg_text.specs.Tokens.{greatest}
+use Rattle.bg_text.specs.Tokens.{greatest_int}
 use Rattle.bg_text.proofs.number.is_small.Goals as goal
 
-above : (n : ℕ) → greatest < n → false ≡ leb n greatest
+above : (n : ℕ) → greatest_int < n → false ≡ leb n greatest_int
 above n l = grind arith
 
 pub returns-then-value-gt-LARGEST_BEFORE_A_DIGIT : goal.returns-then-value-gt-LARGEST_BEFORE_A_DIGIT

@@ -4,19 +4,19 @@ use Rattle.std.proofs.lemmas.Int.{to_z_pos}
 use Rattle.std.specs.Str.Parse.{digits_value}
 use Rattle.std.proofs.lemmas.Int.Digits.{digits_value_more}
 use Rattle.std.proofs.lemmas.Str.Parse.{digits_value-take-le}
-use Rattle.bg_text.specs.Tokens.{greatest}
+use Rattle.bg_text.specs.Tokens.{greatest_int}
 use Rattle.bg_values.proofs.number.value_of.Goals as goal
 
-above : (n : ℕ) → greatest < n → false ≡ leb n greatest
+above : (n : ℕ) → greatest_int < n → false ≡ leb n greatest_int
 above n l = grind arith
 
-within : (n : ℕ) → n ≤ greatest → true ≡ leb n greatest
+within : (n : ℕ) → n ≤ greatest_int → true ≡ leb n greatest_int
 within n l = grind arith
 
-none_above : (n : ℕ) → greatest < n → ◌≡◌ {A = Option ℤ} None (cond (leb n greatest) (Some (pos n)) None)
+none_above : (n : ℕ) → greatest_int < n → ◌≡◌ {A = Option ℤ} None (cond (leb n greatest_int) (Some (pos n)) None)
 none_above n l = ap (λ b. cond b (Some (pos n)) None) (above n l)
 
-some_within : (n : ℕ) → n ≤ greatest → Some (pos n) ≡ cond (leb n greatest) (Some (pos n)) None
+some_within : (n : ℕ) → n ≤ greatest_int → Some (pos n) ≡ cond (leb n greatest_int) (Some (pos n)) None
 some_within n l = ap (λ b. cond b (Some (pos n)) None) (within n l)
 
 pub returns-then-value-gt-LARGEST_BEFORE_A_DIGIT : goal.returns-then-value-gt-LARGEST_BEFORE_A_DIGIT

@@ -1,8 +1,8 @@
 use Rattle.std.proofs.Common.{◌≡◌, ◌≤◌, take}
 use Rattle.std.specs.Str.Parse.{digits_value}
-use Rattle.bg_text.specs.Tokens.{greatest}
+use Rattle.bg_text.specs.Tokens.{greatest_int}
 use Rattle.bg_values.proofs.number.value_of.Given as goal
 
 -- the value of the digits so far
 abbrev pub invariant-loop-digit : goal.invariant-loop-digit
-invariant-loop-digit l = (l.value ≡ digits_value 10 (take l.digit-index l.digits)) × (l.value ≤ greatest)
+invariant-loop-digit l = (l.value ≡ digits_value 10 (take l.digit-index l.digits)) × (l.value ≤ greatest_int)
