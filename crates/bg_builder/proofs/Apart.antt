@@ -14,7 +14,7 @@ use Rattle.bg_base.specs.declared.big.NodeRow.{NodeRow}
 use Rattle.bg_base.specs.Bigraph.{IsValid, edge_of}
 use Rattle.bg_base.specs.Composition.{SupportsApart}
 use Rattle.bg_base.proofs.Composed.{SupportsApart-from_members}
-use Rattle.bg_builder.specs.Numbers.{is_below, last_of, follows, lies_behind}
+use Rattle.bg_builder.specs.Numbers.{is_below, last_of, numbers_follow, lies_behind}
 
 module _ {A : Type 0} (number : A → ℕ) where
   -- the numbers rise
@@ -77,7 +77,7 @@ same_option : (o : Option ℕ) → option_map (λ (n : ℕ). n) o ≡ o
 same_option (Some n) = refl
 same_option None = refl
 
-module _ (f g : Big) (f_valid : IsValid f) (g_valid : IsValid g) (behind : follows f g ≡ true) where
+module _ (f g : Big) (f_valid : IsValid f) (g_valid : IsValid g) (behind : numbers_follow f g ≡ true) where
   pub nodes_below : (x y : NodeRow) → Mem x f.nodes → Mem y g.nodes → x.id < y.id
   nodes_below =
       all_below (λ (r : NodeRow). r.id) f.nodes g.nodes (Ascending-from_sorted f.nodes f_valid.nodes_ascend) (Ascending-from_sorted g.nodes g_valid.nodes_ascend)

@@ -30,7 +30,7 @@ use Rattle.bg_base.proofs.LookUps.{node_cmp_total, region_from_has}
 use Rattle.bg_base.proofs.ProductLaws.{place_beside_none, row_beside_none, place_in_one-beside, row_in_one-beside}
 use Rattle.bg_algebra.proofs.Nested.{frame, frame_inner}
 use Rattle.bg_algebra.proofs.Through.{link_same}
-use Rattle.bg_builder.specs.Numbers.{follows, lies_behind}
+use Rattle.bg_builder.specs.Numbers.{numbers_follow, lies_behind}
 use Rattle.bg_builder.specs.Behind.{appended, raised, put_under, put_inside, closed}
 use Rattle.bg_builder.specs.Inside.{place_at, row_at, link_by, row_by, inner_by}
 use Rattle.bg_builder.proofs.Apart.{nodes_below, edges_below, edge_below}
@@ -99,7 +99,7 @@ module _ (g : Big) where
 
 -- ---- two bigraphs, the numbers of the second behind those of the first
 
-module _ (f g : Big) (f_valid : IsValid f) (g_valid : IsValid g) (behind : follows f g ≡ true) where
+module _ (f g : Big) (f_valid : IsValid f) (g_valid : IsValid g) (behind : numbers_follow f g ≡ true) where
   nodes_in_order : (change : NodeRow → NodeRow) → ((x y : NodeRow) → node_cmp x y ≡ Less → node_cmp (change x) (change y) ≡ Less)
       → ((row : NodeRow) → (change row).id ≡ row.id) → sort (before node_cmp) (f.nodes ++ map change g.nodes) ≡ f.nodes ++ map change g.nodes
   nodes_in_order change rises keeps =
@@ -196,7 +196,7 @@ module _ (f g : Big) (f_valid : IsValid f) (g_valid : IsValid g) (behind : follo
 
 -- ---- composition: the numbers of F behind those of G
 
-pub compose_behind : (g f : Big) → IsValid g → IsValid f → follows g f ≡ true → compose g f ≡ put_under g f
+pub compose_behind : (g f : Big) → IsValid g → IsValid f → numbers_follow g f ≡ true → compose g f ≡ put_under g f
 unfolding compose
 compose_behind g f g_valid f_valid behind =
     let nodes = nodes_in_order g f g_valid f_valid behind (row_through g) (λ x y less. less) (λ row. refl)

@@ -14,7 +14,7 @@ use Rattle.bg_base.specs.Composition.{compose}
 use Rattle.bg_base.specs.Products.{parallel, merge, nest, close, place_beside, row_beside, place_in_one, row_in_one, row_closed, inner_closed, in_one_region}
 use Rattle.bg_builder.specs.declared.frames.Frame.{Frame}
 use Rattle.bg_builder.specs.Behind.{closed}
-use Rattle.bg_builder.specs.Frames.{Rows, below, top_of, inner_rows, IsWithin, IsLaid, AreTwo, AreInOne}
+use Rattle.bg_builder.specs.Frames.{LaidRows, rows_below, top_of, inner_rows, BeginsWithin, IsLaid, AreTwo, AreInOne}
 use Rattle.bg_builder.specs.Inside.{place_at, row_at, row_by, inner_by}
 use Rattle.bg_builder.specs.Numbers.{lies_behind}
 use Rattle.bg_builder.proofs.Behind.{parallel_behind, merge_behind, nest_behind, compose_behind, close_behind, one_region_already}
@@ -22,10 +22,10 @@ use Rattle.bg_builder.proofs.Framing.{Lies, lies_in_two, lies_as_two, lies_alone
 use Rattle.bg_builder.proofs.Stacked.{laid}
 
 -- two bigraphs put together, the rows of the second in front
-module _ (rows new : Rows) (g f whole : Frame) (two : AreTwo rows g f)
+module _ (rows new : LaidRows) (g f whole : Frame) (two : AreTwo rows g f)
     (nodes_at : whole.nodes ≡ f.nodes) (edges_at : whole.edges ≡ f.edges) (sites_at : whole.sites ≡ f.sites) where
   abbrev upper : Big
-  upper = top_of (below rows g) f
+  upper = top_of (rows_below rows g) f
 
   abbrev lower : Big
   lower = top_of rows g
@@ -37,18 +37,18 @@ module _ (rows new : Rows) (g f whole : Frame) (two : AreTwo rows g f)
   sites_less = omega (arith, two.f_within.sites, length_take g.sites rows.sites two.g_within.sites)
 
   over : (nodes : List NodeRow) (edges : List ℕ) (sites : List Place) (big : Big)
-      → Lies f.nodes new.nodes (below rows g).nodes nodes → Lies f.edges new.edges (below rows g).edges edges → Lies f.sites new.sites (below rows g).sites sites
+      → Lies f.nodes new.nodes (rows_below rows g).nodes nodes → Lies f.edges new.edges (rows_below rows g).edges edges → Lies f.sites new.sites (rows_below rows g).sites sites
       → record { nodes = nodes; edges = edges; sites = sites; inner = inner_rows whole.inner.entries; regions = whole.regions; outer = whole.outer.keys } ≡ big
-      → IsLaid new whole (below (below rows g) f) big
+      → IsLaid new whole (rows_below (rows_below rows g) f) big
   over nodes edges sites big lie_nodes lie_edges lie_sites is =
-      let lies = laid new (below rows g) whole nodes edges sites
-      (subst (λ n. Lies n new.nodes (below rows g).nodes nodes) (sym nodes_at) lie_nodes)
-      (subst (λ n. Lies n new.edges (below rows g).edges edges) (sym edges_at) lie_edges)
-      (subst (λ n. Lies n new.sites (below rows g).sites sites) (sym sites_at) lie_sites) in
+      let lies = laid new (rows_below rows g) whole nodes edges sites
+      (subst (λ n. Lies n new.nodes (rows_below rows g).nodes nodes) (sym nodes_at) lie_nodes)
+      (subst (λ n. Lies n new.edges (rows_below rows g).edges edges) (sym edges_at) lie_edges)
+      (subst (λ n. Lies n new.sites (rows_below rows g).sites sites) (sym sites_at) lie_sites) in
       record {
         within = lies.within;
         under_is = lies.under_is
-            ∙ (λ t. record { nodes = take (nodes_at t) (below rows g).nodes; edges = take (edges_at t) (below rows g).edges; sites = take (sites_at t) (below rows g).sites });
+            ∙ (λ t. record { nodes = take (nodes_at t) (rows_below rows g).nodes; edges = take (edges_at t) (rows_below rows g).edges; sites = take (sites_at t) (rows_below rows g).sites });
         big_is = lies.big_is ∙ is;
       }
 
@@ -57,7 +57,7 @@ module _ (rows new : Rows) (g f whole : Frame) (two : AreTwo rows g f)
       → new.sites ≡ take g.sites rows.sites ++ map (place_beside f.regions) (drop g.sites rows.sites)
       → inner_rows whole.inner.entries ≡ sort (before inner_cmp) (inner_rows f.inner.entries ++ inner_rows g.inner.entries)
       → whole.outer.keys ≡ set_of name_cmp (f.outer.keys ++ g.outer.keys) → whole.regions ≡ f.regions + g.regions
-      → IsLaid new whole (below (below rows g) f) (parallel upper lower)
+      → IsLaid new whole (rows_below (rows_below rows g) f) (parallel upper lower)
   parallel_laid nodes edges sites inner outer regions =
       over _ _ _ _
       (lies_in_two f.nodes g.nodes rows.nodes new.nodes _ two.f_within.nodes two.g_within.nodes nodes)
@@ -75,7 +75,7 @@ module _ (rows new : Rows) (g f whole : Frame) (two : AreTwo rows g f)
   pub merge_laid : AreInOne rows g f new
       → inner_rows whole.inner.entries ≡ sort (before inner_cmp) (inner_rows f.inner.entries ++ inner_rows g.inner.entries)
       → whole.outer.keys ≡ set_of name_cmp (f.outer.keys ++ g.outer.keys) → whole.regions ≡ 1
-      → IsLaid new whole (below (below rows g) f) (merge upper lower)
+      → IsLaid new whole (rows_below (rows_below rows g) f) (merge upper lower)
   merge_laid one inner outer regions =
       let nodes : map row_in_one (drop f.nodes rows.nodes) ≡ map row_in_one upper.nodes ++ map row_in_one lower.nodes
       = ap (map row_in_one) (drop_parts f.nodes g.nodes rows.nodes nodes_less) ∙ map-append row_in_one upper.nodes lower.nodes in
@@ -94,7 +94,7 @@ module _ (rows new : Rows) (g f whole : Frame) (two : AreTwo rows g f)
       → new.sites ≡ take f.sites rows.sites ++ map (place_at upper.sites) (drop g.sites rows.sites)
       → inner_rows whole.inner.entries ≡ map (inner_by names) (inner_rows g.inner.entries)
       → whole.outer.keys ≡ f.outer.keys → whole.regions ≡ f.regions
-      → IsLaid new whole (below (below rows g) f) (compose upper lower)
+      → IsLaid new whole (rows_below (rows_below rows g) f) (compose upper lower)
   compose_laid placed own names own_is names_are first second edges sites inner outer regions =
       over _ _ _ _
       (lies_in_two f.nodes g.nodes rows.nodes new.nodes _ two.f_within.nodes two.g_within.nodes
@@ -117,7 +117,7 @@ module _ (rows new : Rows) (g f whole : Frame) (two : AreTwo rows g f)
       → new.sites ≡ take f.sites rows.sites ++ map (place_at upper.sites) (drop g.sites rows.sites)
       → inner_rows whole.inner.entries ≡ inner_rows g.inner.entries
       → whole.outer.keys ≡ set_of name_cmp (f.outer.keys ++ g.outer.keys) → whole.regions ≡ f.regions
-      → IsLaid new whole (below (below rows g) f) (nest upper lower)
+      → IsLaid new whole (rows_below (rows_below rows g) f) (nest upper lower)
   nest_laid own own_is no_inner nodes edges sites inner outer regions =
       over _ _ _ _
       (lies_in_two f.nodes g.nodes rows.nodes new.nodes _ two.f_within.nodes two.g_within.nodes
@@ -134,7 +134,7 @@ module _ (rows new : Rows) (g f whole : Frame) (two : AreTwo rows g f)
       }) ∙ sym (nest_behind upper lower two.f_valid two.g_valid two.follow no_inner))
 
 -- the roots and sites of two bigraphs in one region
-module _ (rows new : Rows) (g f : Frame) (two : AreTwo rows g f) where
+module _ (rows new : LaidRows) (g f : Frame) (two : AreTwo rows g f) where
   nodes_in_order : f.nodes ≤ g.nodes
   nodes_in_order = omega (arith, two.f_within.nodes, length_take g.nodes rows.nodes two.g_within.nodes)
 
@@ -145,7 +145,7 @@ module _ (rows new : Rows) (g f : Frame) (two : AreTwo rows g f) where
   pub upper_alone : f.regions ≡ 1 → new.nodes ≡ take g.nodes rows.nodes ++ map row_in_one (drop g.nodes rows.nodes) → new.edges ≡ rows.edges
       → new.sites ≡ take g.sites rows.sites ++ map place_in_one (drop g.sites rows.sites) → AreInOne rows g f new
   upper_alone one nodes edges sites =
-      let same = one_region_already (top_of (below rows g) f) two.f_valid one in
+      let same = one_region_already (top_of (rows_below rows g) f) two.f_valid one in
       record {
         nodes = second_changed row_in_one f.nodes g.nodes rows.nodes new.nodes nodes_in_order (ap (λ (b : Big). b.nodes) same) nodes;
         edges = edges;
@@ -155,7 +155,7 @@ module _ (rows new : Rows) (g f : Frame) (two : AreTwo rows g f) where
   -- where each has one region
   pub both_alone : f.regions ≡ 1 → g.regions ≡ 1 → AreInOne rows g f rows
   both_alone one other =
-      let same = one_region_already (top_of (below rows g) f) two.f_valid one in
+      let same = one_region_already (top_of (rows_below rows g) f) two.f_valid one in
       let too = one_region_already (top_of rows g) two.g_valid other in
       record {
         nodes = none_changed row_in_one f.nodes g.nodes rows.nodes nodes_in_order (ap (λ (b : Big). b.nodes) same) (ap (λ (b : Big). b.nodes) too);
@@ -164,14 +164,14 @@ module _ (rows new : Rows) (g f : Frame) (two : AreTwo rows g f) where
       }
 
 -- a name of one bigraph closed
-module _ (rows new : Rows) (f whole : Frame) (within : IsWithin rows f) (valid : IsValid (top_of rows f))
+module _ (rows new : LaidRows) (f whole : Frame) (within : BeginsWithin rows f) (valid : IsValid (top_of rows f))
     (nodes_at : whole.nodes ≡ f.nodes) (edges_at : whole.edges ≡ f.edges) (sites_at : whole.sites ≡ f.sites) where
   pub close_laid : (name : Name) (edge : ℕ) → lies_behind edge (top_of rows f) ≡ true
       → new.nodes ≡ take f.nodes rows.nodes ++ map (row_closed name edge) (drop f.nodes rows.nodes)
       → new.edges ≡ take f.edges rows.edges ++ edge ∷ drop f.edges rows.edges → new.sites ≡ rows.sites
       → inner_rows whole.inner.entries ≡ map (inner_closed name edge) (inner_rows f.inner.entries)
       → whole.outer.keys ≡ (closed name edge (top_of rows f)).outer → whole.regions ≡ f.regions
-      → IsLaid new whole (below rows f) (close (top_of rows f) name edge)
+      → IsLaid new whole (rows_below rows f) (close (top_of rows f) name edge)
   close_laid name edge behind nodes edges sites inner outer regions =
       let big = top_of rows f in
       let lies = laid new rows whole (map (row_closed name edge) big.nodes) (edge ∷ big.edges) big.sites
@@ -189,7 +189,7 @@ module _ (rows new : Rows) (f whole : Frame) (within : IsWithin rows f) (valid :
       }
 
 -- a bigraph whose rows are put behind all others
-pub added_laid : (rows new : Rows) (whole : Frame) (big : Big)
+pub added_laid : (rows new : LaidRows) (whole : Frame) (big : Big)
     → whole.nodes ≡ length rows.nodes → whole.edges ≡ length rows.edges → whole.sites ≡ length rows.sites
     → new.nodes ≡ rows.nodes ++ big.nodes → new.edges ≡ rows.edges ++ big.edges → new.sites ≡ rows.sites ++ big.sites
     → inner_rows whole.inner.entries ≡ big.inner → whole.outer.keys ≡ big.outer → whole.regions ≡ big.regions
@@ -202,7 +202,7 @@ added_laid rows new whole big nodes_at edges_at sites_at nodes edges sites inner
         sites = omega (arith, sites_at, length_more rows.sites big.sites, ap length sites);
       };
       under_is =
-          let at : below new whole ≡ record { nodes = take (length rows.nodes) (rows.nodes ++ big.nodes); edges = take (length rows.edges) (rows.edges ++ big.edges); sites = take (length rows.sites) (rows.sites ++ big.sites) }
+          let at : rows_below new whole ≡ record { nodes = take (length rows.nodes) (rows.nodes ++ big.nodes); edges = take (length rows.edges) (rows.edges ++ big.edges); sites = take (length rows.sites) (rows.sites ++ big.sites) }
           = λ t. record { nodes = take (nodes_at t) (nodes t); edges = take (edges_at t) (edges t); sites = take (sites_at t) (sites t) } in
           at ∙ (λ t. record { nodes = take_all rows.nodes big.nodes t; edges = take_all rows.edges big.edges t; sites = take_all rows.sites big.sites t });
       big_is =

@@ -7,14 +7,15 @@ use Rattle.bg_base.specs.declared.big.Big.{Big}
 use Rattle.bg_base.specs.Bigraph.{IsValid}
 use Rattle.bg_builder.specs.declared.frames.Frame.{Frame}
 use Rattle.bg_builder.specs.declared.lists.Lists.{Lists}
-use Rattle.bg_builder.specs.Frames.{Rows, rows_of, below, top_of, bigs_of, inner_rows, IsWithin, AreKept, IsLaid, AreTwo, stack_of, IsStack}
-use Rattle.bg_builder.specs.Numbers.{top, under, second, others, two_follow, top_behind, lies_behind}
+use Rattle.bg_builder.specs.Frames.{LaidRows, laid_rows, rows_below, top_of, bigs_of, inner_rows, BeginsWithin, AreKept, IsLaid, AreTwo, stack_of, IsStack}
+use Rattle.bg_builder.specs.Numbers.{lies_behind}
+use Rattle.bg_builder.specs.Stack.{top, under, second, others, two_follow, top_behind}
 use Rattle.bg_builder.proofs.Framing.{Lies}
 
 -- a frame over these rows, by its lists
-pub laid : (new under : Rows) (frame : Frame) (nodes : List NodeRow) (edges : List ℕ) (sites : List Place)
+pub laid : (new under : LaidRows) (frame : Frame) (nodes : List NodeRow) (edges : List ℕ) (sites : List Place)
     → Lies frame.nodes new.nodes under.nodes nodes → Lies frame.edges new.edges under.edges edges → Lies frame.sites new.sites under.sites sites
-    → IsLaid new frame (below under frame)
+    → IsLaid new frame (rows_below under frame)
     (record { nodes = nodes; edges = edges; sites = sites; inner = inner_rows frame.inner.entries; regions = frame.regions; outer = frame.outer.keys })
 laid new under frame nodes edges sites lie_nodes lie_edges lie_sites =
     record {
@@ -31,12 +32,12 @@ laid new under frame nodes edges sites lie_nodes lie_edges lie_sites =
     }
 
 -- the two topmost frames of a stack
-pub two_of : (rows : Rows) (g f : Frame) (frames : List Frame) → AreKept rows (g ∷ f ∷ frames) → two_follow (bigs_of rows (g ∷ f ∷ frames)) ≡ true → AreTwo rows g f
+pub two_of : (rows : LaidRows) (g f : Frame) (frames : List Frame) → AreKept rows (g ∷ f ∷ frames) → two_follow (bigs_of rows (g ∷ f ∷ frames)) ≡ true → AreTwo rows g f
 two_of rows g f frames kept follow =
     record { g_within = kept.0; g_valid = kept.1; f_within = kept.2.0; f_valid = kept.2.1; follow = follow }
 
 -- what a frame makes of a stack
-pub put_on : (new under : Rows) (frame : Frame) (frames : List Frame) (big : Big) → IsLaid new frame under big → IsValid big → AreKept under frames
+pub put_on : (new under : LaidRows) (frame : Frame) (frames : List Frame) (big : Big) → IsLaid new frame under big → IsValid big → AreKept under frames
     → AreKept new (frame ∷ frames) × (bigs_of new (frame ∷ frames) ≡ big ∷ bigs_of under frames)
 put_on new under frame frames big is valid kept = (
   (is.within, subst IsValid (sym is.big_is) valid, subst (λ rows. AreKept rows frames) (sym is.under_is) kept),
@@ -44,67 +45,67 @@ put_on new under frame frames big is valid kept = (
 )
 
 -- two frames are there
-some_two : (rows : Rows) (frames : List Frame) → two_follow (bigs_of rows frames) ≡ true → 2 ≤ length frames
+some_two : (rows : LaidRows) (frames : List Frame) → two_follow (bigs_of rows frames) ≡ true → 2 ≤ length frames
 some_two rows [] follow = absurd cc
 some_two rows (g ∷ []) follow = absurd cc
 some_two rows (g ∷ f ∷ frames) follow = omega arith
 
 pub two_there : (lists : Lists) (frames : List Frame) → two_follow (stack_of lists frames) ≡ true → 2 ≤ length frames
-two_there lists frames follow = let there = some_two (rows_of lists) (reverse frames) follow in omega (arith, there, length-reverse frames)
+two_there lists frames follow = let there = some_two (laid_rows lists) (reverse frames) follow in omega (arith, there, length-reverse frames)
 
 -- two frames are not there
-few_follow_not : (rows : Rows) (frames : List Frame) → length frames < 2 → two_follow (bigs_of rows frames) ≡ false
+few_follow_not : (rows : LaidRows) (frames : List Frame) → length frames < 2 → two_follow (bigs_of rows frames) ≡ false
 few_follow_not rows [] few = refl
 few_follow_not rows (g ∷ []) few = refl
 few_follow_not rows (g ∷ f ∷ frames) few = absurd (omega (arith, few))
 
 pub two_not_there : (lists : Lists) (frames : List Frame) → length frames < 2 → false ≡ two_follow (stack_of lists frames)
-two_not_there lists frames few = sym (few_follow_not (rows_of lists) (reverse frames) (omega (arith, few, length-reverse frames)))
+two_not_there lists frames few = sym (few_follow_not (laid_rows lists) (reverse frames) (omega (arith, few, length-reverse frames)))
 
 -- one frame is there
-some_one : (edge : ℕ) (rows : Rows) (frames : List Frame) → top_behind edge (bigs_of rows frames) ≡ true → 1 ≤ length frames
+some_one : (edge : ℕ) (rows : LaidRows) (frames : List Frame) → top_behind edge (bigs_of rows frames) ≡ true → 1 ≤ length frames
 some_one edge rows [] behind = absurd cc
 some_one edge rows (f ∷ frames) behind = omega arith
 
 pub one_there : (edge : ℕ) (lists : Lists) (frames : List Frame) → top_behind edge (stack_of lists frames) ≡ true → 1 ≤ length frames
-one_there edge lists frames behind = let there = some_one edge (rows_of lists) (reverse frames) behind in omega (arith, there, length-reverse frames)
+one_there edge lists frames behind = let there = some_one edge (laid_rows lists) (reverse frames) behind in omega (arith, there, length-reverse frames)
 
 -- an operation on the two topmost bigraphs, by the frames before and behind it
 module _ (old new : Lists) (before rest after : List Frame) (g f whole : Frame) (value : Big → Big → Big)
     (two : reverse before ≡ g ∷ f ∷ reverse rest) (one : reverse after ≡ whole ∷ reverse rest)
-    (kept : AreKept (rows_of old) (reverse before)) where
+    (kept : AreKept (laid_rows old) (reverse before)) where
   pub operated :
-      IsLaid (rows_of new) whole (below (below (rows_of old) g) f) (value (top_of (below (rows_of old) g) f) (top_of (rows_of old) g))
-      → IsValid (value (top_of (below (rows_of old) g) f) (top_of (rows_of old) g))
+      IsLaid (laid_rows new) whole (rows_below (rows_below (laid_rows old) g) f) (value (top_of (rows_below (laid_rows old) g) f) (top_of (laid_rows old) g))
+      → IsValid (value (top_of (rows_below (laid_rows old) g) f) (top_of (laid_rows old) g))
       → IsStack new after (value (second (stack_of old before)) (top (stack_of old before)) ∷ others (stack_of old before))
   operated is valid =
-      let kept_two : AreKept (rows_of old) (g ∷ f ∷ reverse rest) = subst (AreKept (rows_of old)) two kept in
-      let made = put_on (rows_of new) (below (below (rows_of old) g) f) whole (reverse rest) (value (top_of (below (rows_of old) g) f) (top_of (rows_of old) g)) is valid kept_two.2.2 in
+      let kept_two : AreKept (laid_rows old) (g ∷ f ∷ reverse rest) = subst (AreKept (laid_rows old)) two kept in
+      let made = put_on (laid_rows new) (rows_below (rows_below (laid_rows old) g) f) whole (reverse rest) (value (top_of (rows_below (laid_rows old) g) f) (top_of (laid_rows old) g)) is valid kept_two.2.2 in
       record {
-        kept = subst (AreKept (rows_of new)) (sym one) made.0;
-        bigs_are = ap (bigs_of (rows_of new)) one ∙ made.1
-            ∙ ap (λ frames. value (second (bigs_of (rows_of old) frames)) (top (bigs_of (rows_of old) frames)) ∷ others (bigs_of (rows_of old) frames)) (sym two);
+        kept = subst (AreKept (laid_rows new)) (sym one) made.0;
+        bigs_are = ap (bigs_of (laid_rows new)) one ∙ made.1
+            ∙ ap (λ frames. value (second (bigs_of (laid_rows old) frames)) (top (bigs_of (laid_rows old) frames)) ∷ others (bigs_of (laid_rows old) frames)) (sym two);
       }
 
 -- an operation on the topmost bigraph
 module _ (old new : Lists) (before rest after : List Frame) (f whole : Frame) (value : Big → Big)
     (one : reverse before ≡ f ∷ reverse rest) (made : reverse after ≡ whole ∷ reverse rest)
-    (kept : AreKept (rows_of old) (reverse before)) where
+    (kept : AreKept (laid_rows old) (reverse before)) where
   pub changed :
-      IsLaid (rows_of new) whole (below (rows_of old) f) (value (top_of (rows_of old) f)) → IsValid (value (top_of (rows_of old) f))
+      IsLaid (laid_rows new) whole (rows_below (laid_rows old) f) (value (top_of (laid_rows old) f)) → IsValid (value (top_of (laid_rows old) f))
       → IsStack new after (value (top (stack_of old before)) ∷ under (stack_of old before))
   changed is valid =
-      let kept_one : AreKept (rows_of old) (f ∷ reverse rest) = subst (AreKept (rows_of old)) one kept in
-      let put = put_on (rows_of new) (below (rows_of old) f) whole (reverse rest) (value (top_of (rows_of old) f)) is valid kept_one.2 in
+      let kept_one : AreKept (laid_rows old) (f ∷ reverse rest) = subst (AreKept (laid_rows old)) one kept in
+      let put = put_on (laid_rows new) (rows_below (laid_rows old) f) whole (reverse rest) (value (top_of (laid_rows old) f)) is valid kept_one.2 in
       record {
-        kept = subst (AreKept (rows_of new)) (sym made) put.0;
-        bigs_are = ap (bigs_of (rows_of new)) made ∙ put.1
-            ∙ ap (λ frames. value (top (bigs_of (rows_of old) frames)) ∷ under (bigs_of (rows_of old) frames)) (sym one);
+        kept = subst (AreKept (laid_rows new)) (sym made) put.0;
+        bigs_are = ap (bigs_of (laid_rows new)) made ∙ put.1
+            ∙ ap (λ frames. value (top (bigs_of (laid_rows old) frames)) ∷ under (bigs_of (laid_rows old) frames)) (sym one);
       }
 
 -- a bigraph put on top
 pub added : (old new : Lists) (before after : List Frame) (whole : Frame) (big : Big) → reverse after ≡ whole ∷ reverse before
-    → AreKept (rows_of old) (reverse before) → IsLaid (rows_of new) whole (rows_of old) big → IsValid big → IsStack new after (big ∷ stack_of old before)
+    → AreKept (laid_rows old) (reverse before) → IsLaid (laid_rows new) whole (laid_rows old) big → IsValid big → IsStack new after (big ∷ stack_of old before)
 added old new before after whole big is kept lies valid =
-    let put = put_on (rows_of new) (rows_of old) whole (reverse before) big lies valid kept in
-    record { kept = subst (AreKept (rows_of new)) (sym is) put.0; bigs_are = ap (bigs_of (rows_of new)) is ∙ put.1 }
+    let put = put_on (laid_rows new) (laid_rows old) whole (reverse before) big lies valid kept in
+    record { kept = subst (AreKept (laid_rows new)) (sym is) put.0; bigs_are = ap (bigs_of (laid_rows new)) is ∙ put.1 }

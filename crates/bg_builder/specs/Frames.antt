@@ -11,7 +11,7 @@ use Rattle.bg_base.specs.Bigraph.{IsValid}
 use Rattle.bg_builder.specs.declared.frames.Frame.{Frame}
 use Rattle.bg_builder.specs.declared.lists.Lists.{Lists}
 use Rattle.bg_base.specs.Products.{row_in_one, place_in_one}
-use Rattle.bg_builder.specs.Numbers.{follows}
+use Rattle.bg_builder.specs.Numbers.{numbers_follow}
 
 -- an inner name and its link, as a row
 abbrev pub inner_row : Name × Link → InnerRow
@@ -21,21 +21,21 @@ abbrev pub inner_rows : List (Name × Link) → List InnerRow
 inner_rows entries = map inner_row entries
 
 -- the rows of bigraphs one on another
-pub record Rows : Type 0 where
+pub record LaidRows : Type 0 where
   pub nodes : List NodeRow
   pub edges : List ℕ
   pub sites : List Place
 
-abbrev pub rows_of : Lists → Rows
-rows_of lists = record { nodes = lists.nodes.items; edges = lists.edges.items; sites = lists.sites.items }
+abbrev pub laid_rows : Lists → LaidRows
+laid_rows lists = record { nodes = lists.nodes.items; edges = lists.edges.items; sites = lists.sites.items }
 
 -- the rows of the bigraphs below that of the frame, which is the topmost one
-abbrev pub below : Rows → Frame → Rows
-below rows frame =
+abbrev pub rows_below : LaidRows → Frame → LaidRows
+rows_below rows frame =
     record { nodes = take frame.nodes rows.nodes; edges = take frame.edges rows.edges; sites = take frame.sites rows.sites }
 
 -- the bigraph of the topmost frame
-abbrev pub top_of : Rows → Frame → Big
+abbrev pub top_of : LaidRows → Frame → Big
 top_of rows frame =
     record {
       nodes = drop frame.nodes rows.nodes;
@@ -47,46 +47,46 @@ top_of rows frame =
     }
 
 -- the bigraphs of the frames, the topmost first
-abbrev pub bigs_of : Rows → List Frame → List Big
+abbrev pub bigs_of : LaidRows → List Frame → List Big
 bigs_of rows [] = []
-bigs_of rows (frame ∷ frames) = top_of rows frame ∷ bigs_of (below rows frame) frames
+bigs_of rows (frame ∷ frames) = top_of rows frame ∷ bigs_of (rows_below rows frame) frames
 
 -- the rows of the frame begin where the lists end, or before
-pub record IsWithin (rows : Rows) (frame : Frame) : Type 0 where
+pub record BeginsWithin (rows : LaidRows) (frame : Frame) : Type 0 where
   pub nodes : frame.nodes ≤ length rows.nodes
   pub edges : frame.edges ≤ length rows.edges
   pub sites : frame.sites ≤ length rows.sites
 
 -- what is true of frames, the topmost first, and their rows
-abbrev pub AreKept : Rows → List Frame → Type 0
+abbrev pub AreKept : LaidRows → List Frame → Type 0
 AreKept rows [] = Unit {0}
-AreKept rows (frame ∷ frames) = IsWithin rows frame × IsValid (top_of rows frame) × AreKept (below rows frame) frames
+AreKept rows (frame ∷ frames) = BeginsWithin rows frame × IsValid (top_of rows frame) × AreKept (rows_below rows frame) frames
 
 -- the topmost frame has that bigraph, over those rows
-pub record IsLaid (rows : Rows) (frame : Frame) (under : Rows) (big : Big) : Type 0 where
-  pub within : IsWithin rows frame
-  pub under_is : below rows frame ≡ under
+pub record IsLaid (rows : LaidRows) (frame : Frame) (under : LaidRows) (big : Big) : Type 0 where
+  pub within : BeginsWithin rows frame
+  pub under_is : rows_below rows frame ≡ under
   pub big_is : top_of rows frame ≡ big
 
 -- the two topmost bigraphs, that of the first frame on top; the numbers of the one on top lie behind those of the other
-pub record AreTwo (rows : Rows) (g f : Frame) : Type 0 where
-  pub g_within : IsWithin rows g
-  pub f_within : IsWithin (below rows g) f
+pub record AreTwo (rows : LaidRows) (g f : Frame) : Type 0 where
+  pub g_within : BeginsWithin rows g
+  pub f_within : BeginsWithin (rows_below rows g) f
   pub g_valid : IsValid (top_of rows g)
-  pub f_valid : IsValid (top_of (below rows g) f)
-  pub follow : follows (top_of (below rows g) f) (top_of rows g) ≡ true
+  pub f_valid : IsValid (top_of (rows_below rows g) f)
+  pub follow : numbers_follow (top_of (rows_below rows g) f) (top_of rows g) ≡ true
 
 -- the bigraphs of frames, of which the topmost is the last
 abbrev pub stack_of : Lists → List Frame → List Big
-stack_of lists frames = bigs_of (rows_of lists) (reverse frames)
+stack_of lists frames = bigs_of (laid_rows lists) (reverse frames)
 
 -- these frames are kept right, and have those bigraphs
 pub record IsStack (lists : Lists) (frames : List Frame) (bigs : List Big) : Type 0 where
-  pub kept : AreKept (rows_of lists) (reverse frames)
+  pub kept : AreKept (laid_rows lists) (reverse frames)
   pub bigs_are : stack_of lists frames ≡ bigs
 
 -- the two topmost bigraphs have their roots and sites in region 0, and the rows below stay
-pub record AreInOne (rows : Rows) (g f : Frame) (new : Rows) : Type 0 where
+pub record AreInOne (rows : LaidRows) (g f : Frame) (new : LaidRows) : Type 0 where
   pub nodes : new.nodes ≡ take f.nodes rows.nodes ++ map row_in_one (drop f.nodes rows.nodes)
   pub edges : new.edges ≡ rows.edges
   pub sites : new.sites ≡ take f.sites rows.sites ++ map place_in_one (drop f.sites rows.sites)

@@ -2,3 +2,4 @@ pub mod Behind
 pub mod Frames
 pub mod Inside
 pub mod Numbers
+pub mod Stack

@@ -26,13 +26,13 @@ pub struct BigStack {
 impl Model for BigStack {
     ghost use Rattle.std.specs.Prelude.{List, reverse};
     ghost use Rattle.bg_base.specs.declared.big.Big.{Big as BigValue};
-    ghost use Rattle.bg_builder.specs.Frames.{rows_of, AreKept, stack_of};
+    ghost use Rattle.bg_builder.specs.Frames.{laid_rows, AreKept, stack_of};
 
     ghost Value = { List BigValue };
 
     ghost view = { λ stack. stack_of stack.lists stack.frames.items };
 
-    ghost invariant = { λ stack. AreKept (rows_of stack.lists) (reverse stack.frames.items) };
+    ghost invariant = { λ stack. AreKept (laid_rows stack.lists) (reverse stack.frames.items) };
 }
 
 impl BigStack {
@@ -41,8 +41,8 @@ impl BigStack {
     ghost use Rattle.bg_base.specs.Composition as composition;
     ghost use Rattle.bg_base.specs.Elementary as elementary;
     ghost use Rattle.bg_base.specs.Products as product;
-    ghost use Rattle.bg_builder.specs.Numbers as numbers;
-    ghost use Rattle.bg_builder.specs.Numbers.{first, top, under, second, others};
+    ghost use Rattle.bg_builder.specs.Stack as stack;
+    ghost use Rattle.bg_builder.specs.Stack.{topmost, top, under, second, others};
 
     /// A stack of none. Takes no memory.
     pub fn new(alloc: Global) -> BigStack
@@ -108,7 +108,7 @@ impl BigStack {
     /// The topmost bigraph as lists of rows, or `None` where there is none. Moves its rows, if it is the only one; costs
     /// time in proportion to its names.
     pub fn finish(self, alloc: Global) -> Mem<Option<Big>>
-        ensures value { IfOk result (λ found. found ≡ first self) }
+        ensures value { IfOk result (λ found. found ≡ topmost self) }
         ensures valid { IfOk result (λ found. IfSome found IsValid) }
     {
         let BigStack { lists, mut frames } = self;
@@ -172,7 +172,7 @@ impl BigStack {
     /// Whether there are two bigraphs, and the numbers of the nodes and edges of the topmost one lie behind those of the
     /// second, so that no node and no edge is in both. Takes constant time.
     pub fn two_follow(&self) -> bool
-        ensures { result ≡ numbers.two_follow self.now }
+        ensures { result ≡ stack.two_follow self.now }
     {
         two_follow(&self.lists, &self.frames)
     }
@@ -180,7 +180,7 @@ impl BigStack {
     /// Whether there is a bigraph, and the numbers of the edges of the topmost one lie behind that one. Takes constant
     /// time.
     pub fn lies_behind(&self, edge: u32) -> bool
-        ensures { result ≡ numbers.top_behind edge self.now }
+        ensures { result ≡ stack.top_behind edge self.now }
     {
         top_behind(&self.lists, &self.frames, edge)
     }
@@ -192,7 +192,7 @@ impl BigStack {
     /// names the logarithm of the number of names of the second one. Memory is wanting too where 32 bits would not number
     /// the regions; then no bigraph is left on the stack.
     pub fn tensor(&mut self) -> Result<(), AlgebraFault>
-        requires follow { numbers.two_follow self.old ≡ true }
+        requires follow { stack.two_follow self.old ≡ true }
         ensures product { OnOk result (self.new ≡ product.tensor (second self.old) (top self.old) ∷ others self.old) }
         ensures defined { OnOk result (product.InnerApart (second self.old) (top self.old) × product.OuterApart (second self.old) (top self.old)) }
         ensures names { IsErrOf result AlgebraFault.NamesMeet ↔ ¬ (product.InnerApart (second self.old) (top self.old) × product.OuterApart (second self.old) (top self.old)) }
@@ -213,7 +213,7 @@ impl BigStack {
     /// `InnerNamesMeet`, number 14, where an inner name is in both, and leaves the stack as it is. It asks as much of
     /// their numbers and of memory, and costs as much, as [`BigStack::tensor`] does.
     pub fn parallel(&mut self) -> Result<(), AlgebraFault>
-        requires follow { numbers.two_follow self.old ≡ true }
+        requires follow { stack.two_follow self.old ≡ true }
         ensures product { OnOk result (self.new ≡ product.parallel (second self.old) (top self.old) ∷ others self.old) }
         ensures defined { OnOk result (product.InnerApart (second self.old) (top self.old)) }
         ensures names { IsErrOf result AlgebraFault.InnerNamesMeet ↔ ¬ product.InnerApart (second self.old) (top self.old) }
@@ -235,7 +235,7 @@ impl BigStack {
     /// names of the second one; and where the second one has not one region, in proportion to the nodes and sites of both.
     /// Where memory is wanting no bigraph is left on the stack.
     pub fn merge(&mut self) -> Result<(), AlgebraFault>
-        requires follow { numbers.two_follow self.old ≡ true }
+        requires follow { stack.two_follow self.old ≡ true }
         ensures product { OnOk result (self.new ≡ product.merge (second self.old) (top self.old) ∷ others self.old) }
         ensures defined { OnOk result (product.InnerApart (second self.old) (top self.old)) }
         ensures names { IsErrOf result AlgebraFault.InnerNamesMeet ↔ ¬ product.InnerApart (second self.old) (top self.old) }
@@ -260,7 +260,7 @@ impl BigStack {
     /// names; each of its ports gets a copy of the name that its link becomes. Where memory is wanting no bigraph is left
     /// on the stack.
     pub fn compose(&mut self, alloc: Global) -> Result<(), AlgebraFault>
-        requires follow { numbers.two_follow self.old ≡ true }
+        requires follow { stack.two_follow self.old ≡ true }
         ensures composed { OnOk result (self.new ≡ composition.compose (second self.old) (top self.old) ∷ others self.old) }
         ensures defined { OnOk result (composition.FacesAgree (second self.old) (top self.old)) }
         ensures faces { IsErrOf result AlgebraFault.FacesDiffer ↔ ¬ composition.FacesAgree (second self.old) (top self.old) }
@@ -283,7 +283,7 @@ impl BigStack {
     /// sites. Then the stack stays as it is. Costs time in proportion to the topmost one, and for each of its outer names
     /// the logarithm of the number of names of the second one. Where memory is wanting no bigraph is left on the stack.
     pub fn nest(&mut self) -> Result<(), AlgebraFault>
-        requires follow { numbers.two_follow self.old ≡ true }
+        requires follow { stack.two_follow self.old ≡ true }
         ensures product { OnOk result (self.new ≡ product.nest (second self.old) (top self.old) ∷ others self.old) }
         ensures defined { OnOk result (((second self.old).inner ≡ []) × ((top self.old).regions ≡ length (second self.old).sites)) }
         ensures inner_names { IsErrOf result AlgebraFault.HasInnerNames ↔ ¬ ((second self.old).inner ≡ []) }
@@ -310,7 +310,7 @@ impl BigStack {
     /// proportion to the bigraph; rows that the name is not tied to stay as they are. Where memory is wanting no bigraph
     /// is left on the stack.
     pub fn close(&mut self, alloc: Global, name: &Name, edge: u32) -> Result<(), AlgebraFault>
-        requires new { numbers.top_behind edge self.old ≡ true }
+        requires new { stack.top_behind edge self.old ≡ true }
         ensures closed { OnOk result (self.new ≡ product.close (top self.old) name.now edge ∷ under self.old) }
         ensures defined { OnOk result (IsSome (outer_of (top self.old).outer name.now)) }
         ensures name_there { IsErrOf result AlgebraFault.NoSuchName ↔ IsNone (outer_of (top self.old).outer name.now) }
@@ -329,7 +329,7 @@ impl BigStack {
     /// Whether no inner name is in both of the two topmost bigraphs.
     #[tactic(auto, using(crate::proofs::Stacked::two_there))]
     fn inner_is_apart(&self) -> bool
-        requires follow { numbers.two_follow self.now ≡ true }
+        requires follow { stack.two_follow self.now ≡ true }
         ensures { IsTrue result ↔ product.InnerApart (second self.now) (top self.now) }
     {
         let (f, g) = top_two(&self.frames);
@@ -339,7 +339,7 @@ impl BigStack {
     /// Whether no outer name is in both of the two topmost bigraphs.
     #[tactic(auto, using(crate::proofs::Stacked::two_there))]
     fn outer_is_apart(&self) -> bool
-        requires follow { numbers.two_follow self.now ≡ true }
+        requires follow { stack.two_follow self.now ≡ true }
         ensures { IsTrue result ↔ product.OuterApart (second self.now) (top self.now) }
     {
         let (f, g) = top_two(&self.frames);
@@ -349,7 +349,7 @@ impl BigStack {
     /// Whether the outer face of the topmost bigraph is the inner face of the second one.
     #[tactic(auto, using(crate::proofs::Stacked::two_there))]
     fn faces_agree(&self) -> bool
-        requires follow { numbers.two_follow self.now ≡ true }
+        requires follow { stack.two_follow self.now ≡ true }
         ensures { IsTrue result ↔ composition.FacesAgree (second self.now) (top self.now) }
     {
         let (g, f) = top_two(&self.frames);
@@ -359,7 +359,7 @@ impl BigStack {
     /// Whether the topmost bigraph has as many regions as the second one has sites.
     #[tactic(auto, using(crate::proofs::Stacked::two_there))]
     fn widths_agree(&self) -> bool
-        requires follow { numbers.two_follow self.now ≡ true }
+        requires follow { stack.two_follow self.now ≡ true }
         ensures { IsTrue result ↔ ((top self.now).regions ≡ length (second self.now).sites) }
     {
         let (f, g) = top_two(&self.frames);
@@ -369,7 +369,7 @@ impl BigStack {
     /// Whether the second bigraph has no inner name.
     #[tactic(auto, using(crate::proofs::Stacked::two_there))]
     fn has_no_inner(&self) -> bool
-        requires follow { numbers.two_follow self.now ≡ true }
+        requires follow { stack.two_follow self.now ≡ true }
         ensures { IsTrue result ↔ ((second self.now).inner ≡ []) }
     {
         let (f, _) = top_two(&self.frames);

@@ -2,8 +2,9 @@
 ghost use Rattle.std.specs.Prelude.{◌≡◌, ◌≤◌, ◌∷◌, ◌++◌, true, length, take, drop, reverse, IfOk, OnOk};
 ghost use Rattle.bg_base.specs.Bigraph.{IsValid};
 ghost use Rattle.bg_base.specs.Products as product;
-ghost use Rattle.bg_builder.specs.Frames.{rows_of, below, top_of, AreKept, IsWithin, IsLaid, stack_of, IsStack};
-ghost use Rattle.bg_builder.specs.Numbers.{top, under, top_behind, lies_behind};
+ghost use Rattle.bg_builder.specs.Frames.{laid_rows, rows_below, top_of, AreKept, BeginsWithin, IsLaid, stack_of, IsStack};
+ghost use Rattle.bg_builder.specs.Numbers.{lies_behind};
+ghost use Rattle.bg_builder.specs.Stack.{top, under, top_behind};
 
 use crate::frames::{Frame, put_one, take_one};
 use crate::lists::Lists;
@@ -22,7 +23,7 @@ pub(crate) fn put_closed(
     name: &Name,
     edge: u32,
 ) -> Mem<()>
-    requires kept { AreKept (rows_of lists.old) (reverse frames.old.items) }
+    requires kept { AreKept (laid_rows lists.old) (reverse frames.old.items) }
     requires new { top_behind edge (stack_of lists.old frames.old.items) ≡ true }
     ensures { OnOk result (IsStack lists.new frames.new.items
         (product.close (top (stack_of lists.old frames.old.items)) name.now edge ∷ under (stack_of lists.old frames.old.items))) }
@@ -37,11 +38,11 @@ pub(crate) fn put_closed(
 
 /// The topmost bigraph with the name made the edge, in front of all edges.
 fn closed(alloc: Global, lists: &mut Lists, f: Frame, name: &Name, edge: u32) -> Mem<Frame>
-    requires within { IsWithin (rows_of lists.old) f }
-    requires valid { IsValid (top_of (rows_of lists.old) f) }
-    requires new { lies_behind edge (top_of (rows_of lists.old) f) ≡ true }
-    ensures { IfOk result (λ whole. IsLaid (rows_of lists.new) whole (below (rows_of lists.old) f)
-        (product.close (top_of (rows_of lists.old) f) name.now edge)) }
+    requires within { BeginsWithin (laid_rows lists.old) f }
+    requires valid { IsValid (top_of (laid_rows lists.old) f) }
+    requires new { lies_behind edge (top_of (laid_rows lists.old) f) ≡ true }
+    ensures { IfOk result (λ whole. IsLaid (laid_rows lists.new) whole (rows_below (laid_rows lists.old) f)
+        (product.close (top_of (laid_rows lists.old) f) name.now edge)) }
 {
     close_nodes(alloc, &mut lists.nodes, f.nodes, name, edge)?;
     put_edge(&mut lists.edges, f.edges, edge)?;

@@ -4,9 +4,9 @@ ghost use Rattle.std.specs.List.Sorted.{IsStrictlySortedBy};
 ghost use Rattle.bg_base.specs.Bigraph.{inner_cmp};
 ghost use Rattle.bg_base.specs.Composition as composition;
 ghost use Rattle.bg_base.specs.Products as product;
-ghost use Rattle.bg_builder.specs.Frames.{rows_of, below, top_of, AreKept, AreTwo, IsLaid, stack_of, IsStack};
+ghost use Rattle.bg_builder.specs.Frames.{laid_rows, rows_below, top_of, AreKept, AreTwo, IsLaid, stack_of, IsStack};
 ghost use Rattle.bg_builder.specs.Inside as inside;
-ghost use Rattle.bg_builder.specs.Numbers.{top, second, others, two_follow};
+ghost use Rattle.bg_builder.specs.Stack.{top, second, others, two_follow};
 
 use crate::frames::{Frame, put_one, take_two};
 use crate::inside::{link_rows, place_rows};
@@ -20,7 +20,7 @@ use std::alloc::Global;
 /// The composition of the two topmost bigraphs, the topmost one below, in their place.
 #[tactic(auto, using(crate::proofs::Stacked::two_there, crate::proofs::Stacked::two_of))]
 pub(crate) fn put_composed(alloc: Global, lists: &mut Lists, frames: &mut Vec<Frame>) -> Mem<()>
-    requires kept { AreKept (rows_of lists.old) (reverse frames.old.items) }
+    requires kept { AreKept (laid_rows lists.old) (reverse frames.old.items) }
     requires follow { two_follow (stack_of lists.old frames.old.items) ≡ true }
     requires faces { composition.FacesAgree (second (stack_of lists.old frames.old.items)) (top (stack_of lists.old frames.old.items)) }
     ensures { OnOk result (IsStack lists.new frames.new.items
@@ -36,9 +36,9 @@ pub(crate) fn put_composed(alloc: Global, lists: &mut Lists, frames: &mut Vec<Fr
 
 /// The topmost bigraph, `f`, through the sites and the inner names of the second one.
 fn put_under(alloc: Global, lists: &mut Lists, g: Frame, f: Frame) -> Mem<Frame>
-    requires two { AreTwo (rows_of lists.old) f g }
-    ensures { IfOk result (λ whole. IsLaid (rows_of lists.new) whole (below (below (rows_of lists.old) f) g)
-        (composition.compose (top_of (below (rows_of lists.old) f) g) (top_of (rows_of lists.old) f))) }
+    requires two { AreTwo (laid_rows lists.old) f g }
+    ensures { IfOk result (λ whole. IsLaid (laid_rows lists.new) whole (rows_below (rows_below (laid_rows lists.old) f) g)
+        (composition.compose (top_of (rows_below (laid_rows lists.old) f) g) (top_of (laid_rows lists.old) f))) }
 {
     let inner = inner_list(alloc, g.inner)?;
     let names = inner.as_slice();
@@ -74,7 +74,7 @@ pub(crate) fn put_rows(
 /// The nesting of the topmost bigraph in the second one, in their place.
 #[tactic(auto, using(crate::proofs::Stacked::two_there, crate::proofs::Stacked::two_of))]
 pub(crate) fn put_nested(lists: &mut Lists, frames: &mut Vec<Frame>) -> Mem<()>
-    requires kept { AreKept (rows_of lists.old) (reverse frames.old.items) }
+    requires kept { AreKept (laid_rows lists.old) (reverse frames.old.items) }
     requires follow { two_follow (stack_of lists.old frames.old.items) ≡ true }
     requires no_inner { (second (stack_of lists.old frames.old.items)).inner ≡ [] }
     requires widths { (top (stack_of lists.old frames.old.items)).regions ≡ length (second (stack_of lists.old frames.old.items)).sites }
@@ -91,10 +91,10 @@ pub(crate) fn put_nested(lists: &mut Lists, frames: &mut Vec<Frame>) -> Mem<()>
 
 /// The topmost bigraph through the sites of the second one, which has no inner names.
 fn put_inside(lists: &mut Lists, f: Frame, g: Frame) -> Mem<Frame>
-    requires two { AreTwo (rows_of lists.old) g f }
-    requires no_inner { (top_of (below (rows_of lists.old) g) f).inner ≡ [] }
-    ensures { IfOk result (λ whole. IsLaid (rows_of lists.new) whole (below (below (rows_of lists.old) g) f)
-        (product.nest (top_of (below (rows_of lists.old) g) f) (top_of (rows_of lists.old) g))) }
+    requires two { AreTwo (laid_rows lists.old) g f }
+    requires no_inner { (top_of (rows_below (laid_rows lists.old) g) f).inner ≡ [] }
+    ensures { IfOk result (λ whole. IsLaid (laid_rows lists.new) whole (rows_below (rows_below (laid_rows lists.old) g) f)
+        (product.nest (top_of (rows_below (laid_rows lists.old) g) f) (top_of (laid_rows lists.old) g))) }
 {
     let sites = items_between(&lists.sites, f.sites, g.sites);
     place_nodes(&mut lists.nodes, g.nodes, sites);

@@ -1,7 +1,7 @@
 //! The topmost bigraph of a stack as lists of rows.
 ghost use Rattle.std.specs.Prelude.{◌≡◌, ◌≤◌, drop, length, IfOk};
 ghost use Rattle.bg_base.specs.Bigraph.{IsValid};
-ghost use Rattle.bg_builder.specs.Frames.{rows_of, top_of, IsWithin};
+ghost use Rattle.bg_builder.specs.Frames.{laid_rows, top_of, BeginsWithin};
 
 use crate::frames::Frame;
 use crate::lists::Lists;
@@ -12,8 +12,8 @@ use std::alloc::Global;
 
 /// The topmost bigraph.
 pub(crate) fn taken_off(alloc: Global, lists: Lists, frame: Frame) -> Mem<Big>
-    requires within { IsWithin (rows_of lists) frame }
-    ensures { IfOk result (λ big. big ≡ top_of (rows_of lists) frame) }
+    requires within { BeginsWithin (laid_rows lists) frame }
+    ensures { IfOk result (λ big. big ≡ top_of (laid_rows lists) frame) }
 {
     Ok(Big {
         nodes: Rows::try_from_vec(behind(lists.nodes, frame.nodes)?)?,

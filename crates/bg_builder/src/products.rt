@@ -1,8 +1,8 @@
 //! Products of the two topmost bigraphs of a stack: side by side, with names apart or shared, and in one region.
 ghost use Rattle.std.specs.Prelude.{◌≡◌, ◌∷◌, true, reverse, IfOk, OnOk};
 ghost use Rattle.bg_base.specs.Products as product;
-ghost use Rattle.bg_builder.specs.Frames.{rows_of, below, top_of, AreKept, AreTwo, AreInOne, IsLaid, stack_of, IsStack};
-ghost use Rattle.bg_builder.specs.Numbers.{top, second, others, two_follow};
+ghost use Rattle.bg_builder.specs.Frames.{laid_rows, rows_below, top_of, AreKept, AreTwo, AreInOne, IsLaid, stack_of, IsStack};
+ghost use Rattle.bg_builder.specs.Stack.{top, second, others, two_follow};
 
 use crate::frames::{Frame, put_one, take_two};
 use crate::lists::Lists;
@@ -13,7 +13,7 @@ use bg_lists::{Mem, OutOfMemory};
 /// The parallel product of the two topmost bigraphs in their place.
 #[tactic(auto, using(crate::proofs::Stacked::two_there, crate::proofs::Stacked::two_of))]
 pub(crate) fn put_parallel(lists: &mut Lists, frames: &mut Vec<Frame>) -> Mem<()>
-    requires kept { AreKept (rows_of lists.old) (reverse frames.old.items) }
+    requires kept { AreKept (laid_rows lists.old) (reverse frames.old.items) }
     requires follow { two_follow (stack_of lists.old frames.old.items) ≡ true }
     requires inner { product.InnerApart (second (stack_of lists.old frames.old.items)) (top (stack_of lists.old frames.old.items)) }
     ensures { OnOk result (IsStack lists.new frames.new.items
@@ -29,7 +29,7 @@ pub(crate) fn put_parallel(lists: &mut Lists, frames: &mut Vec<Frame>) -> Mem<()
 
 /// The tensor product of the two topmost bigraphs in their place.
 pub(crate) fn put_tensor(lists: &mut Lists, frames: &mut Vec<Frame>) -> Mem<()>
-    requires kept { AreKept (rows_of lists.old) (reverse frames.old.items) }
+    requires kept { AreKept (laid_rows lists.old) (reverse frames.old.items) }
     requires follow { two_follow (stack_of lists.old frames.old.items) ≡ true }
     requires inner { product.InnerApart (second (stack_of lists.old frames.old.items)) (top (stack_of lists.old frames.old.items)) }
     requires outer { product.OuterApart (second (stack_of lists.old frames.old.items)) (top (stack_of lists.old frames.old.items)) }
@@ -42,10 +42,10 @@ pub(crate) fn put_tensor(lists: &mut Lists, frames: &mut Vec<Frame>) -> Mem<()>
 
 /// The second bigraph with the topmost one beside it.
 fn beside(lists: &mut Lists, f: Frame, g: Frame) -> Mem<Frame>
-    requires two { AreTwo (rows_of lists.old) g f }
-    requires inner { product.InnerApart (top_of (below (rows_of lists.old) g) f) (top_of (rows_of lists.old) g) }
-    ensures { IfOk result (λ whole. IsLaid (rows_of lists.new) whole (below (below (rows_of lists.old) g) f)
-        (product.parallel (top_of (below (rows_of lists.old) g) f) (top_of (rows_of lists.old) g))) }
+    requires two { AreTwo (laid_rows lists.old) g f }
+    requires inner { product.InnerApart (top_of (rows_below (laid_rows lists.old) g) f) (top_of (laid_rows lists.old) g) }
+    ensures { IfOk result (λ whole. IsLaid (laid_rows lists.new) whole (rows_below (rows_below (laid_rows lists.old) g) f)
+        (product.parallel (top_of (rows_below (laid_rows lists.old) g) f) (top_of (laid_rows lists.old) g))) }
 {
     let Some(regions) = f.regions.checked_add(g.regions) else {
         return Err(OutOfMemory);
@@ -65,7 +65,7 @@ fn beside(lists: &mut Lists, f: Frame, g: Frame) -> Mem<Frame>
 /// The merge product of the two topmost bigraphs in their place.
 #[tactic(auto, using(crate::proofs::Stacked::two_there, crate::proofs::Stacked::two_of))]
 pub(crate) fn put_merged(lists: &mut Lists, frames: &mut Vec<Frame>) -> Mem<()>
-    requires kept { AreKept (rows_of lists.old) (reverse frames.old.items) }
+    requires kept { AreKept (laid_rows lists.old) (reverse frames.old.items) }
     requires follow { two_follow (stack_of lists.old frames.old.items) ≡ true }
     requires inner { product.InnerApart (second (stack_of lists.old frames.old.items)) (top (stack_of lists.old frames.old.items)) }
     ensures { OnOk result (IsStack lists.new frames.new.items
@@ -81,10 +81,10 @@ pub(crate) fn put_merged(lists: &mut Lists, frames: &mut Vec<Frame>) -> Mem<()>
 
 /// The second bigraph and the topmost one in one region.
 fn in_one(lists: &mut Lists, f: Frame, g: Frame) -> Mem<Frame>
-    requires two { AreTwo (rows_of lists.old) g f }
-    requires inner { product.InnerApart (top_of (below (rows_of lists.old) g) f) (top_of (rows_of lists.old) g) }
-    ensures { IfOk result (λ whole. IsLaid (rows_of lists.new) whole (below (below (rows_of lists.old) g) f)
-        (product.merge (top_of (below (rows_of lists.old) g) f) (top_of (rows_of lists.old) g))) }
+    requires two { AreTwo (laid_rows lists.old) g f }
+    requires inner { product.InnerApart (top_of (rows_below (laid_rows lists.old) g) f) (top_of (laid_rows lists.old) g) }
+    ensures { IfOk result (λ whole. IsLaid (laid_rows lists.new) whole (rows_below (rows_below (laid_rows lists.old) g) f)
+        (product.merge (top_of (rows_below (laid_rows lists.old) g) f) (top_of (laid_rows lists.old) g))) }
 {
     merge_regions(lists, &f, &g);
     Ok(Frame {
@@ -100,8 +100,8 @@ fn in_one(lists: &mut Lists, f: Frame, g: Frame) -> Mem<Frame>
 /// Puts the roots and sites of both into region 0. Leaves the rows of the second one alone where it has one region, and
 /// all where each has.
 fn merge_regions(lists: &mut Lists, f: &Frame, g: &Frame)
-    requires two { AreTwo (rows_of lists.old) g.now f.now }
-    ensures { AreInOne (rows_of lists.old) g.now f.now (rows_of lists.new) }
+    requires two { AreTwo (laid_rows lists.old) g.now f.now }
+    ensures { AreInOne (laid_rows lists.old) g.now f.now (laid_rows lists.new) }
 {
     if f.regions != 1 {
         merge_nodes(&mut lists.nodes, f.nodes);

@@ -5,7 +5,7 @@ ghost use Rattle.bg_base.specs.Elementary as elementary;
 ghost use Rattle.bg_base.specs.Order.{name_cmp};
 ghost use Rattle.bg_base.specs.declared.names.Link.TheVariants.{Outer};
 ghost use Rattle.bg_base.specs.declared.names.Place.TheVariants.{Node};
-ghost use Rattle.bg_builder.specs.Frames.{rows_of, AreKept, IsLaid, stack_of, IsStack};
+ghost use Rattle.bg_builder.specs.Frames.{laid_rows, AreKept, IsLaid, stack_of, IsStack};
 ghost use Rattle.bg_lists.specs.Orders.{set_of};
 
 use crate::frames::{Frame, put_one};
@@ -24,7 +24,7 @@ pub(crate) fn put_big(
     frames: &mut Vec<Frame>,
     big: Big,
 ) -> Mem<()>
-    requires kept { AreKept (rows_of lists.old) (reverse frames.old.items) }
+    requires kept { AreKept (laid_rows lists.old) (reverse frames.old.items) }
     requires valid { IsValid big }
     ensures { OnOk result (IsStack lists.new frames.new.items (big ∷ stack_of lists.old frames.old.items)) }
 {
@@ -36,7 +36,7 @@ pub(crate) fn put_big(
 /// The rows of the bigraph behind all others.
 fn lay(alloc: Global, lists: &mut Lists, big: Big) -> Mem<Frame>
     requires valid { IsValid big }
-    ensures { IfOk result (λ frame. IsLaid (rows_of lists.new) frame (rows_of lists.old) big) }
+    ensures { IfOk result (λ frame. IsLaid (laid_rows lists.new) frame (laid_rows lists.old) big) }
 {
     let Big {
         nodes,
@@ -69,7 +69,7 @@ pub(crate) fn put_ion(
     node: u32,
     names: Rows<Name>,
 ) -> Mem<()>
-    requires kept { AreKept (rows_of lists.old) (reverse frames.old.items) }
+    requires kept { AreKept (laid_rows lists.old) (reverse frames.old.items) }
     ensures { OnOk result (IsStack lists.new frames.new.items (elementary.ion control node names ∷ stack_of lists.old frames.old.items)) }
 {
     let frame = lay_ion(alloc, lists, control, node, names)?;
@@ -86,7 +86,7 @@ pub(crate) fn put_atom(
     node: u32,
     names: Rows<Name>,
 ) -> Mem<()>
-    requires kept { AreKept (rows_of lists.old) (reverse frames.old.items) }
+    requires kept { AreKept (laid_rows lists.old) (reverse frames.old.items) }
     ensures { OnOk result (IsStack lists.new frames.new.items (elementary.atom control node names ∷ stack_of lists.old frames.old.items)) }
 {
     let frame = lay_node(alloc, lists, control, node, names)?;
@@ -102,7 +102,7 @@ fn lay_ion(
     node: u32,
     names: Rows<Name>,
 ) -> Mem<Frame>
-    ensures { IfOk result (λ frame. IsLaid (rows_of lists.new) frame (rows_of lists.old) (elementary.lone_node control node names (Node node ∷ []))) }
+    ensures { IfOk result (λ frame. IsLaid (laid_rows lists.new) frame (laid_rows lists.old) (elementary.lone_node control node names (Node node ∷ []))) }
 {
     let frame = lay_node(alloc, lists, control, node, names)?;
     lists.sites.push(Place::Node(node))?;
@@ -117,7 +117,7 @@ fn lay_node(
     node: u32,
     names: Rows<Name>,
 ) -> Mem<Frame>
-    ensures { IfOk result (λ frame. IsLaid (rows_of lists.new) frame (rows_of lists.old) (elementary.lone_node control node names [])) }
+    ensures { IfOk result (λ frame. IsLaid (laid_rows lists.new) frame (laid_rows lists.old) (elementary.lone_node control node names [])) }
 {
     let frame = Frame {
         nodes: lists.nodes.len(),

@@ -5,7 +5,7 @@ use Rattle.bg_lists.specs.Lists.{Mem}
 use Rattle.bg_lists.proofs.Members.{Mem-map}
 use Rattle.bg_base.specs.declared.big.Big.{Big}
 use Rattle.bg_base.specs.declared.big.NodeRow.{NodeRow}
-use Rattle.bg_builder.specs.Numbers.{is_below, number_of, follows, lies_behind}
+use Rattle.bg_builder.specs.Numbers.{is_below, row_number, numbers_follow, lies_behind}
 use Rattle.bg_terms.specs.Numbering.{symbols}
 use Rattle.bg_terms.specs.Terms.{Term}
 use Rattle.bg_terms.specs.Values.{Reached, value}
@@ -26,16 +26,16 @@ edges_below xs ys m n less = by (slice_get xs m) (slice_get ys n) refl refl
     by None p left right = refl
 
 nodes_below : (xs ys : List NodeRow) (m n : ℕ) → ((x y : NodeRow) → Mem x xs → Mem y ys → x.id < y.id)
-    → is_below (number_of (slice_get xs m)) (number_of (slice_get ys n)) ≡ true
+    → is_below (row_number (slice_get xs m)) (row_number (slice_get ys n)) ≡ true
 nodes_below xs ys m n less = by (slice_get xs m) (slice_get ys n) refl refl
   where
-    by : (o p : Option NodeRow) → slice_get xs m ≡ o → slice_get ys n ≡ p → is_below (number_of o) (number_of p) ≡ true
+    by : (o p : Option NodeRow) → slice_get xs m ≡ o → slice_get ys n ≡ p → is_below (row_number o) (row_number p) ≡ true
     by (Some x) (Some y) left right = below_true x.id y.id (less x y (member_at xs m x left) (member_at ys n y right))
     by (Some x) None left right = refl
     by None p left right = refl
 
 pub values_follow : (depth : ℕ) (t u : Term) (c after last : Reached) (f g : Big) → value depth t c ≡ Ok (f, after) → value depth u after ≡ Ok (g, last)
-    → follows f g ≡ true
+    → numbers_follow f g ≡ true
 values_follow depth t u c after last f g first second =
     let f_nodes = numbered depth t c after f first in
     let g_nodes = numbered depth u after last g second in

@@ -8,7 +8,7 @@ use Rattle.bg_code.specs.declared.operation.Operation.{Operation}
 use Rattle.bg_code.specs.declared.operation.Operation.TheVariants as operations
 use Rattle.bg_code.specs.Code.{code_of}
 use Rattle.bg_machine.specs.States.{State, pushed, gone_on}
-use Rattle.bg_builder.specs.Numbers.{follows, lies_behind}
+use Rattle.bg_builder.specs.Numbers.{numbers_follow, lies_behind}
 use Rattle.bg_machine.specs.Machine.{Running, counted_node, comes_to, called, joined, step, run, running_after, running_of}
 use Rattle.bg_machine.proofs.Follow.{values_follow, lies_behind_its_closure}
 use Rattle.bg_machine.proofs.Bindings.{run_append, run_none}
@@ -96,7 +96,7 @@ closed_go shapes ms env at word edge s c (Err e) behind = refl
 
 -- both operands stand on the stack
 joined_go : (at : ℕ) (s : State) (operation : Big → Big → Result Big Refusal) (f : Big × Reached) (r : Come)
-    → ((g : Big × Reached) → r ≡ Ok g → follows f.0 g.0 ≡ true)
+    → ((g : Big × Reached) → r ≡ Ok g → numbers_follow f.0 g.0 ≡ true)
     → pushed (record s { stack = f.0 ∷ s.stack; reached = f.1 }) r >>= joined at operation
     ≡ pushed s (r >>= λ g. operation f.0 g.0 >>= λ big. within at big g.1)
 joined_go at s operation f (Ok g) apart =
@@ -110,7 +110,7 @@ module _ (shapes : List Shape) where
       → (code : List Operation) (s : State) (r : Come) (q : Reached → Come)
       → ((f : Big × Reached) → run shapes ms env code (record s { stack = f.0 ∷ s.stack; reached = f.1 })
       ≡ pushed (record s { stack = f.0 ∷ s.stack; reached = f.1 }) (q f.1))
-      → ((f g : Big × Reached) → r ≡ Ok f → q f.1 ≡ Ok g → follows f.0 g.0 ≡ true)
+      → ((f g : Big × Reached) → r ≡ Ok f → q f.1 ≡ Ok g → numbers_follow f.0 g.0 ≡ true)
       → pushed s r >>= run shapes ms env (code ++ op ∷ [])
       ≡ pushed s (r >>= λ f. q f.1 >>= λ g. operation f.0 g.0 >>= λ big. within at big g.1)
   both_go ms env op at operation steps code s (Ok f) q goes apart =

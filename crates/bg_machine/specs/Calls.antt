@@ -5,7 +5,7 @@ use Rattle.bg_base.specs.declared.signature.Control.{Control}
 use Rattle.bg_values.specs.declared.refusal.Refusal.{Refusal}
 use Rattle.bg_values.specs.declared.refusal.Cause.TheVariants.{Unexpected}
 use Rattle.bg_values.specs.Outcome.{◌>>=◌, there_or}
-use Rattle.bg_builder.specs.Numbers.{first}
+use Rattle.bg_builder.specs.Stack.{topmost}
 use Rattle.bg_values.specs.Names.{Entry}
 use Rattle.bg_terms.specs.declared.shape.ControlEntry.{ControlEntry}
 use Rattle.bg_terms.specs.declared.shape.Shape.{Shape}
@@ -38,4 +38,4 @@ valued come = come >>= λ v. Ok (v.0, met_of v.1)
 
 -- the bigraph on top, and what was met
 abbrev pub finished : State → Result (Big × Met) Refusal
-finished s = there_or Unexpected 0 (first s.stack) >>= λ big. Ok (big, met_of s.reached)
+finished s = there_or Unexpected 0 (topmost s.stack) >>= λ big. Ok (big, met_of s.reached)

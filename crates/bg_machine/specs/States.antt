@@ -1,7 +1,7 @@
 -- States of the machine that evaluates expressions.
 use Rattle.std.specs.Prelude.{ℕ, List, ◌∷◌, Result, Ok}
 use Rattle.bg_base.specs.declared.big.Big.{Big}
-use Rattle.bg_builder.specs.Numbers.{top, second, others}
+use Rattle.bg_builder.specs.Stack.{top, second, others}
 use Rattle.bg_values.specs.declared.refusal.Refusal.{Refusal}
 use Rattle.bg_values.specs.Outcome.{◌>>=◌}
 use Rattle.bg_terms.specs.Values.{Reached, Come}

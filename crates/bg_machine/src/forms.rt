@@ -1,7 +1,7 @@
 //! The forms of the model language that have no operand.
 ghost use Rattle.std.specs.Prelude.{◌≡◌, ◌∷◌, true, Ok, Err, IfOk, OnOk, MatchResult};
 ghost use Rattle.bg_base.specs.Bigraph.{IsValid};
-ghost use Rattle.bg_builder.specs.Numbers.{top, under, top_behind};
+ghost use Rattle.bg_builder.specs.Stack.{top, under, top_behind};
 ghost use Rattle.bg_base.specs.Elementary as elementary;
 ghost use Rattle.bg_base.specs.Order.{name_cmp};
 ghost use Rattle.bg_lists.specs.Orders.{set_of};

@@ -51,7 +51,7 @@ impl Machine {
     ghost use Rattle.bg_base.specs.Bigraph.{IsValid};
     ghost use Rattle.bg_machine.specs.Machine as definition;
     ghost use Rattle.bg_machine.specs.Calls as calls;
-    ghost use Rattle.bg_builder.specs.Numbers.{two_follow};
+    ghost use Rattle.bg_builder.specs.Stack.{two_follow};
     ghost use Rattle.bg_machine.specs.States.{pushed, gone_on};
     ghost use Rattle.bg_terms.specs.Expansion.{control_of_shape, with_values, node_term};
     ghost use Rattle.bg_terms.specs.Terms as terms;
@@ -222,7 +222,7 @@ impl Machine {
         self.put_evaluated(alloc, shape, env, at, arguments, ports)
     }
 
-    /// The same, once it is counted.
+    /// The node `K(..){a,b}` on top, once its term is counted: its arguments are evaluated first.
     fn put_evaluated(
         &mut self,
         alloc: Global,

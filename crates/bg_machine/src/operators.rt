@@ -1,6 +1,6 @@
 //! The operators of the model language on the two bigraphs on top of a stack.
 ghost use Rattle.std.specs.Prelude.{◌≡◌, true, false};
-ghost use Rattle.bg_builder.specs.Numbers.{two_follow};
+ghost use Rattle.bg_builder.specs.Stack.{two_follow};
 ghost use Rattle.bg_machine.specs.Faults as faults;
 ghost use Rattle.bg_machine.specs.States.{of_two};
 ghost use Rattle.bg_terms.specs.declared.shape.BinaryOperation.TheVariants as operations;

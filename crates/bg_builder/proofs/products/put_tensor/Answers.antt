@@ -1,6 +1,6 @@
 use Rattle.std.proofs.Common.{◌∷◌, ap, subst}
 use Rattle.bg_builder.specs.Frames.{stack_of, IsStack}
-use Rattle.bg_builder.specs.Numbers.{others}
+use Rattle.bg_builder.specs.Stack.{others}
 use Rattle.bg_builder.proofs.Put.{tensor_on}
 use Rattle.bg_builder.proofs.products.put_tensor.Goals as goal
 
