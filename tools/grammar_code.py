@@ -349,7 +349,7 @@ def write_steps():
             if is_list(s):
                 lines += list_steps(s, name)
         head = ['use Rattle.std.specs.Prelude.{ℕ, ◌+◌, List, [], ◌∷◌, ◌++◌, map}', 'use Rattle.bg_text.specs.declared.token.TokenKind.TheVariants as kinds',
-                'use Rattle.bg_syntax.specs.declared.symbol.Symbol.TheVariants as symbols', 'use Rattle.bg_grammar.specs.Grammar.{Step}',
+                'use Rattle.bg_syntax.specs.declared.symbol.Symbol.TheVariants as symbols', 'use Rattle.bg_grammar.specs.Grammar.{GrammarStep}',
                 'use Rattle.bg_syntax.specs.Steps.{Steps, opens, takes, in_turn}']
         antt(f'specs/{topic.capitalize()}Steps.antt', f'The steps of trees: {topic}.', '\n'.join(head + uses.lines() + lines))
 

@@ -39,7 +39,7 @@ Keeps promise (Err (failures.Refused refusal)) input = promise.refuses input ref
 Keeps promise (Err failures.OutOfMemory) input = Unit {0}
 
 -- the answer that stands for what a call gave; want of memory has none
-abbrev pub IsTold : Result Reply Failure → Answer → Type 0
-IsTold (Ok reply) answer = answer ≡ answer_of reply
-IsTold (Err (failures.Refused refusal)) answer = answer ≡ refusing refusal
-IsTold (Err failures.OutOfMemory) answer = ⊥
+abbrev pub StandsForReply : Result Reply Failure → Answer → Type 0
+StandsForReply (Ok reply) answer = answer ≡ answer_of reply
+StandsForReply (Err (failures.Refused refusal)) answer = answer ≡ refusing refusal
+StandsForReply (Err failures.OutOfMemory) answer = ⊥

@@ -17,12 +17,12 @@ pub struct Reply {
 impl Reply {
     ghost use Rattle.std.specs.Prelude.{IfOk};
     ghost use Rattle.bg_answers.specs.Answer.{answer_of};
-    ghost use Rattle.bg_answers.specs.Promise.{IsTold};
+    ghost use Rattle.bg_answers.specs.Promise.{StandsForReply};
 
     /// The answer to an input of which a command made this, or which it refused: then it is `Refused` (1), with the line
     /// of the refusal. Costs the time of a line.
     pub fn of(alloc: Global, made: Result<Reply, Failure>) -> Mem<Reply>
-        ensures { IfOk result (λ reply. IsTold made (answer_of reply)) }
+        ensures { IfOk result (λ reply. StandsForReply made (answer_of reply)) }
     {
         match made {
             Ok(reply) => Ok(reply),

@@ -101,13 +101,13 @@ answer_of None = Ok tt
 answer_of (Some fault) = Err (Malformed fault.2 fault.0 fault.1)
 
 -- the answer of a check tells the fault
-abbrev pub Tells : CheckFault → Option (Part × ℕ × ℕ) → Type 0
-Tells (Malformed code part row) fault = fault ≡ Some (part, row, code)
-Tells OutOfMemory fault = Unit {0}
+abbrev pub TellsMalformed : CheckFault → Option (Part × ℕ × ℕ) → Type 0
+TellsMalformed (Malformed code part row) fault = fault ≡ Some (part, row, code)
+TellsMalformed OutOfMemory fault = Unit {0}
 
 abbrev pub IsAnswer : {T : Type 0} → Result T CheckFault → Option (Part × ℕ × ℕ) → Type 0
 IsAnswer (Ok done) fault = fault ≡ None
-IsAnswer (Err refusal) fault = Tells refusal fault
+IsAnswer (Err refusal) fault = TellsMalformed refusal fault
 
 -- the answer tells a fault, and not want of memory
 abbrev pub IsMalformed : CheckFault → Type 0

@@ -12,7 +12,7 @@ ghost use Rattle.bg_base.specs.Climbing.{node_at};
 ghost use Rattle.bg_base.specs.Faults.{IsAnswer, IsMalformed};
 
 use crate::{
-    Big, Climbable, Control, Found, InnerRow, Kind, Link, Name, NodeRow, Place, Signature,
+    AtFoothold, Big, Climbable, Control, InnerRow, Kind, Link, Name, NodeRow, Place, Signature,
     marked_value, no_marks,
 };
 use bg_lists::{Mem, OutOfMemory, copies};
@@ -359,22 +359,22 @@ impl<'a> Climbable for Roots<'a> {
 
     ghost height = { λ roots foothold. foothold.moves };
 
-    fn find(&self, foothold: Foothold) -> Found<bool, Foothold> {
+    fn find(&self, foothold: Foothold) -> AtFoothold<bool, Foothold> {
         let Place::Node(node) = foothold.place else {
-            return Found::Value(has_place(self.big, self.lookup, foothold.place));
+            return AtFoothold::Value(has_place(self.big, self.lookup, foothold.place));
         };
         if foothold.moves == 0 {
-            return Found::Value(false);
+            return AtFoothold::Value(false);
         }
         match row_at(self.big, self.lookup, node) {
-            Some((at, row)) => Found::Row {
+            Some((at, row)) => AtFoothold::Row {
                 at: at as usize,
                 above: Foothold {
                     place: row.parent,
                     moves: foothold.moves - 1,
                 },
             },
-            None => Found::Value(false),
+            None => AtFoothold::Value(false),
         }
     }
 }

@@ -8,7 +8,7 @@ use std::alloc::Global;
 
 /// What is found at a foothold.
 #[derive(Clone, Copy)]
-pub enum Found<V, F> {
+pub enum AtFoothold<V, F> {
     /// The value of the foothold.
     Value(V),
     /// A row, at that position. Its value is that of the foothold, and so is the value of the foothold above.
@@ -36,7 +36,7 @@ pub trait Climbable {
     ghost height: { Self → Self.Foothold → ℕ };
 
     /// What is found at the foothold.
-    fn find(&self, foothold: Self::Foothold) -> Found<Self::Value, Self::Foothold>
+    fn find(&self, foothold: Self::Foothold) -> AtFoothold<Self::Value, Self::Foothold>
         requires { is_foothold self.now foothold }
         ensures { IsClimbFound (is_foothold self.now) (value self.now) (value_at self.now) (height self.now) foothold result };
 }
@@ -54,8 +54,8 @@ fn value_above<C: Climbable>(
     let mut foothold = start;
     loop {
         match climbable.find(foothold) {
-            Found::Value(value) => return value,
-            Found::Row { at, above } => match mark_at(marks, at) {
+            AtFoothold::Value(value) => return value,
+            AtFoothold::Row { at, above } => match mark_at(marks, at) {
                 Some(value) => return value,
                 None => foothold = above,
             },
@@ -76,7 +76,7 @@ fn mark_path<C: Climbable>(
     ensures { AreMarks (C.value_at climbable.now) marks.new }
 {
     let mut foothold = start;
-    while let Found::Row { at, above } = climbable.find(foothold) {
+    while let AtFoothold::Row { at, above } = climbable.find(foothold) {
         if mark_at(marks, at).is_some() {
             return;
         }

@@ -4,7 +4,7 @@
 //! - [`Place`], [`Link`], [`NodeRow`], [`InnerRow`], [`Big`]: a concrete bigraph, row by row.
 //! - [`find_node`], [`find_node_at`], [`has_edge`], [`find_inner`], [`has_outer`]: look-up in a valid bigraph, by
 //!   number or by name.
-//! - [`Climbable`], [`Found`], [`marked_value`], [`no_marks`]: climbs that leave marks.
+//! - [`Climbable`], [`AtFoothold`], [`marked_value`], [`no_marks`]: climbs that leave marks.
 //! - [`Signature`], [`Control`], [`Kind`]: the controls that nodes may have.
 //! - [`Map`], [`Step`], [`Entry`], [`Journal`]: steps of a run.
 //! - [`limits`]: how large things may be.
@@ -25,7 +25,7 @@ mod text;
 
 pub use big::{Big, InnerRow, NodeRow};
 pub use check::{CheckFault, Part};
-pub use climbing::{Climbable, Found, marked_value, no_marks};
+pub use climbing::{AtFoothold, Climbable, marked_value, no_marks};
 pub use history::{Entry, Journal, Map, Step};
 pub use labels::{Label, Value};
 pub use laws::{

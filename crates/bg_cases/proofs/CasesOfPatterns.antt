@@ -32,14 +32,14 @@ clauses big =
     ∷ list_all (λ (name : Name). is_plain name) big.outer ∷ edges_are_good big ∷ []
 
 -- the bigraph is valid and meets just these clauses, and a ground host has two decompositions with it
-pub record Shows (host pattern : Big) (nodes : List ℕ) (met : List Bool) : Type 0 where
+pub record ShowsCase (host pattern : Big) (nodes : List ℕ) (met : List Bool) : Type 0 where
   pub valid : IsValid pattern
   pub ground : IsGround host
   pub clauses_met : clauses pattern ≡ met
   pub two : HasTwoDecompositions host pattern nodes
 
 -- A.1 || 1 in A.1 || 1: the empty region may lie in each region of the host
-pub empty_region : Shows (in_places (node_a 0 (Region 0) ∷ []) [] 2) (in_places (node_a 0 (Region 0) ∷ []) [] 2) (0 ∷ []) (false ∷ true ∷ true ∷ true ∷ true ∷ true ∷ true ∷ true ∷ [])
+pub empty_region : ShowsCase (in_places (node_a 0 (Region 0) ∷ []) [] 2) (in_places (node_a 0 (Region 0) ∷ []) [] 2) (0 ∷ []) (false ∷ true ∷ true ∷ true ∷ true ∷ true ∷ true ∷ true ∷ [])
 unfolding compose tensor identity rename number_renamed counted sort put fault_of sites_fault inner_fault outer_fault edges_fault nodes_fault
 empty_region =
     record {
@@ -60,7 +60,7 @@ empty_region =
     }
 
 -- A.1 with an idle name x in A.1 with idle names y and z: x may be tied to y or to z
-pub idle_name : Shows (with_links (node_a 0 (Region 0) ∷ []) [] (y ∷ z ∷ []) 1) (with_links (node_a 0 (Region 0) ∷ []) [] (x ∷ []) 1) (0 ∷ []) (true ∷ false ∷ true ∷ true ∷ true ∷ true ∷ true ∷ true ∷ [])
+pub idle_name : ShowsCase (with_links (node_a 0 (Region 0) ∷ []) [] (y ∷ z ∷ []) 1) (with_links (node_a 0 (Region 0) ∷ []) [] (x ∷ []) 1) (0 ∷ []) (true ∷ false ∷ true ∷ true ∷ true ∷ true ∷ true ∷ true ∷ [])
 unfolding compose tensor identity rename number_renamed counted sort put fault_of sites_fault inner_fault outer_fault edges_fault nodes_fault
 idle_name =
     record {
@@ -81,7 +81,7 @@ idle_name =
     }
 
 -- A.(id | id) in A.B.1: the B may lie in the first site or in the second
-pub two_sites_in_one_node : Shows (in_places (node_a 0 (Region 0) ∷ node_b 1 (Node 0) ∷ []) [] 1) (in_places (node_a 0 (Region 0) ∷ []) (Node 0 ∷ Node 0 ∷ []) 1) (0 ∷ []) (true ∷ true ∷ false ∷ true ∷ true ∷ true ∷ true ∷ true ∷ [])
+pub two_sites_in_one_node : ShowsCase (in_places (node_a 0 (Region 0) ∷ node_b 1 (Node 0) ∷ []) [] 1) (in_places (node_a 0 (Region 0) ∷ []) (Node 0 ∷ Node 0 ∷ []) 1) (0 ∷ []) (true ∷ true ∷ false ∷ true ∷ true ∷ true ∷ true ∷ true ∷ [])
 unfolding compose tensor identity rename number_renamed counted sort put fault_of sites_fault inner_fault outer_fault edges_fault nodes_fault
 two_sites_in_one_node =
     record {
@@ -102,7 +102,7 @@ two_sites_in_one_node =
     }
 
 -- A.1 | id in A.1 | B.1: the B may belong to the context or to the parameter
-pub site_in_a_region : Shows (in_places (node_a 0 (Region 0) ∷ node_b 1 (Region 0) ∷ []) [] 1) (in_places (node_a 0 (Region 0) ∷ []) (Region 0 ∷ []) 1) (0 ∷ []) (true ∷ true ∷ true ∷ false ∷ true ∷ true ∷ true ∷ true ∷ [])
+pub site_in_a_region : ShowsCase (in_places (node_a 0 (Region 0) ∷ node_b 1 (Region 0) ∷ []) [] 1) (in_places (node_a 0 (Region 0) ∷ []) (Region 0 ∷ []) 1) (0 ∷ []) (true ∷ true ∷ true ∷ false ∷ true ∷ true ∷ true ∷ true ∷ [])
 unfolding compose tensor identity rename number_renamed counted sort put fault_of sites_fault inner_fault outer_fault edges_fault nodes_fault
 site_in_a_region =
     record {
@@ -123,7 +123,7 @@ site_in_a_region =
     }
 
 -- A.1 with an idle edge in A.1 with two idle edges: each may be its image
-pub idle_edge : Shows (with_links (node_a 0 (Region 0) ∷ []) (3 ∷ 4 ∷ []) [] 1) (with_links (node_a 0 (Region 0) ∷ []) (0 ∷ []) [] 1) (0 ∷ []) (true ∷ true ∷ true ∷ true ∷ true ∷ true ∷ true ∷ false ∷ [])
+pub idle_edge : ShowsCase (with_links (node_a 0 (Region 0) ∷ []) (3 ∷ 4 ∷ []) [] 1) (with_links (node_a 0 (Region 0) ∷ []) (0 ∷ []) [] 1) (0 ∷ []) (true ∷ true ∷ true ∷ true ∷ true ∷ true ∷ true ∷ false ∷ [])
 unfolding compose tensor identity rename number_renamed counted sort put fault_of sites_fault inner_fault outer_fault edges_fault nodes_fault
 idle_edge =
     record {

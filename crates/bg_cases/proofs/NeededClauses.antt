@@ -12,7 +12,7 @@ use Rattle.bg_algebra.specs.Frame.{is_plain}
 use Rattle.bg_rules.specs.Solid.{is_node, IsPattern}
 use Rattle.bg_cases.specs.Clauses.{PatternClause, no_empty_region, no_idle_name, one_site_a_parent, no_site_in_a_region, some_node_there, no_inner_name, plain_outer_names, no_idle_edge, HasClause, OnlyLacks}
 use Rattle.bg_cases.proofs.CaseTests.{regions_filled_by, pass_each, IsDistinct-from_differ, nil-from_test}
-use Rattle.bg_cases.proofs.CasesOfPatterns.{clauses, Shows, empty_region, idle_name, two_sites_in_one_node, site_in_a_region, idle_edge}
+use Rattle.bg_cases.proofs.CasesOfPatterns.{clauses, ShowsCase, empty_region, idle_name, two_sites_in_one_node, site_in_a_region, idle_edge}
 use Rattle.bg_cases.proofs.CasesOfLocalConditions.{Fails, inner_name, port_name}
 
 -- ---- all clauses, and a pattern
@@ -116,7 +116,7 @@ others_hold clause big e other never =
 abbrev pub IsNeeded : PatternClause → Type 0
 IsNeeded clause = (host : Big) × (pattern : Big) × (nodes : List ℕ) × OnlyLacks host pattern nodes clause
 
-by_two : (clause : PatternClause) {host pattern : Big} {nodes : List ℕ} → Shows host pattern nodes (all_but clause) → IsNeeded clause
+by_two : (clause : PatternClause) {host pattern : Big} {nodes : List ℕ} → ShowsCase host pattern nodes (all_but clause) → IsNeeded clause
 by_two clause {host} {pattern} {nodes} shown = (
   host,
   pattern,

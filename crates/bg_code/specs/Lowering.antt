@@ -7,7 +7,7 @@ use Rattle.bg_trees.specs.declared.names.SynMoreLowItem.{SynMoreLowItem}
 use Rattle.bg_terms.specs.declared.shape.ControlEntry.{ControlEntry}
 use Rattle.bg_terms.specs.Expressions.{Expression}
 use Rattle.bg_terms.specs.Trees.{Visible}
-use Rattle.bg_values.specs.declared.formula.Step.{Step}
+use Rattle.bg_values.specs.declared.formula.FormulaStep.{FormulaStep}
 use Rattle.bg_values.specs.declared.refusal.Refusal.{Refusal}
 use Rattle.bg_values.specs.declared.refusal.Stop.{Stop}
 use Rattle.bg_values.specs.declared.refusal.Cause.TheVariants.{UnknownName}
@@ -43,6 +43,6 @@ GivesOperations (Ok code) read = (e : Expression) × (read ≡ Ok e) × (code.it
 GivesOperations (Err stop) read = Stops stop read
 
 -- a call gives the first tokens and the steps of the formulas that are read, or stops
-abbrev pub ReadsArguments : Result (List (ℕ × List Step)) Stop → Result (List Operand) Refusal → Type 0
+abbrev pub ReadsArguments : Result (List (ℕ × List FormulaStep)) Stop → Result (List Operand) Refusal → Type 0
 ReadsArguments (Ok arguments) read = (fs : List Operand) × (read ≡ Ok fs) × (arguments ≡ map coded fs)
 ReadsArguments (Err stop) read = Stops stop read

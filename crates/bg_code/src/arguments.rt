@@ -18,10 +18,10 @@ pub struct Arguments {
 
 impl Model for Arguments {
     ghost use Rattle.std.specs.Prelude.{ℕ, List, map};
-    ghost use Rattle.bg_values.specs.declared.formula.Step.{Step};
+    ghost use Rattle.bg_values.specs.declared.formula.FormulaStep.{FormulaStep};
     ghost use Rattle.bg_values.specs.Operands.{shown};
 
-    ghost Value = { List (ℕ × List Step) };
+    ghost Value = { List (ℕ × List FormulaStep) };
 
     ghost view = { λ arguments. map shown arguments.operands.items };
 }

@@ -5,7 +5,7 @@ ghost use Rattle.bg_code.specs.Lowering as lowering;
 
 use bg_base::Kind;
 use bg_terms::ControlEntry;
-use bg_values::{Cause, Found, NameTable, Refusal, Scope};
+use bg_values::{Cause, FoundName, NameTable, Refusal, Scope};
 use std::marker::Model;
 
 /// What is visible in an expression: the text with its tokens and the formals, the controls, and the bigraphs with how
@@ -29,7 +29,7 @@ impl<'a> Model for Visible<'a> {
 pub(crate) fn control_at<'a>(
     visible: &'a Visible,
     token: u32,
-) -> Result<Found<'a, ControlEntry>, Refusal>
+) -> Result<FoundName<'a, ControlEntry>, Refusal>
     ensures { result ≡ lowering.control_at visible.now token }
 {
     match visible.controls.look_up(visible.scope.spelling(token)) {
@@ -39,7 +39,10 @@ pub(crate) fn control_at<'a>(
 }
 
 /// The bigraph that the token names, or `UnknownName` (41).
-pub(crate) fn bigraph_at<'a>(visible: &'a Visible, token: u32) -> Result<Found<'a, u32>, Refusal>
+pub(crate) fn bigraph_at<'a>(
+    visible: &'a Visible,
+    token: u32,
+) -> Result<FoundName<'a, u32>, Refusal>
     ensures { result ≡ lowering.bigraph_at visible.now token }
 {
     match visible.bigraphs.look_up(visible.scope.spelling(token)) {

@@ -4,7 +4,7 @@ use Rattle.std.proofs.lemmas.List.{append_cancel_left}
 use Rattle.bg_base.specs.declared.history.Entry.{Entry}
 use Rattle.bg_cond.proofs.DrawnRuns.{system_rules}
 use Rattle.bg_cond.proofs.Runs.{run_one_end}
-use Rattle.bg_cond.specs.Boards.{Shows, IsFound, IsDone, IsAgain, IsSpent, IsFull, IsCommitted}
+use Rattle.bg_cond.specs.Boards.{IsViewOf, IsFound, IsDone, IsAgain, IsSpent, IsFull, IsCommitted}
 use Rattle.bg_cond.specs.Drawn.{entry_of}
 use Rattle.bg_cond.specs.Steps.{IsLegal, IsRun}
 use Rattle.bg_cond.specs.declared.commits.View.{View}
@@ -17,7 +17,7 @@ use Rattle.bg_seats.proofs.Histories.{entries-own}
 use Rattle.bg_seats.specs.Histories.{entries_of}
 
 -- a legal step at a view is found at what was seen
-pub found_at_view : (system : SystemParts) (limit : ℕ) (seen : List Entry) (view : View) (found : Found) → Shows system limit seen view
+pub found_at_view : (system : SystemParts) (limit : ℕ) (seen : List Entry) (view : View) (found : Found) → IsViewOf system limit seen view
     → found.version ≡ view.version → IsLegal view.host system.rules found.step → IsFound system seen found
 found_at_view system limit seen view found shows same legal =
     let at : found.version ≡ length seen = same ∙ shows.version in

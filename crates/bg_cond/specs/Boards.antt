@@ -12,7 +12,7 @@ use Rattle.bg_rules.specs.Systems.{SystemParts}
 use Rattle.bg_seats.specs.Histories.{GrowsByOthers}
 
 -- the view is of all that was seen, which is a run of at most so many entries
-pub record Shows (system : SystemParts) (limit : ℕ) (seen : List Entry) (view : View) : Type 0 where
+pub record IsViewOf (system : SystemParts) (limit : ℕ) (seen : List Entry) (view : View) : Type 0 where
   pub version : view.version ≡ length seen
   pub run : IsRun system.rules system.init seen view.host
   pub within : length seen ≤ limit

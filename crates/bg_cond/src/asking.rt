@@ -6,7 +6,7 @@ ghost use Rattle.bg_rules.specs.declared.condition.Side.TheVariants.{Ctx, Param}
 ghost use Rattle.bg_cond.specs.Conditions.{OccursSomewhere, HoldsIn, IsEnabled, HoldsAt};
 
 use crate::listed::occurs_somewhere;
-use crate::pieces::{context_piece, param_piece};
+use crate::pieces::{context_piece, parameter_piece};
 use bg_base::Big;
 use bg_lists::Mem;
 use bg_match::HostIndex;
@@ -71,7 +71,7 @@ fn holds_in_parameter(
     ensures { IfOk result (λ answer. IsTrue answer ↔ HoldsAt host.now rule.now.redex map.now condition.now) }
 {
     let (_big, _redex) = (host.big(), rule.redex());
-    let piece = param_piece(alloc, host, rule, map)?;
+    let piece = parameter_piece(alloc, host, rule, map)?;
     let answer = holds_in(alloc, &piece, condition)?;
     Ok(answer)
 }

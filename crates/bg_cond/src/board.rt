@@ -1,7 +1,7 @@
 //! Hosts that workers share.
 ghost use Rattle.std.specs.Prelude.{◌≡◌, ◌≤◌, ℕ, List, length, IfOk, OnErr};
 ghost use Rattle.bg_base.specs.declared.history.Entry.{Entry as EntryValue};
-ghost use Rattle.bg_cond.specs.Boards.{Shows, IsNews, IsFound, IsCommitted};
+ghost use Rattle.bg_cond.specs.Boards.{IsViewOf, IsNews, IsFound, IsCommitted};
 ghost use Rattle.bg_rules.specs.Systems.{SystemParts};
 ghost use Rattle.bg_seats.specs.Histories.{GrowsByOthers};
 
@@ -40,7 +40,7 @@ pub trait Board {
         ensures of { is_of self.now pass.new }
         ensures worker { worker pass.new ≡ worker pass.old }
         ensures grows { GrowsByOthers (worker pass.old) (seen pass.old) (seen pass.new) }
-        ensures shows { IfOk result (λ view. Shows (system self.now) (limit self.now) (seen pass.new) view) }
+        ensures shows { IfOk result (λ view. IsViewOf (system self.now) (limit self.now) (seen pass.new) view) }
         ensures no_memory { OnErr result (pass.new ≡ pass.old) };
 
     /// The entries from number `from` on, of which the pass has seen those before. The pass has then seen all entries; none

@@ -44,6 +44,6 @@ pub use judging::{judge, judge_alone, judge_beside, judge_in};
 pub use legal::{first_class, steps, steps_in};
 pub use listed::occurs_somewhere;
 pub use picker::Picker;
-pub use pieces::{context_piece, param_piece};
+pub use pieces::{context_piece, parameter_piece};
 pub use stepping::{take_step, take_step_in_place};
 pub use verdict::Verdict;

@@ -10,7 +10,7 @@ ghost use Rattle.bg_rules.specs.Instantiation.{is_among};
 ghost use Rattle.bg_decompose.specs.Marks as mark;
 ghost use Rattle.bg_decompose.specs.Marks.{AreMarked};
 
-use bg_base::{Big, Climbable, Found, NodeRow, Place, find_node_at, marked_value, no_marks};
+use bg_base::{AtFoothold, Big, Climbable, NodeRow, Place, find_node_at, marked_value, no_marks};
 use bg_lists::{Duplicate, Mem, Rows};
 use std::alloc::Global;
 
@@ -51,19 +51,19 @@ impl<'a> Climbable for Covered<'a> {
 
     ghost height = { λ covered place. depth covered.host.now place };
 
-    fn find(&self, place: Place) -> Found<bool, Place> {
+    fn find(&self, place: Place) -> AtFoothold<bool, Place> {
         let Place::Node(node) = place else {
-            return Found::Value(false);
+            return AtFoothold::Value(false);
         };
         if has(self.images, node) {
-            return Found::Value(true);
+            return AtFoothold::Value(true);
         }
         match find_node_at(&self.host.nodes, node) {
-            Some((at, row)) => Found::Row {
+            Some((at, row)) => AtFoothold::Row {
                 at,
                 above: row.parent,
             },
-            None => Found::Value(false),
+            None => AtFoothold::Value(false),
         }
     }
 }

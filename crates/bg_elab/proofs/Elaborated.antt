@@ -2,7 +2,7 @@
 use Rattle.std.proofs.Common.{◌≡◌, ◌∙◌, [], ℕ, List, length, Result, Ok, refl, ap, sym, subst}
 use Rattle.bg_elab.specs.declared.fault.ModelFault.{ModelFault}
 use Rattle.bg_elab.specs.Blocks.{Block, block_read}
-use Rattle.bg_elab.specs.Elaboration.{IsRefusal, fault_of, text_of}
+use Rattle.bg_elab.specs.Elaboration.{TellsModelFault, fault_of, text_of}
 use Rattle.bg_elab.specs.Systems.{block_behind, block_valued, elaborated, no_system, system_behind}
 use Rattle.bg_elab.proofs.Turns.{code_halts}
 use Rattle.bg_rules.specs.Systems.{SystemParts}
@@ -21,28 +21,28 @@ use Rattle.bg_values.specs.declared.refusal.Refusal.{Refusal}
 use Rattle.bg_values.specs.declared.refusal.Stop.{Stop}
 use Rattle.bg_values.specs.declared.refusal.Stop.TheVariants.{Refused, OutOfMemory}
 use Rattle.bg_text.specs.declared.token.Token.{Token}
-use Rattle.bg_values.specs.Names.{Entry}
+use Rattle.bg_values.specs.Names.{NamedValue}
 use Rattle.bg_values.specs.Outcome.{◌>>=◌, Stops, refused}
 use Rattle.bg_values.specs.Scopes.{ScopeParts}
 
 -- the fault of a call that stopped
-pub fault_so : (text : ScopeParts) (stop : Stop) (wanted : Result SystemParts Refusal) → Stops stop wanted → IsRefusal text (fault_of text stop) wanted
+pub fault_so : (text : ScopeParts) (stop : Stop) (wanted : Result SystemParts Refusal) → Stops stop wanted → TellsModelFault text (fault_of text stop) wanted
 fault_so text (Refused refusal) wanted stops = (refusal, stops, refl)
 fault_so text OutOfMemory wanted stops = tt
 
 pub fault_is : (text : ScopeParts) (stop : Stop) (fault : ModelFault) (wanted : Result SystemParts Refusal) → fault ≡ fault_of text stop → Stops stop wanted
-    → IsRefusal text fault wanted
-fault_is text stop fault wanted is stops = subst (λ f. IsRefusal text f wanted) (sym is) (fault_so text stop wanted stops)
+    → TellsModelFault text fault wanted
+fault_is text stop fault wanted is stops = subst (λ f. TellsModelFault text f wanted) (sym is) (fault_so text stop wanted stops)
 
 -- the text, where these names are visible
-abbrev text_with : List ℕ → List Token → List (Entry (Unit {0})) → ScopeParts
+abbrev text_with : List ℕ → List Token → List (NamedValue (Unit {0})) → ScopeParts
 text_with bytes tokens names = record { bytes = bytes; tokens = tokens; names = names }
 
-pub fault_of_text : (bytes : List ℕ) (tokens : List Token) (tree : SynModel) (names : List (Entry (Unit {0}))) → names ≡ [] → (stop : Stop) (fault : ModelFault)
+pub fault_of_text : (bytes : List ℕ) (tokens : List Token) (tree : SynModel) (names : List (NamedValue (Unit {0}))) → names ≡ [] → (stop : Stop) (fault : ModelFault)
     → fault ≡ fault_of (text_with bytes tokens names) stop → Stops stop (elaborated (text_with bytes tokens names) tree)
-    → IsRefusal (text_of bytes tokens) fault (elaborated (text_of bytes tokens) tree)
+    → TellsModelFault (text_of bytes tokens) fault (elaborated (text_of bytes tokens) tree)
 fault_of_text bytes tokens tree names none stop fault is stops =
-    subst (λ (others : List (Entry (Unit {0}))). IsRefusal (text_with bytes tokens others) fault (elaborated (text_with bytes tokens others) tree)) none
+    subst (λ (others : List (NamedValue (Unit {0}))). TellsModelFault (text_with bytes tokens others) fault (elaborated (text_with bytes tokens others) tree)) none
     (fault_is (text_with bytes tokens names) stop fault (elaborated (text_with bytes tokens names) tree) is stops)
 
 -- ---- a block behind statements

@@ -30,7 +30,7 @@ use Rattle.bg_values.specs.declared.refusal.Cause.TheVariants as causes
 use Rattle.bg_values.specs.declared.refusal.LimitWord.{LimitWord}
 use Rattle.bg_values.specs.declared.refusal.LimitWord.TheVariants.{Rules, Preds}
 use Rattle.bg_values.specs.declared.refusal.Refusal.{Refusal}
-use Rattle.bg_values.specs.Names.{Entry, name_number}
+use Rattle.bg_values.specs.Names.{NamedValue, name_number}
 use Rattle.bg_values.specs.Scopes.{ScopeParts, spelling}
 use Rattle.bg_elab.proofs.Expected.{IsExpected, good, bad, goes_on, there, whether, values_expected}
 use Rattle.bg_elab.proofs.ExpectedTerms.{entered_expected, IsExpectedTerm, term_expected, expansion_expected}
@@ -79,10 +79,10 @@ rule_expected s rule met =
 
 -- ---- statements
 
-pub new_word_expected : {T : Type 0} (text : ScopeParts) (entries : List (Entry T)) (token : ℕ) → IsExpected (new_word text entries token)
+pub new_word_expected : {T : Type 0} (text : ScopeParts) (entries : List (NamedValue T)) (token : ℕ) → IsExpected (new_word text entries token)
 new_word_expected text entries token = whether (is_some (name_number (spelling text token) entries)) (bad (λ e. omega arith)) good
 
-pub formal_expected : (text : ScopeParts) (token : ℕ) (formals : List (Entry (Unit {0}))) → IsExpected (with_formal text token formals)
+pub formal_expected : (text : ScopeParts) (token : ℕ) (formals : List (NamedValue (Unit {0}))) → IsExpected (with_formal text token formals)
 formal_expected text token formals = goes_on (new_word_expected text formals token) (λ word. good)
 
 entered_once : (at formals : ℕ) (shape : Shape) (d : Defined) → IsExpected (entered_at_once at formals shape d)

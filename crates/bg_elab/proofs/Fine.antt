@@ -19,7 +19,7 @@ use Rattle.bg_terms.specs.Expressions.{Expression}
 use Rattle.bg_terms.specs.Trees.{Visible, Form, Reading, Onward}
 use Rattle.bg_values.specs.declared.refusal.Refusal.{Refusal}
 use Rattle.bg_values.specs.Arithmetic.{Formula}
-use Rattle.bg_values.specs.Names.{Entry}
+use Rattle.bg_values.specs.Names.{NamedValue}
 use Rattle.bg_values.specs.Numbers.{number_in}
 use Rattle.bg_values.specs.Reading.{between}
 use Rattle.bg_values.specs.Reading.{Reading as FormulaReading, Onward as FormulaOnward}
@@ -31,7 +31,7 @@ use Rattle.bg_elab.proofs.TokensSpelled.{KindSpells}
 
 -- the names of formals
 abbrev pub Names : Type 0
-Names = List (Entry (Unit {0}))
+Names = List (NamedValue (Unit {0}))
 
 -- of a text with its tokens
 module _ (base : ScopeParts) where
@@ -56,7 +56,7 @@ module _ (base : ScopeParts) where
   abbrev pub scoped : Names → ScopeParts
   scoped names = record base { names = names }
 
-  abbrev pub seen : Names → List (Entry ControlEntry) → List (Entry ℕ) → Visible
+  abbrev pub seen : Names → List (NamedValue ControlEntry) → List (NamedValue ℕ) → Visible
   seen names controls bigraphs = record { scope = scoped names; controls = controls; bigraphs = bigraphs }
 
   -- whatever is visible, it is not refused by 31
@@ -64,7 +64,7 @@ module _ (base : ScopeParts) where
   Scoped f = (names : Names) → IsExpected (f (scoped names))
 
   abbrev pub Seen : {A : Type 0} → (Visible → Result A Refusal) → Type 0
-  Seen f = (names : Names) (controls : List (Entry ControlEntry)) (bigraphs : List (Entry ℕ)) → IsExpected (f (seen names controls bigraphs))
+  Seen f = (names : Names) (controls : List (NamedValue ControlEntry)) (bigraphs : List (NamedValue ℕ)) → IsExpected (f (seen names controls bigraphs))
 
   -- ---- names
 

@@ -7,7 +7,7 @@ use Rattle.bg_terms.specs.Expressions.{Expression}
 use Rattle.bg_terms.specs.Trees.{Visible, Onward, word_at, words_at, items_read}
 use Rattle.bg_text.specs.declared.token.TokenKind.TheVariants as kinds
 use Rattle.bg_values.specs.declared.refusal.Cause.TheVariants as causes
-use Rattle.bg_values.specs.Names.{Entry, look_up}
+use Rattle.bg_values.specs.Names.{NamedValue, look_up}
 use Rattle.bg_values.specs.Scopes.{ScopeParts, spelling}
 use Rattle.bg_elab.proofs.Expected.{IsExpected, good, bad, goes_on, there, whether}
 use Rattle.bg_elab.proofs.Fine.{Names, IsWord, IsNumber, AreWords, Scoped, Seen, seen, Along, Makes, none, a_token, a_part, number_fine, names_fine, arguments_fine, referred_fine, identity_fine, form_fine, reading_fine, nothing_fine, behind_fine, no_item, one_item, items_fine}
@@ -36,7 +36,7 @@ definition_expected base at args h names controls bigraphs =
     goes_on (there causes.UnknownName at (look_up (spelling base at) bigraphs) (λ e. omega arith)) (λ found.
     whether (not (eqb args.0 found.1)) (bad (λ e. omega arith)) (goes_on (h names) (λ fs. good)))
 
-items_expected : (base : ScopeParts) (xs : List Onward) → Along base xs → (names : Names) (controls : List (Entry ControlEntry)) (bigraphs : List (Entry ℕ))
+items_expected : (base : ScopeParts) (xs : List Onward) → Along base xs → (names : Names) (controls : List (NamedValue ControlEntry)) (bigraphs : List (NamedValue ℕ))
     (e : Expression) → IsExpected (items_read xs (seen base names controls bigraphs) e)
 items_expected base _ no_item names controls bigraphs e = good
 items_expected base _ (one_item {items = xs} h more) names controls bigraphs e =

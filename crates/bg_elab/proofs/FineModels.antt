@@ -8,7 +8,7 @@ use Rattle.bg_syntax.specs.declared.symbol.Symbol.TheVariants as symbols
 use Rattle.bg_syntax.specs.Grammar.{k, s}
 use Rattle.bg_text.specs.declared.token.TokenKind.TheVariants as kinds
 use Rattle.bg_values.specs.declared.refusal.Cause.TheVariants as causes
-use Rattle.bg_values.specs.Names.{Entry, look_up}
+use Rattle.bg_values.specs.Names.{NamedValue, look_up}
 use Rattle.bg_values.specs.Scopes.{ScopeParts, spelling}
 use Rattle.bg_elab.proofs.Expected.{IsExpected, good, bad, goes_on, there, whether}
 use Rattle.bg_elab.proofs.ExpectedUses.{block_expected}
@@ -16,8 +16,8 @@ use Rattle.bg_elab.proofs.Fine.{Names, IsWord, Scoped, scoped, Makes, none, a_to
 use Rattle.bg_elab.proofs.FineExpressions.{word_expected}
 use Rattle.bg_elab.proofs.Said.{Referred, reference_by}
 
-reference_expected : (base : ScopeParts) (r : Referred) → IsWord base r.0 → Scoped base r.1.0.1 → (names : Names) (parameters : List (Entry (List Value)))
-    (table : List (Entry ℕ)) → IsExpected (reference_by r (scoped base names) parameters table)
+reference_expected : (base : ScopeParts) (r : Referred) → IsWord base r.0 → Scoped base r.1.0.1 → (names : Names) (parameters : List (NamedValue (List Value)))
+    (table : List (NamedValue ℕ)) → IsExpected (reference_by r (scoped base names) parameters table)
 reference_expected base r w h names parameters table =
     goes_on (there causes.UnknownName r.0 (look_up (spelling base r.0) table) (λ e. omega arith)) (λ found.
     whether (not (eqb r.1.0.0 found.1)) (bad (λ e. omega arith)) (goes_on (word_expected base r.0 w names [] []) (λ word.

@@ -1,7 +1,7 @@
 -- The tokens at the leaves of a model's derivation tree have the kinds that the leaves say.
 use Rattle.std.proofs.Common.{◌≡◌, ℕ, zero, suc, List, [], ◌∷◌, ◌++◌, drop, slice_get, Some, refl, sym, ap, subst, ◌∙◌}
 use Rattle.bg_text.specs.declared.token.Token.{Token}
-use Rattle.bg_grammar.specs.Grammar.{Step, opened, taken, Grammar, depth_below, kinds_of}
+use Rattle.bg_grammar.specs.Grammar.{GrammarStep, opened, taken, Grammar, depth_below, kinds_of}
 use Rattle.bg_grammar.specs.Trees.{Trees, no_tree, leaf, branch, steps_of, AreInTurn}
 use Rattle.bg_grammar.proofs.Trees.{derivation_in_turn}
 use Rattle.bg_trees.specs.declared.models.SynModel.{SynModel}
@@ -12,7 +12,7 @@ use Rattle.bg_syntax.specs.Numbers.{kind_number}
 use Rattle.bg_syntax.proofs.OneTree.{tree_steps}
 
 -- the tokens that the steps take have these kinds
-abbrev AreTaken : List ℕ → List Step → Type 0
+abbrev AreTaken : List ℕ → List GrammarStep → Type 0
 AreTaken kinds [] = Unit {0}
 AreTaken kinds (opened s i ∷ steps) = AreTaken kinds steps
 AreTaken kinds (taken k d n ∷ steps) = (slice_get kinds n ≡ Some k) × AreTaken kinds steps
@@ -23,7 +23,7 @@ Leaves kinds no_tree = Unit {0}
 Leaves kinds (leaf k n behind) = (slice_get kinds n ≡ Some k) × Leaves kinds behind
 Leaves kinds (branch s i below behind) = Leaves kinds below × Leaves kinds behind
 
-parted : (kinds : List ℕ) (ss ts : List Step) → AreTaken kinds (ss ++ ts) → AreTaken kinds ss × AreTaken kinds ts
+parted : (kinds : List ℕ) (ss ts : List GrammarStep) → AreTaken kinds (ss ++ ts) → AreTaken kinds ss × AreTaken kinds ts
 parted kinds [] ts a = (tt, a)
 parted kinds (opened s i ∷ ss) ts a = parted kinds ss ts a
 parted kinds (taken k d n ∷ ss) ts a = let more = parted kinds ss ts a.1 in ((a.0, more.0), more.1)
@@ -41,7 +41,7 @@ at_front [] (suc n) k ks e = absurd cc
 at_front (x ∷ xs) zero k ks e = (cc, cc)
 at_front (x ∷ xs) (suc n) k ks e = at_front xs n k ks e
 
-in_row : (all : List ℕ) (steps : List Step) (n : ℕ) → AreInTurn n steps → kinds_of steps ≡ drop n all → AreTaken all steps
+in_row : (all : List ℕ) (steps : List GrammarStep) (n : ℕ) → AreInTurn n steps → kinds_of steps ≡ drop n all → AreTaken all steps
 in_row all [] n t e = tt
 in_row all (opened s i ∷ steps) n t e = in_row all steps n t e
 in_row all (taken k d m ∷ steps) n t e =

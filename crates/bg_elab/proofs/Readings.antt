@@ -7,7 +7,7 @@ use Rattle.bg_elab.specs.declared.fault.ModelFault.TheVariants as faults
 use Rattle.bg_elab.specs.Elaboration.{start_or, offset_of, text_of, Elaborates}
 use Rattle.bg_elab.specs.Reading.{of_lexical, of_syntax, at_its_byte, IsReading, no_tokens, unexpected, too_deep, comes_to, GivesReading}
 use Rattle.bg_elab.specs.Systems.{elaborated}
-use Rattle.bg_grammar.specs.Grammar.{Step}
+use Rattle.bg_grammar.specs.Grammar.{GrammarStep}
 use Rattle.bg_grammar.specs.Faults.{IsShallow, Fault, IsFault, IsOnlyFault}
 use Rattle.bg_grammar.specs.Faults.{unexpected as at_token, too_deep as deep_token}
 use Rattle.bg_rules.specs.Systems.{SystemParts}
@@ -72,7 +72,7 @@ deep_same t u e = cc
 
 -- tokens that have a fault of the grammar have no tree
 faulty_tree : (bytes : List ℕ) (ts us : List Token) (tree : SynModel) → AreTokens bytes ts → AreTokens bytes us
-    → ((steps : List Step) → DerivesModel ts steps → IsShallow most_levels steps → ⊥) → IsTreeOf us tree → ⊥
+    → ((steps : List GrammarStep) → DerivesModel ts steps → IsShallow most_levels steps → ⊥) → IsTreeOf us tree → ⊥
 faulty_tree bytes ts us tree cut other none is =
     none (model_steps tree 0) (subst (λ z. DerivesModel z (model_steps tree 0)) (tokens_once bytes us ts other cut) is.derivation) is.shallow
 

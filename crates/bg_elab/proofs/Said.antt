@@ -25,7 +25,7 @@ use Rattle.bg_terms.specs.Trees.{linking_read, names_read, brackets_read, closur
 use Rattle.bg_values.specs.declared.formula.Operator.TheVariants.{Add, Subtract, Multiply, Divide}
 use Rattle.bg_values.specs.declared.refusal.Refusal.{Refusal}
 use Rattle.bg_values.specs.declared.refusal.Cause.TheVariants.{NoBlock, UnknownName, WrongArguments, WrongPorts}
-use Rattle.bg_values.specs.Names.{Entry, look_up}
+use Rattle.bg_values.specs.Names.{NamedValue, look_up}
 use Rattle.bg_values.specs.Operands.{Operand, numbers}
 use Rattle.bg_values.specs.Outcome.{◌>>=◌, refused, there_or}
 use Rattle.bg_values.specs.Parameters.{few, few_texts, texts_at, evaluated_range, without_names}
@@ -49,7 +49,7 @@ Referred = ℕ × Arguments
 
 -- names behind a comma: their tokens, and the formals that they are behind others
 abbrev pub LowerNames : Type 0
-LowerNames = List ℕ × (ScopeParts → List (Entry (Unit {0})) → Result (List (Entry (Unit {0}))) Refusal)
+LowerNames = List ℕ × (ScopeParts → List (NamedValue (Unit {0})) → Result (List (NamedValue (Unit {0}))) Refusal)
 
 -- references in a row, as those of a class to rules, and as those to predicates
 abbrev pub References : Type 0
@@ -63,7 +63,7 @@ pub data Said : Type 0 where
   at_token : ℕ → Said
   tokens : List ℕ → Said
   lower_names : LowerNames → Said
-  formals : (ScopeParts → Result (List (Entry (Unit {0}))) Refusal) → Said
+  formals : (ScopeParts → Result (List (NamedValue (Unit {0}))) Refusal) → Said
   formula : FormulaReading → Said
   formula_items : List FormulaOnward → Said
   operands : Operands → Said
@@ -398,7 +398,7 @@ stmts_said i parts = unread
 
 -- ---- models
 
-abbrev pub reference_of : Referred → ScopeParts → List (Entry (List Value)) → ℕ × ℕ → Result Reference Refusal
+abbrev pub reference_of : Referred → ScopeParts → List (NamedValue (List Value)) → ℕ × ℕ → Result Reference Refusal
 reference_of r text parameters found =
     if not (r.1.0.0 == found.1) then refused WrongArguments r.0 else
     (let o = with_tokens text parameters r.1.1 (record { names = []; lists = [] }) in
@@ -406,7 +406,7 @@ reference_of r text parameters found =
     r.1.0.1 (record text { names = o.names }) >>= λ fs.
     Ok (record { at = r.0; name = name; number = found.0; arguments = fs; lists = o.lists }))
 
-abbrev pub reference_by : Referred → ScopeParts → List (Entry (List Value)) → List (Entry ℕ) → Result Reference Refusal
+abbrev pub reference_by : Referred → ScopeParts → List (NamedValue (List Value)) → List (NamedValue ℕ) → Result Reference Refusal
 reference_by r text parameters names = there_or UnknownName r.0 (look_up (spelling text r.0) names) >>= reference_of r text parameters
 
 abbrev listed_by : Referred → ScopeParts → NameSpacesParts → ℕ → List Listed → Result (List Listed) Refusal

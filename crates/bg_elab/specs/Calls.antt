@@ -53,6 +53,6 @@ AddsClasses result old class new counted more =
     (done : List Listed) → old ≡ listed_codes done → Goes result (new, counted) (more (done, class) >>= λ read. Ok (classes_code read))
 
 -- a call leaves these and gives the signature reached, as wanted, or stops
-abbrev pub Makes : {X S : Type 0} → Result S Stop → List X → Result (List X × S) Refusal → Type 0
-Makes (Ok reached) made wanted = wanted ≡ Ok (made, reached)
-Makes (Err stop) made wanted = Stops stop wanted
+abbrev pub MakesList : {X S : Type 0} → Result S Stop → List X → Result (List X × S) Refusal → Type 0
+MakesList (Ok reached) made wanted = wanted ≡ Ok (made, reached)
+MakesList (Err stop) made wanted = Stops stop wanted

@@ -43,11 +43,11 @@ abbrev pub text_of : List ℕ → List Token → ScopeParts
 text_of bytes tokens = record { bytes = bytes; tokens = tokens; names = [] }
 
 -- the fault is that refusal, or there was no memory
-abbrev pub IsRefusal : ScopeParts → ModelFault → Result SystemParts Refusal → Type 0
-IsRefusal text (faults.Bad code detail offset) wanted = (refusal : Refusal) × (wanted ≡ Err refusal) × (faults.Bad code detail offset ≡ bad text refusal)
-IsRefusal text faults.OutOfMemory wanted = Unit {0}
+abbrev pub TellsModelFault : ScopeParts → ModelFault → Result SystemParts Refusal → Type 0
+TellsModelFault text (faults.Bad code detail offset) wanted = (refusal : Refusal) × (wanted ≡ Err refusal) × (faults.Bad code detail offset ≡ bad text refusal)
+TellsModelFault text faults.OutOfMemory wanted = Unit {0}
 
 -- a call gives the system that the model is, or its refusal, or there was no memory
 abbrev pub Elaborates : Result SystemParts ModelFault → List ℕ → List Token → SynModel → Type 0
 Elaborates (Ok system) bytes tokens tree = elaborated (text_of bytes tokens) tree ≡ Ok system
-Elaborates (Err fault) bytes tokens tree = IsRefusal (text_of bytes tokens) fault (elaborated (text_of bytes tokens) tree)
+Elaborates (Err fault) bytes tokens tree = TellsModelFault (text_of bytes tokens) fault (elaborated (text_of bytes tokens) tree)

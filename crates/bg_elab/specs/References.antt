@@ -8,14 +8,14 @@ use Rattle.bg_trees.specs.declared.expressions.SynRef.{SynRef}
 use Rattle.bg_terms.specs.Trees.{arguments, word_at}
 use Rattle.bg_values.specs.declared.refusal.Refusal.{Refusal}
 use Rattle.bg_values.specs.declared.refusal.Cause.TheVariants.{UnknownName, WrongArguments}
-use Rattle.bg_values.specs.Names.{Entry, look_up, name_number}
+use Rattle.bg_values.specs.Names.{NamedValue, look_up, name_number}
 use Rattle.bg_values.specs.Operands.{Operand, operands_read}
 use Rattle.bg_values.specs.Outcome.{◌>>=◌, refused, there_or}
 use Rattle.bg_values.specs.Scopes.{ScopeParts, spelling}
 
 -- the parameters that occur in some arguments, in the order of their first occurrence: their names, and the values of each
 pub record OccurringParts : Type 0 where
-  pub names : List (Entry (Unit {0}))
+  pub names : List (NamedValue (Unit {0}))
   pub lists : List (List Value)
 
 -- a reference: its token, the name, the number of what it names; the arguments, in which the parameters that occur are
@@ -40,16 +40,16 @@ and_parameter word (Some found) o = record { names = o.names ++ (word, tt) ∷ [
 and_parameter word None o = o
 
 -- these and the parameter that the word names, where it names one that is not there yet
-abbrev pub with_word : List (Entry (List Value)) → List ℕ → OccurringParts → OccurringParts
+abbrev pub with_word : List (NamedValue (List Value)) → List ℕ → OccurringParts → OccurringParts
 with_word parameters word o = if is_some (name_number word o.names) then o else and_parameter word (look_up word parameters) o
 
 -- these and those that the tokens name, in their order
-abbrev pub with_tokens : ScopeParts → List (Entry (List Value)) → List ℕ → OccurringParts → OccurringParts
+abbrev pub with_tokens : ScopeParts → List (NamedValue (List Value)) → List ℕ → OccurringParts → OccurringParts
 with_tokens text parameters [] o = o
 with_tokens text parameters (token ∷ tokens) o = with_tokens text parameters tokens (with_word parameters (spelling text token) o)
 
 -- the parameters that occur in the arguments
-abbrev pub occurring : ScopeParts → List (Entry (List Value)) → SynArgs → OccurringParts
+abbrev pub occurring : ScopeParts → List (NamedValue (List Value)) → SynArgs → OccurringParts
 occurring text parameters args = with_tokens text parameters (tokens_inside args) (record { names = []; lists = [] })
 
 -- ---- the reference
@@ -66,12 +66,12 @@ reference_with text o number tree =
     Ok (record { at = tree.part1; name = name; number = number; arguments = fs; lists = o.lists })
 
 -- the same, once what it names was found: its number, and how many formals it has
-abbrev pub reference_of : ScopeParts → List (Entry (List Value)) → SynRef → ℕ × ℕ → Result Reference Refusal
+abbrev pub reference_of : ScopeParts → List (NamedValue (List Value)) → SynRef → ℕ × ℕ → Result Reference Refusal
 reference_of text parameters tree found =
     if not (length (arguments tree.part2) == found.1) then refused WrongArguments tree.part1 else
     reference_with text (occurring text parameters tree.part2) found.0 tree
 
 -- a reference to one of these names, each with how many formals it has, where these parameters are visible
-abbrev pub reference_read : ScopeParts → List (Entry (List Value)) → List (Entry ℕ) → SynRef → Result Reference Refusal
+abbrev pub reference_read : ScopeParts → List (NamedValue (List Value)) → List (NamedValue ℕ) → SynRef → Result Reference Refusal
 reference_read text parameters names tree =
     there_or UnknownName tree.part1 (look_up (spelling text tree.part1) names) >>= reference_of text parameters tree

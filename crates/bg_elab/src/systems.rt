@@ -1,7 +1,7 @@
 //! What the block of a model comes to.
 ghost use Rattle.std.specs.Prelude.{◌≡◌, ◌+◌, ◌<◌, ◌≤◌, List, length, IfOk};
 ghost use Rattle.bg_elab.specs.Blocks.{Block as BlockValue, Listed as ListedValue};
-ghost use Rattle.bg_elab.specs.Calls.{IsBlockCode, Makes, block_code, listed_code, listed_codes, reference_code, reference_codes};
+ghost use Rattle.bg_elab.specs.Calls.{IsBlockCode, MakesList, block_code, listed_code, listed_codes, reference_code, reference_codes};
 ghost use Rattle.bg_elab.specs.References.{Reference as ReferenceValue};
 ghost use Rattle.bg_elab.specs.Systems as definition;
 ghost use Rattle.bg_statements.specs.Calls.{kept};
@@ -84,7 +84,7 @@ fn add_all_rules(
     rules: &mut Vec<Rule>,
     signature: Signature,
 ) -> Result<Signature, Stop>
-    ensures { (d : Defined) (ls : List ListedValue) → uses.now ≡ kept d → references.now ≡ listed_codes ls → Makes result rules.new.items (in_turn (definition.with_rules d) ls (rules.old.items, signature)) }
+    ensures { (d : Defined) (ls : List ListedValue) → uses.now ≡ kept d → references.now ≡ listed_codes ls → MakesList result rules.new.items (in_turn (definition.with_rules d) ls (rules.old.items, signature)) }
 {
     let mut reached = signature;
     for listed in references {
@@ -103,7 +103,7 @@ fn add_rules(
     rules: &mut Vec<Rule>,
     signature: Signature,
 ) -> Result<Signature, Stop>
-    ensures { (d : Defined) (l : ListedValue) → uses.now ≡ kept d → listed.now ≡ listed_code l → Makes result rules.new.items (definition.with_rules d l (rules.old.items, signature)) }
+    ensures { (d : Defined) (l : ListedValue) → uses.now ≡ kept d → listed.now ≡ listed_code l → MakesList result rules.new.items (definition.with_rules d l (rules.old.items, signature)) }
 {
     let mut reached = signature;
     let mut number = 0;
@@ -124,7 +124,7 @@ fn add_rule(
     rules: &mut Vec<Rule>,
     signature: Signature,
 ) -> Result<Signature, Stop>
-    ensures made { (d : Defined) (l : ListedValue) → uses.now ≡ kept d → listed.now ≡ listed_code l → Makes result rules.new.items (definition.with_rule d l choice.now (rules.old.items, signature)) }
+    ensures made { (d : Defined) (l : ListedValue) → uses.now ≡ kept d → listed.now ≡ listed_code l → MakesList result rules.new.items (definition.with_rule d l choice.now (rules.old.items, signature)) }
     ensures one_more { IfOk result (λ _. length rules.new.items ≡ length rules.old.items + 1) }
     ensures few { IfOk result (λ _. length rules.new.items ≤ most_rules) }
 {
@@ -168,7 +168,7 @@ fn add_all_predicates(
     preds: &mut Vec<Predicate>,
     signature: Signature,
 ) -> Result<Signature, Stop>
-    ensures { (d : Defined) (rs : List ReferenceValue) → uses.now ≡ kept d → references.now ≡ reference_codes rs → Makes result preds.new.items (in_turn (definition.with_predicates d) rs (preds.old.items, signature)) }
+    ensures { (d : Defined) (rs : List ReferenceValue) → uses.now ≡ kept d → references.now ≡ reference_codes rs → MakesList result preds.new.items (in_turn (definition.with_predicates d) rs (preds.old.items, signature)) }
 {
     let mut reached = signature;
     for reference in references {
@@ -187,7 +187,7 @@ fn add_predicates(
     preds: &mut Vec<Predicate>,
     signature: Signature,
 ) -> Result<Signature, Stop>
-    ensures { (d : Defined) (r : ReferenceValue) → uses.now ≡ kept d → reference.now ≡ reference_code r → Makes result preds.new.items (definition.with_predicates d r (preds.old.items, signature)) }
+    ensures { (d : Defined) (r : ReferenceValue) → uses.now ≡ kept d → reference.now ≡ reference_code r → MakesList result preds.new.items (definition.with_predicates d r (preds.old.items, signature)) }
 {
     let mut reached = signature;
     let mut number = 0;
@@ -208,7 +208,7 @@ fn add_predicate(
     preds: &mut Vec<Predicate>,
     signature: Signature,
 ) -> Result<Signature, Stop>
-    ensures made { (d : Defined) (r : ReferenceValue) → uses.now ≡ kept d → reference.now ≡ reference_code r → Makes result preds.new.items (definition.with_predicate d r choice.now (preds.old.items, signature)) }
+    ensures made { (d : Defined) (r : ReferenceValue) → uses.now ≡ kept d → reference.now ≡ reference_code r → MakesList result preds.new.items (definition.with_predicate d r choice.now (preds.old.items, signature)) }
     ensures one_more { IfOk result (λ _. length preds.new.items ≡ length preds.old.items + 1) }
     ensures few { IfOk result (λ _. length preds.new.items ≤ most_rules) }
 {

@@ -3,7 +3,7 @@ use Rattle.std.proofs.Common.{◌≡◌, ℕ, zero, suc, ◌<◌, ◌≤◌, Boo
 use Rattle.std.proofs.lemmas.List.{take-append-drop}
 use Rattle.bg_lists.specs.Lists.{At}
 use Rattle.bg_lists.proofs.Places.{At-total}
-use Rattle.bg_grammar.specs.Grammar.{Step, Grammar, depths_of, IsDerivation, IsSentence, BeginsSentence}
+use Rattle.bg_grammar.specs.Grammar.{GrammarStep, Grammar, depths_of, IsDerivation, IsSentence, BeginsSentence}
 use Rattle.bg_grammar.specs.Faults.{Fault, unexpected, too_deep, IsShallow, IsShallowBefore, IsUnexpected, IsTooDeep, IsFault, is_unexpected, is_too_deep, IsOnlyFault}
 use Rattle.bg_grammar.proofs.Predictions.{as_many_depths}
 
@@ -36,17 +36,17 @@ module _ (g : Grammar) (s most : ℕ) (kinds : List ℕ) where
   no_sentence t u true e w = u.not_on (let h : t < length kinds = grind arith in h) (sentence_begins (suc t) w)
   no_sentence t u false e w = u.not_whole (let h = u.within in let f : t ≡ length kinds = grind arith in f) w
 
-  depth_of : (steps : List Step) → IsDerivation g s kinds steps → (t : ℕ) → t < length kinds → (d : ℕ) × At d t (depths_of steps)
+  depth_of : (steps : List GrammarStep) → IsDerivation g s kinds steps → (t : ℕ) → t < length kinds → (d : ℕ) × At d t (depths_of steps)
   depth_of steps d t l = At-total (depths_of steps) t (let h = as_many_depths steps in let e = ap length d.spells in omega arith)
 
-  not_shallow : (t : ℕ) → IsTooDeep g s most kinds t → (steps : List Step) → IsDerivation g s kinds steps → IsShallow most steps → ⊥
+  not_shallow : (t : ℕ) → IsTooDeep g s most kinds t → (steps : List GrammarStep) → IsDerivation g s kinds steps → IsShallow most steps → ⊥
   not_shallow t w steps d shallow =
       let a = depth_of steps d t w.within in
       let high = w.deep (drop (suc t) kinds) steps (subst (λ z. IsDerivation g s z steps) (sym (take-append-drop (suc t) kinds)) d) a.0 a.1 in
       let low = shallow t a.0 a.1 in omega arith
 
   -- a sentence that begins with the first t tokens has tokens too deep before t, or has none
-  deep_or_not : (t u : ℕ) → IsTooDeep g s most kinds u → u < t → t ≤ length kinds → (more : List ℕ) (steps : List Step) → IsDerivation g s (take t kinds ++ more) steps → IsShallowBefore most t steps → ⊥
+  deep_or_not : (t u : ℕ) → IsTooDeep g s most kinds u → u < t → t ≤ length kinds → (more : List ℕ) (steps : List GrammarStep) → IsDerivation g s (take t kinds ++ more) steps → IsShallowBefore most t steps → ⊥
   deep_or_not t u w l within more steps d shallow =
       let long : length (take t kinds ++ more) ≡ length (depths_of steps) = ap length (sym d.spells) ∙ sym (as_many_depths steps) in
       let a = At-total (depths_of steps) u (let e = ap length (longer_front t (length kinds) kinds within) in let f = length-append (take t kinds) more in let q = front_length kinds t within in omega arith) in
@@ -82,7 +82,7 @@ module _ (g : Grammar) (s most : ℕ) (kinds : List ℕ) where
   one_fault fault other (is_too_deep {t = t} a) (is_unexpected {t = u} b) = absurd (not_both u t b a (ltb t u) refl)
   one_fault fault other (is_too_deep {t = t} a) (is_too_deep {t = u} b) = ap too_deep (between u t (one_too_deep u t b a) (one_too_deep t u a b))
 
-  no_derivation_at : (fault : Fault) → IsFault g s most kinds fault → (steps : List Step) → IsDerivation g s kinds steps → IsShallow most steps → ⊥
+  no_derivation_at : (fault : Fault) → IsFault g s most kinds fault → (steps : List GrammarStep) → IsDerivation g s kinds steps → IsShallow most steps → ⊥
   no_derivation_at fault (is_unexpected {t = t} a) steps d shallow = no_sentence t a (ltb t (length kinds)) refl (record { steps = steps; derivation = d })
   no_derivation_at fault (is_too_deep {t = t} a) steps d shallow = not_shallow t a steps d shallow
 

@@ -2,7 +2,7 @@
 use Rattle.std.proofs.Common.{◌≡◌, ℕ, zero, suc, ◌+◌, ◌<◌, ◌≤◌, true, List, [], ◌∷◌, ◌++◌, map, length, get_or, refl, sym, ap, subst, ◌∙◌, arith}
 use Rattle.bg_lists.specs.Lists.{At, at_here, at_there}
 use Rattle.bg_lists.proofs.Places.{At-one}
-use Rattle.bg_grammar.specs.Grammar.{Part, kind, symbol, Expected, expect, Step, opened, taken, Grammar, ways_of, depth_below, under, Derives, finished, take_kind, open_symbol, kinds_of, depths_of}
+use Rattle.bg_grammar.specs.Grammar.{Part, kind, symbol, Expected, expect, GrammarStep, opened, taken, Grammar, ways_of, depth_below, under, Derives, finished, take_kind, open_symbol, kinds_of, depths_of}
 use Rattle.bg_grammar.specs.Faults.{IsShallow}
 use Rattle.bg_grammar.specs.Plan.{Plan, row, follow, rank, head_fits, rest_fits, is_low, fits}
 use Rattle.bg_grammar.specs.Machine.{look, Runs, stay, step_kind, step_symbol}
@@ -48,31 +48,31 @@ pub look_inside : (p : Plan) (xs more others : List ℕ) (k : ℕ) → k < lengt
 look_inside p [] more others k l = absurd (omega arith)
 look_inside p (x ∷ xs) more others k l = refl
 
-pub kinds_joined : (ss ts : List Step) → kinds_of (ss ++ ts) ≡ kinds_of ss ++ kinds_of ts
+pub kinds_joined : (ss ts : List GrammarStep) → kinds_of (ss ++ ts) ≡ kinds_of ss ++ kinds_of ts
 kinds_joined [] ts = refl
 kinds_joined (opened s i ∷ ss) ts = kinds_joined ss ts
 kinds_joined (taken k d n ∷ ss) ts = ap (λ z. k ∷ z) (kinds_joined ss ts)
 
-pub depths_joined : (ss ts : List Step) → depths_of (ss ++ ts) ≡ depths_of ss ++ depths_of ts
+pub depths_joined : (ss ts : List GrammarStep) → depths_of (ss ++ ts) ≡ depths_of ss ++ depths_of ts
 depths_joined [] ts = refl
 depths_joined (opened s i ∷ ss) ts = depths_joined ss ts
 depths_joined (taken k d n ∷ ss) ts = ap (λ z. d ∷ z) (depths_joined ss ts)
 
-pub as_many_depths : (ss : List Step) → length (depths_of ss) ≡ length (kinds_of ss)
+pub as_many_depths : (ss : List GrammarStep) → length (depths_of ss) ≡ length (kinds_of ss)
 as_many_depths [] = refl
 as_many_depths (opened s i ∷ ss) = as_many_depths ss
 as_many_depths (taken k d n ∷ ss) = ap suc (as_many_depths ss)
 
 -- what is left of a derivation behind a run
-pub record After (g : Grammar) (m : ℕ) (fs : List Expected) (ss ts : List Step) (more : List ℕ) : Type 0 where
-  pub steps : List Step
+pub record After (g : Grammar) (m : ℕ) (fs : List Expected) (ss ts : List GrammarStep) (more : List ℕ) : Type 0 where
+  pub steps : List GrammarStep
   pub is : ts ≡ ss ++ steps
   pub derives : Derives g m fs steps
   pub spells : kinds_of steps ≡ more
 
 -- steps that derive the stack
 pub record Word (g : Grammar) (n : ℕ) (es : List Expected) : Type 0 where
-  pub steps : List Step
+  pub steps : List GrammarStep
   pub derives : Derives g n es steps
 
 tail_is : (k j : ℕ) (ks js : List ℕ) → k ∷ ks ≡ j ∷ js → ks ≡ js
@@ -87,18 +87,18 @@ module _ (g : Grammar) (p : Plan) (ok : fits g p ≡ true) where
   head_of {d} {s} {es} i way k a (good_symbol low follows good) st = head_at p (depth_below g s d) s i way es k (way_of g p ok s i way a).head follows st
 
   -- what a derivation spells begins as the table says
-  pub predict : {n : ℕ} {es : List Expected} {ss : List Step} → Derives g n es ss → Good p es → Starts p es (look p (kinds_of ss))
+  pub predict : {n : ℕ} {es : List Expected} {ss : List GrammarStep} → Derives g n es ss → Good p es → Starts p es (look p (kinds_of ss))
   predict finished good = refl
   predict (take_kind d) good = refl
   predict (open_symbol {i = i} {way = way} a d) good = not_none _ i (head_of i way _ a good (predict d (good_open i way a good)))
 
   -- the alternative that a derivation takes is the table's
-  chosen : {n d s : ℕ} {es : List Expected} {ss : List Step} (i : ℕ) (way : List Part) → Good p (record { depth = d; part = symbol s } ∷ es) → At way i (ways_of g s)
+  chosen : {n d s : ℕ} {es : List Expected} {ss : List GrammarStep} (i : ℕ) (way : List Part) → Good p (record { depth = d; part = symbol s } ∷ es) → At way i (ways_of g s)
       → Derives g n (under g d s way ++ es) ss → get_or (row p s) (look p (kinds_of ss)) 0 ≡ suc i
   chosen i way good a d = head_of i way _ a good (predict d (good_open i way a good))
 
   -- a derivation and a step of the machine that see the same kind take the same alternative
-  same_way : {n d s : ℕ} {es : List Expected} {ss : List Step} (i j : ℕ) (way other : List Part) (k : ℕ) → Good p (record { depth = d; part = symbol s } ∷ es)
+  same_way : {n d s : ℕ} {es : List Expected} {ss : List GrammarStep} (i j : ℕ) (way other : List Part) (k : ℕ) → Good p (record { depth = d; part = symbol s } ∷ es)
       → get_or (row p s) k 0 ≡ suc i → At way i (ways_of g s) → look p (kinds_of ss) ≡ k → At other j (ways_of g s) → Derives g n (under g d s other ++ es) ss
       → (i ≡ j) × Derives g n (under g d s way ++ es) ss
   same_way {n} {d} {s} {es} {ss} i j way other k good entry a e b r =
@@ -106,35 +106,35 @@ module _ (g : Grammar) (p : Plan) (ok : fits g p ≡ true) where
       (same, subst (λ z. Derives g n (under g d s z ++ es) ss) (At-one (subst (λ z. At other z (ways_of g s)) (sym same) b) a) r)
 
   module _ (most : ℕ) where
-    pub run_kinds : {n m : ℕ} {ks ls : List ℕ} {es fs : List Expected} {ss : List Step} → Runs g p most n ks es ss m ls fs → ks ≡ kinds_of ss ++ ls
+    pub run_kinds : {n m : ℕ} {ks ls : List ℕ} {es fs : List Expected} {ss : List GrammarStep} → Runs g p most n ks es ss m ls fs → ks ≡ kinds_of ss ++ ls
     run_kinds stay = refl
     run_kinds (step_kind {k = k} l r) = ap (λ z. k ∷ z) (run_kinds r)
     run_kinds (step_symbol e a r) = run_kinds r
 
-    pub run_count : {n m : ℕ} {ks ls : List ℕ} {es fs : List Expected} {ss : List Step} → Runs g p most n ks es ss m ls fs → m ≡ n + length (kinds_of ss)
+    pub run_count : {n m : ℕ} {ks ls : List ℕ} {es fs : List Expected} {ss : List GrammarStep} → Runs g p most n ks es ss m ls fs → m ≡ n + length (kinds_of ss)
     run_count stay = omega arith
     run_count (step_kind l r) = let h = run_count r in omega arith
     run_count (step_symbol e a r) = run_count r
 
-    pub run_good : {n m : ℕ} {ks ls : List ℕ} {es fs : List Expected} {ss : List Step} → Runs g p most n ks es ss m ls fs → Good p es → Good p fs
+    pub run_good : {n m : ℕ} {ks ls : List ℕ} {es fs : List Expected} {ss : List GrammarStep} → Runs g p most n ks es ss m ls fs → Good p es → Good p fs
     run_good stay good = good
     run_good (step_kind l r) (good_kind good) = run_good r good
     run_good (step_symbol {i = i} {way = way} e a r) good = run_good r (good_open i way a good)
 
     -- the machine's steps derive
-    pub run_sound : {n m : ℕ} {ks ls : List ℕ} {es fs : List Expected} {ss us : List Step} → Runs g p most n ks es ss m ls fs → Derives g m fs us → Derives g n es (ss ++ us)
+    pub run_sound : {n m : ℕ} {ks ls : List ℕ} {es fs : List Expected} {ss us : List GrammarStep} → Runs g p most n ks es ss m ls fs → Derives g m fs us → Derives g n es (ss ++ us)
     run_sound stay d = d
     run_sound (step_kind l r) d = take_kind (run_sound r d)
     run_sound (step_symbol e a r) d = open_symbol a (run_sound r d)
 
-    pub run_on : {n m o : ℕ} {ks ls qs : List ℕ} {es fs gs : List Expected} {ss us : List Step} → Runs g p most n ks es ss m ls fs → Runs g p most m ls fs us o qs gs
+    pub run_on : {n m o : ℕ} {ks ls qs : List ℕ} {es fs gs : List Expected} {ss us : List GrammarStep} → Runs g p most n ks es ss m ls fs → Runs g p most m ls fs us o qs gs
         → Runs g p most n ks es (ss ++ us) o qs gs
     run_on stay q = q
     run_on (step_kind l r) q = step_kind l (run_on r q)
     run_on (step_symbol e a r) q = step_symbol e a (run_on r q)
 
     -- no token taken is too deep
-    pub run_shallow : {n m : ℕ} {ks ls : List ℕ} {es fs : List Expected} {ss : List Step} → Runs g p most n ks es ss m ls fs → (t d : ℕ) → At d t (depths_of ss) → d ≤ most
+    pub run_shallow : {n m : ℕ} {ks ls : List ℕ} {es fs : List Expected} {ss : List GrammarStep} → Runs g p most n ks es ss m ls fs → (t d : ℕ) → At d t (depths_of ss) → d ≤ most
     run_shallow stay t d a = elim a [ ]
     run_shallow (step_kind l r) t d a = run_shallow_at l (λ u b. run_shallow r u d b) a
       where
@@ -144,7 +144,7 @@ module _ (g : Grammar) (p : Plan) (ok : fits g p ≡ true) where
     run_shallow (step_symbol e x r) t d a = run_shallow r t d a
 
     -- each derivation that spells what the machine has taken begins with its steps
-    pub follow_run : {n m : ℕ} {ks ls : List ℕ} {es fs : List Expected} {ss : List Step} → Runs g p most n ks es ss m ls fs → {ts : List Step} → Good p es → (more : List ℕ)
+    pub follow_run : {n m : ℕ} {ks ls : List ℕ} {es fs : List Expected} {ss : List GrammarStep} → Runs g p most n ks es ss m ls fs → {ts : List GrammarStep} → Good p es → (more : List ℕ)
         → look p more ≡ look p ls → kinds_of ts ≡ kinds_of ss ++ more → Derives g n es ts → After g m fs ss ts more
     follow_run stay {ts} good more same e d = record { steps = ts; is = refl; derives = d; spells = e }
     follow_run (step_kind {n = n} {d = d} {k = k} l r) (good_kind good) more same e (take_kind t) =
@@ -156,7 +156,7 @@ module _ (g : Grammar) (p : Plan) (ok : fits g p ≡ true) where
         record { steps = f.steps; is = ap (λ z. opened s z ∷ us) (sym w.0) ∙ ap (λ z. opened s i ∷ z) f.is; derives = f.derives; spells = f.spells }
 
     -- and has no token deeper among them
-    pub same_depths : {n m : ℕ} {ks ls : List ℕ} {es fs : List Expected} {ss : List Step} → Runs g p most n ks es ss m ls fs → {ts : List Step} → Good p es → (more : List ℕ)
+    pub same_depths : {n m : ℕ} {ks ls : List ℕ} {es fs : List Expected} {ss : List GrammarStep} → Runs g p most n ks es ss m ls fs → {ts : List GrammarStep} → Good p es → (more : List ℕ)
         → kinds_of ts ≡ kinds_of ss ++ more → Derives g n es ts → (t d : ℕ) → t < length (kinds_of ss) → At d t (depths_of ts) → d ≤ most
     same_depths stay good more e x t d low a = absurd (omega arith)
     same_depths (step_kind {d = q} l r) (good_kind good) more e (take_kind {steps = us} x) t d low a =
@@ -170,7 +170,7 @@ module _ (g : Grammar) (p : Plan) (ok : fits g p ≡ true) where
         same_depths r (good_open i way a good) more e w.1 t d low c
 
     -- the machine goes the way of a derivation without tokens too deep
-    pub run_complete : {n : ℕ} {es : List Expected} {ss : List Step} → Derives g n es ss → Good p es → IsShallow most ss → Runs g p most n (kinds_of ss) es ss (n + length (kinds_of ss)) [] []
+    pub run_complete : {n : ℕ} {es : List Expected} {ss : List GrammarStep} → Derives g n es ss → Good p es → IsShallow most ss → Runs g p most n (kinds_of ss) es ss (n + length (kinds_of ss)) [] []
     run_complete {n} finished good shallow = subst (λ z. Runs g p most n [] [] [] z [] []) (let h : n ≡ n + 0 = omega arith in h) stay
     run_complete {n} (take_kind {d = d} {k = k} {parts = es} {steps = ss} r) (good_kind good) shallow =
         step_kind (shallow 0 d (at_here refl))

@@ -1,7 +1,7 @@
 -- Symbols that derive no empty list of tokens.
 use Rattle.std.proofs.Common.{◌≡◌, ℕ, zero, suc, ◌<◌, Bool, true, false, not, ◌&&◌, ◌||◌, List, [], ◌∷◌, ◌++◌, map, length, get_or, refl, subst, arith}
 use Rattle.bg_lists.specs.Lists.{At, at_here, at_there}
-use Rattle.bg_grammar.specs.Grammar.{Part, kind, symbol, Expected, expect, Step, Grammar, ways_of, depth_below, Derives, finished, take_kind, open_symbol, kinds_of}
+use Rattle.bg_grammar.specs.Grammar.{Part, kind, symbol, Expected, expect, GrammarStep, Grammar, ways_of, depth_below, Derives, finished, take_kind, open_symbol, kinds_of}
 use Rattle.bg_grammar.proofs.Plans.{both_left, both_right, one_of}
 
 -- a row of the symbols that are held to be solid; the test says that each of their alternatives has a token or such a symbol
@@ -66,7 +66,7 @@ below : (solids : List Bool) (d : ℕ) (way : List Part) (es : List Expected) (b
 below solids d way es true f e = stack_left solids d way es (f refl)
 below solids d way es false f e = stack_right solids d way es e
 
-pub takes_token : (g : Grammar) (solids : List Bool) → solid_fits solids solids g.ways ≡ true → {n : ℕ} {es : List Expected} {ss : List Step} → Derives g n es ss
+pub takes_token : (g : Grammar) (solids : List Bool) → solid_fits solids solids g.ways ≡ true → {n : ℕ} {es : List Expected} {ss : List GrammarStep} → Derives g n es ss
     → solid_stack solids es ≡ true → 0 < length (kinds_of ss)
 takes_token g solids ok finished e = cc
 takes_token g solids ok (take_kind d) e = omega arith

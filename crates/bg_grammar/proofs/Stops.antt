@@ -2,14 +2,14 @@
 use Rattle.std.proofs.Common.{◌≡◌, ℕ, zero, suc, ◌+◌, ◌<◌, true, List, [], ◌∷◌, ◌++◌, length, get_or, take, refl, sym, ap, subst, ◌∙◌, arith, append_assoc, append-nil, length-append}
 use Rattle.std.proofs.Math.Seq.{take-append_seam, take-append-add}
 use Rattle.bg_lists.specs.Lists.{At, at_here, at_there}
-use Rattle.bg_grammar.specs.Grammar.{kind, Expected, Step, taken, Grammar, Derives, finished, take_kind, kinds_of, depths_of, IsDerivation, IsSentence, BeginsSentence}
+use Rattle.bg_grammar.specs.Grammar.{kind, Expected, GrammarStep, taken, Grammar, Derives, finished, take_kind, kinds_of, depths_of, IsDerivation, IsSentence, BeginsSentence}
 use Rattle.bg_grammar.specs.Faults.{IsShallow, IsOnlyDerivation, IsShallowBefore, IsUnexpected, IsTooDeep}
 use Rattle.bg_grammar.specs.Plan.{Plan, row, follow, rank, fits}
 use Rattle.bg_grammar.specs.Machine.{look, Runs, IsStuck, stuck_done, stuck_end, stuck_kind, stuck_symbol, start_of, Accepts, StopsUnexpected, StopsDeep}
 use Rattle.bg_grammar.proofs.Plans.{start_ranked, start_followed}
 use Rattle.bg_grammar.proofs.Predictions.{word_symbol, run_complete, Good, good_none, good_kind, good_symbol, predict, run_kinds, run_count, run_good, run_sound, run_shallow, follow_run, same_depths, alive, kinds_joined, depths_joined, as_many_depths}
 
-steps_of_none : (g : Grammar) (n : ℕ) (ss : List Step) → Derives g n [] ss → ss ≡ []
+steps_of_none : (g : Grammar) (n : ℕ) (ss : List GrammarStep) → Derives g n [] ss → ss ≡ []
 steps_of_none g n ss finished = refl
 
 same_at : (n m : ℕ) → n ≡ m → (n ≡ 0 → ⊥) → m ≡ 0 → ⊥
@@ -40,7 +40,7 @@ depth_at (x ∷ xs) ys zero depth d e (at_here q) = absurd (omega arith)
 depth_at (x ∷ xs) ys (suc t) depth d e (at_there b) = depth_at xs ys t depth d (omega arith) b
 
 -- the depth of the token behind a run
-depth_behind : (ss us : List Step) (t k depth n d : ℕ) → t ≡ 0 + length (kinds_of ss) → At d t (depths_of (ss ++ (taken k depth n ∷ us))) → d ≡ depth
+depth_behind : (ss us : List GrammarStep) (t k depth n d : ℕ) → t ≡ 0 + length (kinds_of ss) → At d t (depths_of (ss ++ (taken k depth n ∷ us))) → d ≡ depth
 depth_behind ss us t k depth n d e a =
     depth_at (depths_of ss) (depths_of us) t depth d (let h = as_many_depths ss in omega arith)
     (subst (λ z. At d t z) (depths_joined ss (taken k depth n ∷ us)) a)
@@ -50,34 +50,34 @@ module _ (g : Grammar) (p : Plan) (ok : fits g p ≡ true) where
   start_good = good_symbol (start_ranked g p ok) (λ k st. ap (λ z. get_or (follow p p.start) z 0) st ∙ start_followed g p ok) good_none
 
   -- a stuck stack derives nothing that goes on as the kinds do
-  stuck_on : {k : ℕ} {ks : List ℕ} {es : List Expected} → IsStuck p (k ∷ ks) es → {n : ℕ} {ss : List Step} → Good p es → Derives g n es ss → (more : List ℕ) → kinds_of ss ≡ k ∷ more → ⊥
+  stuck_on : {k : ℕ} {ks : List ℕ} {es : List Expected} → IsStuck p (k ∷ ks) es → {n : ℕ} {ss : List GrammarStep} → Good p es → Derives g n es ss → (more : List ℕ) → kinds_of ss ≡ k ∷ more → ⊥
   stuck_on stuck_done good finished more e = cc
   stuck_on (stuck_kind ne) good (take_kind d) more e = ne (sym (head_is _ _ _ _ e))
   stuck_on (stuck_symbol {s = s} z) {n} {ss} good d more e = same_at _ _ (ap (λ q. get_or (row p s) q 0) (ap (look p) e)) (predict g p ok d good) z
 
-  stuck_at_end : {es : List Expected} → IsStuck p [] es → {n : ℕ} {ss : List Step} → Good p es → Derives g n es ss → kinds_of ss ≡ [] → ⊥
+  stuck_at_end : {es : List Expected} → IsStuck p [] es → {n : ℕ} {ss : List GrammarStep} → Good p es → Derives g n es ss → kinds_of ss ≡ [] → ⊥
   stuck_at_end stuck_end good (take_kind d) e = cc
   stuck_at_end (stuck_symbol {s = s} z) good d e = same_at _ _ (ap (λ q. get_or (row p s) q 0) (ap (look p) e)) (predict g p ok d good) z
 
   module _ (most : ℕ) where
     -- the machine accepts sentences
-    pub accepted : (kinds : List ℕ) (ss : List Step) (m : ℕ) → Runs g p most 0 kinds (start_of p) ss m [] [] → IsDerivation g p.start kinds ss
+    pub accepted : (kinds : List ℕ) (ss : List GrammarStep) (m : ℕ) → Runs g p most 0 kinds (start_of p) ss m [] [] → IsDerivation g p.start kinds ss
     accepted kinds ss m r = record {
       derives = subst (λ z. Derives g 0 (start_of p) z) (append-nil ss) (run_sound g p ok most r finished);
       spells = sym (run_kinds g p ok most r ∙ append-nil (kinds_of ss));
     }
 
-    pub accepted_shallow : (kinds : List ℕ) (ss : List Step) (m : ℕ) → Runs g p most 0 kinds (start_of p) ss m [] [] → IsShallow most ss
+    pub accepted_shallow : (kinds : List ℕ) (ss : List GrammarStep) (m : ℕ) → Runs g p most 0 kinds (start_of p) ss m [] [] → IsShallow most ss
     accepted_shallow kinds ss m r = λ t d a. run_shallow g p ok most r t d a
 
     -- which have no other derivation
-    pub accepted_only : (kinds : List ℕ) (ss : List Step) (m : ℕ) → Runs g p most 0 kinds (start_of p) ss m [] [] → (ts : List Step) → IsDerivation g p.start kinds ts → ts ≡ ss
+    pub accepted_only : (kinds : List ℕ) (ss : List GrammarStep) (m : ℕ) → Runs g p most 0 kinds (start_of p) ss m [] [] → (ts : List GrammarStep) → IsDerivation g p.start kinds ts → ts ≡ ss
     accepted_only kinds ss m r ts d =
         let a = follow_run g p ok most r start_good [] refl (d.spells ∙ run_kinds g p ok most r) d.derives in
         a.is ∙ ap (λ z. ss ++ z) (steps_of_none g m a.steps a.derives) ∙ append-nil ss
 
     -- a run can be gone on with to a whole sentence
-    run_begins : (kinds ls : List ℕ) (ss : List Step) (m : ℕ) (fs : List Expected) → Runs g p most 0 kinds (start_of p) ss m ls fs → BeginsSentence g p.start (kinds_of ss)
+    run_begins : (kinds ls : List ℕ) (ss : List GrammarStep) (m : ℕ) (fs : List Expected) → Runs g p most 0 kinds (start_of p) ss m ls fs → BeginsSentence g p.start (kinds_of ss)
     run_begins kinds ls ss m fs r =
         let w = alive g p ok (run_good g p ok most r start_good) m in
         record {
@@ -85,12 +85,12 @@ module _ (g : Grammar) (p : Plan) (ok : fits g p ≡ true) where
           sentence = record { steps = ss ++ w.steps; derivation = record { derives = run_sound g p ok most r w.derives; spells = kinds_joined ss w.steps } };
         }
 
-    shallow_before : (kinds ls : List ℕ) (ss : List Step) (t : ℕ) (fs : List Expected) → Runs g p most 0 kinds (start_of p) ss t ls fs
-        → (more : List ℕ) (ts : List Step) → kinds_of ts ≡ kinds_of ss ++ more → Derives g 0 (start_of p) ts → IsShallowBefore most t ts
+    shallow_before : (kinds ls : List ℕ) (ss : List GrammarStep) (t : ℕ) (fs : List Expected) → Runs g p most 0 kinds (start_of p) ss t ls fs
+        → (more : List ℕ) (ts : List GrammarStep) → kinds_of ts ≡ kinds_of ss ++ more → Derives g 0 (start_of p) ts → IsShallowBefore most t ts
     shallow_before kinds ls ss t fs r more ts e d = λ k depth below a.
         same_depths g p ok most r start_good more e d k depth (let h = run_count g p ok most r in omega arith) a
 
-    unexpected_on : (kinds : List ℕ) (ss : List Step) (t : ℕ) (ls : List ℕ) (fs : List Expected) → Runs g p most 0 kinds (start_of p) ss t ls fs → IsStuck p ls fs
+    unexpected_on : (kinds : List ℕ) (ss : List GrammarStep) (t : ℕ) (ls : List ℕ) (fs : List Expected) → Runs g p most 0 kinds (start_of p) ss t ls fs → IsStuck p ls fs
         → t < length kinds → BeginsSentence g p.start (take (suc t) kinds) → ⊥
     unexpected_on kinds ss t [] fs r stuck below b =
         let h = left_length kinds (kinds_of ss) [] t (run_kinds g p ok most r) (run_count g p ok most r) in absurd (omega arith)
@@ -100,7 +100,7 @@ module _ (g : Grammar) (p : Plan) (ok : fits g p ≡ true) where
         let a = follow_run g p ok most r start_good (k ∷ b.more) refl (b.sentence.derivation.spells ∙ one_then_more _ (kinds_of ss) b.more k (taken_one_more kinds (kinds_of ss) ls k t e c)) b.sentence.derivation.derives in
         stuck_on stuck (run_good g p ok most r start_good) a.derives b.more a.spells
 
-    unexpected_whole : (kinds : List ℕ) (ss : List Step) (t : ℕ) (ls : List ℕ) (fs : List Expected) → Runs g p most 0 kinds (start_of p) ss t ls fs → IsStuck p ls fs
+    unexpected_whole : (kinds : List ℕ) (ss : List GrammarStep) (t : ℕ) (ls : List ℕ) (fs : List Expected) → Runs g p most 0 kinds (start_of p) ss t ls fs → IsStuck p ls fs
         → t ≡ length kinds → IsSentence g p.start kinds → ⊥
     unexpected_whole kinds ss t (k ∷ ls) fs r stuck whole b =
         let h = left_length kinds (kinds_of ss) (k ∷ ls) t (run_kinds g p ok most r) (run_count g p ok most r) in absurd (omega arith)
@@ -122,7 +122,7 @@ module _ (g : Grammar) (p : Plan) (ok : fits g p ≡ true) where
           shallow = λ more ts d. shallow_before kinds w.rest w.steps t w.left w.runs more ts (d.spells ∙ ap (λ z. z ++ more) front) d.derives;
         }
 
-    deep_begins : (kinds : List ℕ) (ss : List Step) (t k : ℕ) (ls : List ℕ) (depth : ℕ) (fs : List Expected) → Runs g p most 0 kinds (start_of p) ss t (k ∷ ls) (record { depth = depth; part = kind k } ∷ fs)
+    deep_begins : (kinds : List ℕ) (ss : List GrammarStep) (t k : ℕ) (ls : List ℕ) (depth : ℕ) (fs : List Expected) → Runs g p most 0 kinds (start_of p) ss t (k ∷ ls) (record { depth = depth; part = kind k } ∷ fs)
         → BeginsSentence g p.start (kinds_of ss ++ (k ∷ []))
     deep_begins kinds ss t k ls depth fs r = go (run_good g p ok most r start_good)
       where
@@ -140,7 +140,7 @@ module _ (g : Grammar) (p : Plan) (ok : fits g p ≡ true) where
               };
             }
 
-    deep_there : (ss ts us : List Step) (t k depth d : ℕ) (fs : List Expected) → t ≡ 0 + length (kinds_of ss) → ts ≡ ss ++ us → Derives g t (record { depth = depth; part = kind k } ∷ fs) us
+    deep_there : (ss ts us : List GrammarStep) (t k depth d : ℕ) (fs : List Expected) → t ≡ 0 + length (kinds_of ss) → ts ≡ ss ++ us → Derives g t (record { depth = depth; part = kind k } ∷ fs) us
         → At d t (depths_of ts) → d ≡ depth
     deep_there ss ts us t k depth d fs c e (take_kind {steps = vs} x) a = depth_behind ss vs t k depth t d c (subst (λ z. At d t (depths_of z)) e a)
 
@@ -160,7 +160,7 @@ module _ (g : Grammar) (p : Plan) (ok : fits g p ≡ true) where
               let deep = w.deep in omega arith;
         }
 
-    pub accepted_once : (kinds : List ℕ) (ss : List Step) → Accepts g p most kinds ss → IsOnlyDerivation g p.start most kinds ss
+    pub accepted_once : (kinds : List ℕ) (ss : List GrammarStep) → Accepts g p most kinds ss → IsOnlyDerivation g p.start most kinds ss
     accepted_once kinds ss a = record {
       derivation = accepted kinds ss a.token a.runs;
       shallow = accepted_shallow kinds ss a.token a.runs;
@@ -168,7 +168,7 @@ module _ (g : Grammar) (p : Plan) (ok : fits g p ≡ true) where
     }
 
     -- and it takes every sentence without tokens too deep
-    pub sentences_accepted : (kinds : List ℕ) (ss : List Step) → IsDerivation g p.start kinds ss → IsShallow most ss → Accepts g p most kinds ss
+    pub sentences_accepted : (kinds : List ℕ) (ss : List GrammarStep) → IsDerivation g p.start kinds ss → IsShallow most ss → Accepts g p most kinds ss
     sentences_accepted kinds ss d shallow = record {
       token = 0 + length (kinds_of ss);
       runs = subst (λ z. Runs g p most 0 z (start_of p) ss (0 + length (kinds_of ss)) [] []) d.spells (run_complete g p ok most d.derives start_good shallow);

@@ -2,13 +2,13 @@
 use Rattle.std.proofs.Common.{◌≡◌, ℕ, suc, List, [], ◌∷◌, ◌++◌, map, refl, sym, ap, subst, ◌∙◌, append_assoc, append-nil}
 use Rattle.bg_lists.specs.Lists.{At}
 use Rattle.bg_lists.proofs.Places.{At-one}
-use Rattle.bg_grammar.specs.Grammar.{Part, kind, symbol, Expected, expect, Step, opened, taken, Grammar, ways_of, depth_below, under, Derives, finished, take_kind, open_symbol, kinds_of, IsDerivation}
+use Rattle.bg_grammar.specs.Grammar.{Part, kind, symbol, Expected, expect, GrammarStep, opened, taken, Grammar, ways_of, depth_below, under, Derives, finished, take_kind, open_symbol, kinds_of, IsDerivation}
 use Rattle.bg_grammar.specs.Trees.{Trees, no_tree, leaf, branch, AreTrees, no_part, a_kind, a_symbol, IsTree, steps_of, AreInTurn, IsOnlyTree}
 
-taken_same : (k d n m : ℕ) (xs ys : List Step) → taken k d n ∷ xs ≡ taken k d m ∷ ys → (n ≡ m) × (xs ≡ ys)
+taken_same : (k d n m : ℕ) (xs ys : List GrammarStep) → taken k d n ∷ xs ≡ taken k d m ∷ ys → (n ≡ m) × (xs ≡ ys)
 taken_same k d n m xs ys e = (cc, cc)
 
-opened_same : (s i j : ℕ) (xs ys : List Step) → opened s i ∷ xs ≡ opened s j ∷ ys → (i ≡ j) × (xs ≡ ys)
+opened_same : (s i j : ℕ) (xs ys : List GrammarStep) → opened s i ∷ xs ≡ opened s j ∷ ys → (i ≡ j) × (xs ≡ ys)
 opened_same s i j xs ys e = (cc, cc)
 
 same_leaf : (k : ℕ) {n m : ℕ} {one other : Trees} → n ≡ m → one ≡ other → leaf k n one ≡ leaf k m other
@@ -18,7 +18,7 @@ same_branch : (s : ℕ) {i j : ℕ} {below under one other : Trees} → i ≡ j 
 same_branch s e f h = cc
 
 -- the steps of trees of the same parts tell the trees, whatever stands behind the steps
-pub trees_told : {g : Grammar} {parts : List Part} {one : Trees} → AreTrees g parts one → {other : Trees} → AreTrees g parts other → (d : ℕ) (xs ys : List Step)
+pub trees_told : {g : Grammar} {parts : List Part} {one : Trees} → AreTrees g parts one → {other : Trees} → AreTrees g parts other → (d : ℕ) (xs ys : List GrammarStep)
     → steps_of g d one ++ xs ≡ steps_of g d other ++ ys → (one ≡ other) × (xs ≡ ys)
 trees_told no_part no_part d xs ys e = (refl, e)
 trees_told (a_kind {k = k} a) (a_kind b) d xs ys e =
@@ -37,21 +37,21 @@ pub one_tree : (g : Grammar) (s d : ℕ) (one other : Trees) → IsTree g s one 
 one_tree g s d one other a b e = (trees_told a b d [] [] (ap (λ z. z ++ []) e)).0
 
 -- what a stack grows into: the steps of a tree for each part that is expected
-data Grown (g : Grammar) : List Expected → List Step → Type 0 where
+data Grown (g : Grammar) : List Expected → List GrammarStep → Type 0 where
   grown_none : Grown g [] []
-  grown_kind : {d k n : ℕ} {es : List Expected} {ss : List Step} → Grown g es ss → Grown g (record { depth = d; part = kind k } ∷ es) (taken k d n ∷ ss)
-  grown_symbol : {d s i : ℕ} {way : List Part} {below : Trees} {es : List Expected} {ss : List Step} → At way i (ways_of g s) → AreTrees g way below → Grown g es ss
+  grown_kind : {d k n : ℕ} {es : List Expected} {ss : List GrammarStep} → Grown g es ss → Grown g (record { depth = d; part = kind k } ∷ es) (taken k d n ∷ ss)
+  grown_symbol : {d s i : ℕ} {way : List Part} {below : Trees} {es : List Expected} {ss : List GrammarStep} → At way i (ways_of g s) → AreTrees g way below → Grown g es ss
       → Grown g (record { depth = d; part = symbol s } ∷ es) (opened s i ∷ (steps_of g (depth_below g s d) below ++ ss))
 
 -- the trees of the parts in front of a stack, and what is left
-record Cut (g : Grammar) (d : ℕ) (parts : List Part) (es : List Expected) (ss : List Step) : Type 0 where
+record Cut (g : Grammar) (d : ℕ) (parts : List Part) (es : List Expected) (ss : List GrammarStep) : Type 0 where
   trees : Trees
-  rest : List Step
+  rest : List GrammarStep
   are : AreTrees g parts trees
   is : ss ≡ steps_of g d trees ++ rest
   grown : Grown g es rest
 
-cut : {g : Grammar} (d : ℕ) (parts : List Part) {es : List Expected} {ss : List Step} → Grown g (map (expect d) parts ++ es) ss → Cut g d parts es ss
+cut : {g : Grammar} (d : ℕ) (parts : List Part) {es : List Expected} {ss : List GrammarStep} → Grown g (map (expect d) parts ++ es) ss → Cut g d parts es ss
 cut d [] {es} {ss} w = record { trees = no_tree; rest = ss; are = no_part; is = refl; grown = w }
 cut d (kind k ∷ parts) (grown_kind {n = n} w) =
     let c = cut d parts w in record { trees = leaf k n c.trees; rest = c.rest; are = a_kind c.are; is = ap (λ z. taken k d n ∷ z) c.is; grown = c.grown }
@@ -66,17 +66,17 @@ cut {g} d (symbol s ∷ parts) (grown_symbol {i = i} {below = below} place a w) 
           ∙ ap (λ z. opened s i ∷ z) (sym (append_assoc (steps_of g (depth_below g s d) below) (steps_of g d c.trees) c.rest));
     }
 
-grows : {g : Grammar} {n : ℕ} {es : List Expected} {ss : List Step} → Derives g n es ss → Grown g es ss
+grows : {g : Grammar} {n : ℕ} {es : List Expected} {ss : List GrammarStep} → Derives g n es ss → Grown g es ss
 grows finished = grown_none
 grows (take_kind x) = grown_kind (grows x)
 grows {g} (open_symbol {d = d} {s = s} {i = i} {way = way} {parts = es} place x) =
     let c = cut (depth_below g s d) way (grows x) in
     subst (λ z. Grown g (record { depth = d; part = symbol s } ∷ es) (opened s i ∷ z)) (sym c.is) (grown_symbol place c.are c.grown)
 
-nothing_left : {g : Grammar} {ss : List Step} → Grown g [] ss → ss ≡ []
+nothing_left : {g : Grammar} {ss : List GrammarStep} → Grown g [] ss → ss ≡ []
 nothing_left grown_none = refl
 
-pub tree_of_derivation : (g : Grammar) (s : ℕ) (kinds : List ℕ) (steps : List Step) → IsDerivation g s kinds steps → (tree : Trees) × IsOnlyTree g s steps tree
+pub tree_of_derivation : (g : Grammar) (s : ℕ) (kinds : List ℕ) (steps : List GrammarStep) → IsDerivation g s kinds steps → (tree : Trees) × IsOnlyTree g s steps tree
 tree_of_derivation g s kinds steps d =
     let c = cut 0 (symbol s ∷ []) (grows d.derives) in
     let e : steps_of g 0 c.trees ≡ steps = sym (c.is ∙ ap (λ z. steps_of g 0 c.trees ++ z) (nothing_left c.grown) ∙ append-nil (steps_of g 0 c.trees)) in
@@ -84,7 +84,7 @@ tree_of_derivation g s kinds steps d =
 
 -- trees whose tokens are numbered in a row derive what their steps take, in front of what else derives
 
-pub trees_derive : {g : Grammar} {parts : List Part} {trees : Trees} → AreTrees g parts trees → (d n : ℕ) (es : List Expected) (ss : List Step)
+pub trees_derive : {g : Grammar} {parts : List Part} {trees : Trees} → AreTrees g parts trees → (d n : ℕ) (es : List Expected) (ss : List GrammarStep)
     → AreInTurn n (steps_of g d trees ++ ss) → ((m : ℕ) → AreInTurn m ss → Derives g m es ss) → Derives g n (map (expect d) parts ++ es) (steps_of g d trees ++ ss)
 trees_derive no_part d n es ss t more = more n t
 trees_derive {g} (a_kind {k = k} {n = m} {parts = parts} {behind = behind} a) d n es ss t more =
@@ -108,7 +108,7 @@ tree_derives g s tree a t =
     }
 
 -- the tokens of a derivation are numbered in a row
-pub derivation_in_turn : {g : Grammar} {n : ℕ} {es : List Expected} {ss : List Step} → Derives g n es ss → AreInTurn n ss
+pub derivation_in_turn : {g : Grammar} {n : ℕ} {es : List Expected} {ss : List GrammarStep} → Derives g n es ss → AreInTurn n ss
 derivation_in_turn finished = tt
 derivation_in_turn (take_kind x) = (refl, derivation_in_turn x)
 derivation_in_turn (open_symbol place x) = derivation_in_turn x

@@ -18,11 +18,11 @@ pub record Expected : Type 0 where
   pub part : Part
 
 -- a step of a derivation
-pub data Step : Type 0 where
+pub data GrammarStep : Type 0 where
   -- the symbol gives way to its alternative of this number, from 0
-  opened : ℕ → ℕ → Step
+  opened : ℕ → ℕ → GrammarStep
   -- a token of this kind is taken, so deep, which is the token of this number, from 0
-  taken : ℕ → ℕ → ℕ → Step
+  taken : ℕ → ℕ → ℕ → GrammarStep
 
 abbrev pub expect : ℕ → Part → Expected
 expect depth part = record { depth = depth; part = part }
@@ -40,33 +40,33 @@ abbrev pub under : Grammar → ℕ → ℕ → List Part → List Expected
 under g depth s way = map (expect (depth_below g s depth)) way
 
 -- from token n on, these parts derive a list of tokens by these steps: always the leftmost part goes first
-pub data Derives (g : Grammar) : ℕ → List Expected → List Step → Type 0 where
+pub data Derives (g : Grammar) : ℕ → List Expected → List GrammarStep → Type 0 where
   finished : {n : ℕ} → Derives g n [] []
-  take_kind : {n d k : ℕ} {parts : List Expected} {steps : List Step} → Derives g (suc n) parts steps
+  take_kind : {n d k : ℕ} {parts : List Expected} {steps : List GrammarStep} → Derives g (suc n) parts steps
       → Derives g n (record { depth = d; part = kind k } ∷ parts) (taken k d n ∷ steps)
-  open_symbol : {n d s i : ℕ} {way : List Part} {parts : List Expected} {steps : List Step} → At way i (ways_of g s)
+  open_symbol : {n d s i : ℕ} {way : List Part} {parts : List Expected} {steps : List GrammarStep} → At way i (ways_of g s)
       → Derives g n (under g d s way ++ parts) steps → Derives g n (record { depth = d; part = symbol s } ∷ parts) (opened s i ∷ steps)
 
 -- the kinds of the tokens that the steps take
-abbrev pub kinds_of : List Step → List ℕ
+abbrev pub kinds_of : List GrammarStep → List ℕ
 kinds_of [] = []
 kinds_of (opened s i ∷ steps) = kinds_of steps
 kinds_of (taken k d n ∷ steps) = k ∷ kinds_of steps
 
 -- and how deep each stands
-abbrev pub depths_of : List Step → List ℕ
+abbrev pub depths_of : List GrammarStep → List ℕ
 depths_of [] = []
 depths_of (opened s i ∷ steps) = depths_of steps
 depths_of (taken k d n ∷ steps) = d ∷ depths_of steps
 
 -- the steps derive these kinds from the symbol
-pub record IsDerivation (g : Grammar) (s : ℕ) (kinds : List ℕ) (steps : List Step) : Type 0 where
+pub record IsDerivation (g : Grammar) (s : ℕ) (kinds : List ℕ) (steps : List GrammarStep) : Type 0 where
   pub derives : Derives g 0 (expect 0 (symbol s) ∷ []) steps
   pub spells : kinds_of steps ≡ kinds
 
 -- a sentence of the symbol: some steps derive these kinds from it
 pub record IsSentence (g : Grammar) (s : ℕ) (kinds : List ℕ) : Type 0 where
-  pub steps : List Step
+  pub steps : List GrammarStep
   pub derivation : IsDerivation g s kinds steps
 
 -- some sentence of the symbol begins with these kinds

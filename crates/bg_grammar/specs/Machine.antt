@@ -1,7 +1,7 @@
 -- The machine that reads tokens by a table, with a stack of the parts that it expects.
 use Rattle.std.specs.Prelude.{◌≡◌, ◌≢◌, ℕ, suc, ◌<◌, ◌≤◌, List, [], ◌∷◌, ◌++◌, slice_index_or}
 use Rattle.bg_lists.specs.Lists.{At}
-use Rattle.bg_grammar.specs.Grammar.{Part, kind, symbol, Expected, expect, Step, opened, taken, Grammar, ways_of, under}
+use Rattle.bg_grammar.specs.Grammar.{Part, kind, symbol, Expected, expect, GrammarStep, opened, taken, Grammar, ways_of, under}
 use Rattle.bg_grammar.specs.Plan.{Plan, row}
 
 -- the kind in front, or the end of input
@@ -10,11 +10,11 @@ look p [] = p.end
 look p (k ∷ ks) = k
 
 -- the machine goes from token n, with these kinds before it and this stack, by these steps to token m, kinds and stack; no token that it takes is deeper than `most`
-pub data Runs (g : Grammar) (p : Plan) (most : ℕ) : ℕ → List ℕ → List Expected → List Step → ℕ → List ℕ → List Expected → Type 0 where
+pub data Runs (g : Grammar) (p : Plan) (most : ℕ) : ℕ → List ℕ → List Expected → List GrammarStep → ℕ → List ℕ → List Expected → Type 0 where
   stay : {n : ℕ} {ks : List ℕ} {es : List Expected} → Runs g p most n ks es [] n ks es
-  step_kind : {n d k m : ℕ} {ks ls : List ℕ} {es fs : List Expected} {ss : List Step} → d ≤ most → Runs g p most (suc n) ks es ss m ls fs
+  step_kind : {n d k m : ℕ} {ks ls : List ℕ} {es fs : List Expected} {ss : List GrammarStep} → d ≤ most → Runs g p most (suc n) ks es ss m ls fs
       → Runs g p most n (k ∷ ks) (record { depth = d; part = kind k } ∷ es) (taken k d n ∷ ss) m ls fs
-  step_symbol : {n d s i m : ℕ} {way : List Part} {ks ls : List ℕ} {es fs : List Expected} {ss : List Step} → slice_index_or (row p s) (look p ks) 0 ≡ suc i
+  step_symbol : {n d s i m : ℕ} {way : List Part} {ks ls : List ℕ} {es fs : List Expected} {ss : List GrammarStep} → slice_index_or (row p s) (look p ks) 0 ≡ suc i
       → At way i (ways_of g s) → Runs g p most n ks (under g d s way ++ es) ss m ls fs
       → Runs g p most n ks (record { depth = d; part = symbol s } ∷ es) (opened s i ∷ ss) m ls fs
 
@@ -27,7 +27,7 @@ pub data IsStuck (p : Plan) : List ℕ → List Expected → Type 0 where
 
 -- from here it gets to token t, or to the end of input, and cannot go on
 pub record StopsUnexpected (g : Grammar) (p : Plan) (most n : ℕ) (ks : List ℕ) (es : List Expected) (t : ℕ) : Type 0 where
-  pub steps : List Step
+  pub steps : List GrammarStep
   pub rest : List ℕ
   pub left : List Expected
   pub runs : Runs g p most n ks es steps t rest left
@@ -35,7 +35,7 @@ pub record StopsUnexpected (g : Grammar) (p : Plan) (most n : ℕ) (ks : List �
 
 -- from here it gets to token t, which it expects, but not so deep
 pub record StopsDeep (g : Grammar) (p : Plan) (most n : ℕ) (ks : List ℕ) (es : List Expected) (t : ℕ) : Type 0 where
-  pub steps : List Step
+  pub steps : List GrammarStep
   pub token : ℕ
   pub rest : List ℕ
   pub depth : ℕ
@@ -48,6 +48,6 @@ abbrev pub start_of : Plan → List Expected
 start_of p = expect 0 (symbol p.start) ∷ []
 
 -- by these steps the machine takes all kinds
-pub record Accepts (g : Grammar) (p : Plan) (most : ℕ) (kinds : List ℕ) (steps : List Step) : Type 0 where
+pub record Accepts (g : Grammar) (p : Plan) (most : ℕ) (kinds : List ℕ) (steps : List GrammarStep) : Type 0 where
   pub token : ℕ
   pub runs : Runs g p most 0 kinds (start_of p) steps token [] []

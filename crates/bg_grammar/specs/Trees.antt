@@ -1,7 +1,7 @@
 -- The trees of derivations, and their steps.
 use Rattle.std.specs.Prelude.{◌≡◌, ℕ, suc, List, [], ◌∷◌, ◌++◌}
 use Rattle.bg_lists.specs.Lists.{At}
-use Rattle.bg_grammar.specs.Grammar.{Part, kind, symbol, Grammar, ways_of, depth_below, Step, opened, taken}
+use Rattle.bg_grammar.specs.Grammar.{Part, kind, symbol, Grammar, ways_of, depth_below, GrammarStep, opened, taken}
 
 -- trees that stand side by side
 pub data Trees : Type 0 where
@@ -23,19 +23,19 @@ abbrev pub IsTree : Grammar → ℕ → Trees → Type 0
 IsTree g s tree = AreTrees g (symbol s ∷ []) tree
 
 -- the steps of trees that stand so deep: each symbol's before those of its parts, from left to right
-abbrev pub steps_of : Grammar → ℕ → Trees → List Step
+abbrev pub steps_of : Grammar → ℕ → Trees → List GrammarStep
 steps_of g depth no_tree = []
 steps_of g depth (leaf k n behind) = taken k depth n ∷ steps_of g depth behind
 steps_of g depth (branch s i below behind) = opened s i ∷ (steps_of g (depth_below g s depth) below ++ steps_of g depth behind)
 
 -- the tokens that the steps take are numbered in a row, from n on
-abbrev pub AreInTurn : ℕ → List Step → Type 0
+abbrev pub AreInTurn : ℕ → List GrammarStep → Type 0
 AreInTurn n [] = Unit {0}
 AreInTurn n (opened s i ∷ steps) = AreInTurn n steps
 AreInTurn n (taken k d m ∷ steps) = (m ≡ n) × AreInTurn (suc n) steps
 
 -- a tree of the symbol with these steps, and there is no other
-pub record IsOnlyTree (g : Grammar) (s : ℕ) (steps : List Step) (tree : Trees) : Type 0 where
+pub record IsOnlyTree (g : Grammar) (s : ℕ) (steps : List GrammarStep) (tree : Trees) : Type 0 where
   pub by_grammar : IsTree g s tree
   pub has_steps : steps_of g 0 tree ≡ steps
   pub once : (other : Trees) → IsTree g s other → steps_of g 0 other ≡ steps → other ≡ tree

@@ -1,6 +1,6 @@
 //! What the machine accepts, and where it stops.
 ghost use Rattle.std.specs.Prelude.{◌≡◌, ◌<◌, ℕ, List, true};
-ghost use Rattle.bg_grammar.specs.Grammar.{Grammar, Step, kinds_of, IsDerivation, IsSentence};
+ghost use Rattle.bg_grammar.specs.Grammar.{Grammar, GrammarStep, kinds_of, IsDerivation, IsSentence};
 ghost use Rattle.bg_grammar.specs.Faults.{IsShallow, IsOnlyDerivation, unexpected, too_deep, IsOnlyFault};
 ghost use Rattle.bg_grammar.specs.Plan.{Plan, rank, fits};
 ghost use Rattle.bg_grammar.specs.Machine.{Accepts, start_of, StopsUnexpected, StopsDeep};
@@ -9,9 +9,9 @@ ghost use Rattle.bg_grammar.specs.Trees.{Trees, IsTree, steps_of, AreInTurn, IsO
 /// The machine accepts exactly the sentences of the start that have no token too deep, each by the steps of its one
 /// derivation.
 pub fn the_machine_accepts()
-    ensures sound { (g : Grammar) (p : Plan) (most : ℕ) (kinds : List ℕ) (steps : List Step) → fits g p ≡ true → Accepts g p most kinds steps
+    ensures sound { (g : Grammar) (p : Plan) (most : ℕ) (kinds : List ℕ) (steps : List GrammarStep) → fits g p ≡ true → Accepts g p most kinds steps
         → IsOnlyDerivation g p.start most kinds steps }
-    ensures complete { (g : Grammar) (p : Plan) (most : ℕ) (kinds : List ℕ) (steps : List Step) → fits g p ≡ true → IsDerivation g p.start kinds steps
+    ensures complete { (g : Grammar) (p : Plan) (most : ℕ) (kinds : List ℕ) (steps : List GrammarStep) → fits g p ≡ true → IsDerivation g p.start kinds steps
         → IsShallow most steps → Accepts g p most kinds steps }
 {}
 
@@ -38,8 +38,8 @@ pub fn steps_determine_trees()
 /// Derivations are trees: the steps of each derivation are those of exactly one tree of the symbol, and the steps of
 /// each tree whose tokens are numbered in a row are a derivation.
 pub fn derivations_are_trees()
-    ensures one_tree { (g : Grammar) (s : ℕ) (kinds : List ℕ) (steps : List Step) → IsDerivation g s kinds steps → (tree : Trees) × IsOnlyTree g s steps tree }
-    ensures in_turn { (g : Grammar) (s : ℕ) (kinds : List ℕ) (steps : List Step) → IsDerivation g s kinds steps → AreInTurn 0 steps }
+    ensures one_tree { (g : Grammar) (s : ℕ) (kinds : List ℕ) (steps : List GrammarStep) → IsDerivation g s kinds steps → (tree : Trees) × IsOnlyTree g s steps tree }
+    ensures in_turn { (g : Grammar) (s : ℕ) (kinds : List ℕ) (steps : List GrammarStep) → IsDerivation g s kinds steps → AreInTurn 0 steps }
     ensures each_tree { (g : Grammar) (s : ℕ) (tree : Trees) → IsTree g s tree → AreInTurn 0 (steps_of g 0 tree)
         → IsDerivation g s (kinds_of (steps_of g 0 tree)) (steps_of g 0 tree) }
 {}

@@ -20,7 +20,7 @@ use Rattle.bg_rules.specs.Rules.{RuleParts}
 use Rattle.bg_rules.proofs.Patterns.{image_mem, place_node, site_there}
 use Rattle.bg_index.specs.declared.reading.Part.{Part}
 use Rattle.bg_index.specs.declared.reading.Reading.{Reading}
-use Rattle.bg_index.specs.Readings.{AreLate, IsReading}
+use Rattle.bg_index.specs.Readings.{AreLate, IsReadingAt}
 use Rattle.bg_index.specs.Sites.{AreImages}
 use Rattle.bg_index.specs.Walks.{IsWalkable}
 
@@ -107,7 +107,7 @@ module _ (host pattern : Big) (entries nodes : List ℕ) (reading : Reading)
     (late_are : AreLate entries reading.late.items)
     (parts_many : length reading.parts.items ≡ length pattern.sites)
     (parts_are : AreParts host pattern nodes reading.asked.items reading.parts.items) where
-  read_by : (rule : RuleParts) → IsReading host (record rule { redex = pattern; map = entries }) nodes reading
+  read_by : (rule : RuleParts) → IsReadingAt host (record rule { redex = pattern; map = entries }) nodes reading
   read_by rule =
       record {
         images_ascend = ascend;
@@ -129,7 +129,7 @@ module _ (host pattern : Big) (entries nodes : List ℕ) (reading : Reading)
         late_are = late_are;
       }
 
-  pub reading_is : (rule : RuleParts) → rule.redex ≡ pattern → rule.map ≡ entries → IsReading host rule nodes reading
+  pub reading_is : (rule : RuleParts) → rule.redex ≡ pattern → rule.map ≡ entries → IsReadingAt host rule nodes reading
   reading_is rule redex map =
       let whole : record rule { redex = pattern; map = entries } ≡ rule =
       λ t. record {
@@ -140,4 +140,4 @@ module _ (host pattern : Big) (entries nodes : List ℕ) (reading : Reading)
         conditions = rule.conditions;
         class = rule.class;
       } in
-      subst (λ r. IsReading host r nodes reading) whole (read_by rule)
+      subst (λ r. IsReadingAt host r nodes reading) whole (read_by rule)

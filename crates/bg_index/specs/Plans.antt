@@ -46,7 +46,7 @@ use Rattle.bg_index.specs.declared.plans.Plan.{Plan}
 use Rattle.bg_index.specs.declared.reading.Reading.{Reading}
 use Rattle.bg_index.specs.Indexed.{slot_cmp, control_cmp, rows_of, edges_of}
 use Rattle.bg_index.specs.PortNodes.{HasRoomBeside}
-use Rattle.bg_index.specs.Readings.{IsReading}
+use Rattle.bg_index.specs.Readings.{IsReadingAt}
 use Rattle.bg_index.specs.Steps.{AreChildren}
 
 -- ---- where a plan is made
@@ -56,7 +56,7 @@ pub record IsRead (host : HostState) (rule : RuleParts) (nodes : List ℕ) (read
   pub is_host : IsHost host
   pub is_rule : IsRule rule
   pub occurs : Occurs host.big rule.redex nodes
-  pub reads : IsReading host.big rule nodes reading
+  pub reads : IsReadingAt host.big rule nodes reading
 
 -- ---- the rows that are to be there
 

@@ -28,7 +28,7 @@ pub record AreLate (entries : List ℕ) (late : List Bool) : Type 0 where
   pub are : (at site : ℕ) (flag : Bool) → At site at entries → At flag at late → flag ≡ is_among site (take at entries)
 
 -- the images in order, what lies round them, how many entries ask for each site, and which are late
-pub record IsReading (host : Big) (rule : RuleParts) (nodes : List ℕ) (reading : Reading) : Type 0 where
+pub record IsReadingAt (host : Big) (rule : RuleParts) (nodes : List ℕ) (reading : Reading) : Type 0 where
   pub images_ascend : IsStrictlySortedBy nat_cmp reading.images.items
   pub images_are : (node : ℕ) → Mem node reading.images.items ↔ Mem node nodes
   pub is_boundary : IsBoundary host rule nodes (boundary_of reading)

@@ -16,7 +16,7 @@ ghost use Rattle.bg_index.specs.declared.reading.Tie.{Tie as TieValue};
 ghost use Rattle.bg_link.specs.Links as defined;
 ghost use Rattle.bg_link.specs.Links.{has_port, link_of};
 ghost use Rattle.bg_index.specs.Plans.{IsRead};
-ghost use Rattle.bg_index.specs.Readings.{AreFound, AreNoted, IsNoted, IsReading};
+ghost use Rattle.bg_index.specs.Readings.{AreFound, AreNoted, IsNoted, IsReadingAt};
 ghost use Rattle.bg_index.specs.Sites.{AreImages};
 ghost use Rattle.bg_rewriting.specs.Boundaries.{IsLinkOf, IsPartOf, IsPlaceOf, times_asked};
 ghost use Rattle.bg_rules.specs.Decomposition.{Occurs};
@@ -83,7 +83,7 @@ fn read_at(
     requires entries_there { All (λ entry. entry < length redex.now.sites) entries.now }
     requires few { length entries.now < 2 ^ 32 }
     ensures { IfOk result (λ reading. (rule : RuleParts) → rule.redex ≡ redex.now → rule.map ≡ entries.now
-        → IsReading host.now.big rule map.now reading) }
+        → IsReadingAt host.now.big rule map.now reading) }
 {
     let places = places_of(alloc, host, redex, map)?;
     let links = links_of(alloc, host, redex, map)?;

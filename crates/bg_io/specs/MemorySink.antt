@@ -7,8 +7,8 @@ abbrev pub bytes_held : MemorySink → List ℕ
 bytes_held sink = sink.bytes.items
 
 -- at most so many bytes are taken by one write
-abbrev pub most_bytes : MemorySink → ℕ
-most_bytes sink = sink.piece
+abbrev pub most_taken : MemorySink → ℕ
+most_taken sink = sink.piece
 
 -- the numbers of the writes and flushes that fail, counted together from 1
 abbrev pub failing_calls : MemorySink → List ℕ

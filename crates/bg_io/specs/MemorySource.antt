@@ -7,8 +7,8 @@ abbrev pub bytes_left : MemorySource → List ℕ
 bytes_left source = drop source.given source.bytes.items
 
 -- at most so many bytes are given by one read
-abbrev pub most_bytes : MemorySource → ℕ
-most_bytes source = source.piece
+abbrev pub most_given : MemorySource → ℕ
+most_given source = source.piece
 
 -- the numbers of the reads that fail, from 1
 abbrev pub failing_reads : MemorySource → List ℕ

@@ -23,14 +23,14 @@ pub struct MemorySink {
 }
 
 impl MemorySink {
-    ghost use Rattle.bg_io.specs.MemorySink.{bytes_held, most_bytes, failing_calls, calls_made, failed_calls};
+    ghost use Rattle.bg_io.specs.MemorySink.{bytes_held, most_taken, failing_calls, calls_made, failed_calls};
 
     /// An empty sink, that takes at most `piece` bytes a write, and fails at the writes and flushes whose
     /// numbers, counted together from 1, are in `failing`.
     pub fn new(alloc: Global, piece: u32, failing: Vec<u32>) -> MemorySink
         requires { 1 ≤ piece }
         ensures held { bytes_held result ≡ [] }
-        ensures most { most_bytes result ≡ piece }
+        ensures most { most_taken result ≡ piece }
         ensures failing { failing_calls result ≡ failing.items }
         ensures calls { calls_made result ≡ 0 }
         ensures faults { failed_calls result ≡ 0 }
@@ -61,7 +61,7 @@ impl MemorySink {
             (λ _. failed_calls self.new ≡ failed_calls self.old)
             (λ _. failed_calls self.new ≡ next_count (failed_calls self.old)) }
         ensures same_held { bytes_held self.new ≡ bytes_held self.old }
-        ensures same_most { most_bytes self.new ≡ most_bytes self.old }
+        ensures same_most { most_taken self.new ≡ most_taken self.old }
         ensures same_failing { failing_calls self.new ≡ failing_calls self.old }
     {
         self.calls = self.calls.saturating_add(1);
@@ -74,7 +74,7 @@ impl MemorySink {
 }
 
 impl Sink for MemorySink {
-    ghost use Rattle.bg_io.specs.MemorySink.{bytes_held, most_bytes, failing_calls, calls_made, failed_calls};
+    ghost use Rattle.bg_io.specs.MemorySink.{bytes_held, most_taken, failing_calls, calls_made, failed_calls};
 
     ghost held = { λ sink. Some (bytes_held sink) };
 
@@ -90,14 +90,14 @@ impl Sink for MemorySink {
         ensures cause { HasSinkCause (failed_calls self.old) (failed_calls self.new) result }
 
         // how much is taken, and which writes fail
-        ensures taken { IfOk result (λ n. n ≡ min (length piece.now) (most_bytes self.old)) }
+        ensures taken { IfOk result (λ n. n ≡ min (length piece.now) (most_taken self.old)) }
         ensures failing { IsErrOf result SinkFault.Failed ↔ Contains (failing_calls self.old) (calls_made self.new) }
 
         // the counts, and what stays
         ensures calls { calls_made self.new ≡ next_count (calls_made self.old) }
         ensures fault { IsErrOf result SinkFault.Failed → failed_calls self.new ≡ next_count (failed_calls self.old) }
         ensures no_fault { ¬ IsErrOf result SinkFault.Failed → failed_calls self.new ≡ failed_calls self.old }
-        ensures same_most { most_bytes self.new ≡ most_bytes self.old }
+        ensures same_most { most_taken self.new ≡ most_taken self.old }
         ensures same_failing { failing_calls self.new ≡ failing_calls self.old }
     {
         self.begin()?;
@@ -121,7 +121,7 @@ impl Sink for MemorySink {
         ensures faults { MatchResult result
             (λ _. failed_calls self.new ≡ failed_calls self.old)
             (λ _. failed_calls self.new ≡ next_count (failed_calls self.old)) }
-        ensures same_most { most_bytes self.new ≡ most_bytes self.old }
+        ensures same_most { most_taken self.new ≡ most_taken self.old }
         ensures same_failing { failing_calls self.new ≡ failing_calls self.old }
     {
         self.begin()

@@ -25,14 +25,14 @@ pub struct MemorySource {
 }
 
 impl MemorySource {
-    ghost use Rattle.bg_io.specs.MemorySource.{bytes_left, most_bytes, failing_reads, reads_made, failed_reads};
+    ghost use Rattle.bg_io.specs.MemorySource.{bytes_left, most_given, failing_reads, reads_made, failed_reads};
 
     /// A source of these bytes, that gives at most `piece` of them a read, and fails at the reads whose
     /// numbers, counted from 1, are in `failing`.
     pub fn new(bytes: Vec<u8>, piece: u32, failing: Vec<u32>) -> MemorySource
         requires { 1 ≤ piece }
         ensures left { bytes_left result ≡ bytes.items }
-        ensures most { most_bytes result ≡ piece }
+        ensures most { most_given result ≡ piece }
         ensures failing { failing_reads result ≡ failing.items }
         ensures reads { reads_made result ≡ 0 }
         ensures faults { failed_reads result ≡ 0 }
@@ -49,7 +49,7 @@ impl MemorySource {
 }
 
 impl Source for MemorySource {
-    ghost use Rattle.bg_io.specs.MemorySource.{bytes_left, most_bytes, failing_reads, reads_made, failed_reads};
+    ghost use Rattle.bg_io.specs.MemorySource.{bytes_left, most_given, failing_reads, reads_made, failed_reads};
 
     ghost left = { λ source. Some (bytes_left source) };
 
@@ -65,12 +65,12 @@ impl Source for MemorySource {
         ensures cause { HasCause (failed_reads self.old) (failed_reads self.new) result }
 
         // how much is given, and which reads fail
-        ensures given { IfOk result (λ n. n ≡ min (min (length (bytes_left self.old)) (length buf.new)) (most_bytes self.old)) }
+        ensures given { IfOk result (λ n. n ≡ min (min (length (bytes_left self.old)) (length buf.new)) (most_given self.old)) }
         ensures failing { IsErr result ↔ Contains (failing_reads self.old) (reads_made self.new) }
 
         // the counts, and what stays
         ensures count { reads_made self.new ≡ next_count (reads_made self.old) }
-        ensures same_most { most_bytes self.new ≡ most_bytes self.old }
+        ensures same_most { most_given self.new ≡ most_given self.old }
         ensures same_failing { failing_reads self.new ≡ failing_reads self.old }
     {
         self.calls = self.calls.saturating_add(1);

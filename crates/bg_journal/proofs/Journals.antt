@@ -12,7 +12,7 @@ use Rattle.bg_listing.proofs.Combinators.{no_two}
 use Rattle.bg_journal.specs.declared.fault.JournalFault.{JournalFault}
 use Rattle.bg_journal.specs.declared.fault.JournalFault.TheVariants.{Bad, OutOfMemory}
 use Rattle.bg_journal.specs.JournalText.{step_text, entry_line, journal_text}
-use Rattle.bg_journal.specs.JournalReading.{IsEntry, IsJournal, BeginsWith, IsWithoutEntry, AreInFront, IsBadAt, at_first, later, TellsFault, ReadsJournal}
+use Rattle.bg_journal.specs.JournalReading.{IsEntry, IsJournal, BeginsWithJournal, IsWithoutEntry, AreInFront, IsBadAt, at_first, later, TellsFault, ReadsJournal}
 use Rattle.bg_journal.proofs.EntryLines.{entry_reads}
 
 -- ---- lines of entries, one after the other
@@ -103,7 +103,7 @@ one_bad_line bytes a b (later entries lines rest is there front none) (later oth
 -- ---- what the reader returns
 
 pub begins : (bytes lines : List ℕ) (entries : List Entry) (rest behind : List ℕ) → bytes ≡ codes "journal 1\n" ++ lines → AreInFront lines entries rest → rest ≡ codes "end\n" ++ behind
-    → BeginsWith bytes entries (length bytes - length behind)
+    → BeginsWithJournal bytes entries (length bytes - length behind)
 begins bytes lines entries rest behind there front ends =
     let text : bytes ≡ journal_text entries ++ behind =
     there ∙ ap (λ y. codes "journal 1\n" ++ y) (front.text_there ∙ ap (λ y. lines_of entries ++ y) ends) ∙ sym (text_is entries behind) in
@@ -111,7 +111,7 @@ begins bytes lines entries rest behind there front ends =
     let back : drop (length bytes - length behind) bytes ≡ behind = ap (drop (length bytes - length behind)) text ∙ drop_at (journal_text entries) behind (length bytes - length behind) (sym used) in
     record { journal = front.journal; text_there = text ∙ ap (λ y. journal_text entries ++ y) (sym back); text_length = used }
 
-pub only_that : (bytes : List ℕ) (result : Result (List Entry × ℕ) JournalFault) → IfOk result (λ x. BeginsWith bytes x.0 x.1) → IfErr result (TellsFault bytes)
+pub only_that : (bytes : List ℕ) (result : Result (List Entry × ℕ) JournalFault) → IfOk result (λ x. BeginsWithJournal bytes x.0 x.1) → IfErr result (TellsFault bytes)
     → (entries : List Entry) (rest : List ℕ) → IsJournal entries → bytes ≡ journal_text entries ++ rest → ReadsJournal result entries
 only_that bytes (Ok x) h k entries rest f e =
     let same = one_text x.0 entries (drop x.1 bytes) rest h.journal f (sym h.text_there ∙ e) in

@@ -25,7 +25,7 @@ abbrev pub IsJournal : List Entry → Type 0
 IsJournal entries = AreCounted most_steps IsEntry entries
 
 -- the bytes begin with the text of this journal, which is so many bytes long
-pub record BeginsWith (bytes : List ℕ) (entries : List Entry) (used : ℕ) : Type 0 where
+pub record BeginsWithJournal (bytes : List ℕ) (entries : List Entry) (used : ℕ) : Type 0 where
   pub journal : IsJournal entries
   pub text_there : bytes ≡ journal_text entries ++ drop used bytes
   pub text_length : used ≡ length (journal_text entries)

@@ -2,7 +2,7 @@
 ghost use Rattle.std.specs.Prelude.{◌≡◌, ◌<◌, ◌-◌, ◌^◌, ◌++◌, ℕ, List, IfOk, IfErr, length};
 ghost use Rattle.bg_base.specs.declared.history.Entry.{Entry as EntryValue};
 ghost use Rattle.bg_journal.specs.JournalText.{journal_text};
-ghost use Rattle.bg_journal.specs.JournalReading.{IsJournal, BeginsWith, AreInFront, TellsFault, ReadsJournal};
+ghost use Rattle.bg_journal.specs.JournalReading.{IsJournal, BeginsWithJournal, AreInFront, TellsFault, ReadsJournal};
 
 use crate::entry::{behind, entry};
 use crate::fault::JournalFault;
@@ -17,7 +17,7 @@ use std::alloc::Global;
 /// a line. Goes once over the text; takes memory in proportion to the journal.
 pub fn read_journal(alloc: Global, bytes: &[u8]) -> Result<(Journal, u32), JournalFault>
     requires small { length bytes.now < 2 ^ 32 - 1 }
-    ensures read { IfOk result (λ x. BeginsWith bytes.now x.0 x.1) }
+    ensures read { IfOk result (λ x. BeginsWithJournal bytes.now x.0 x.1) }
     ensures bad { IfErr result (TellsFault bytes.now) }
     ensures only { (entries : List EntryValue) (rest : List ℕ) → IsJournal entries → bytes.now ≡ journal_text entries ++ rest → ReadsJournal result entries }
 {
@@ -27,7 +27,7 @@ pub fn read_journal(alloc: Global, bytes: &[u8]) -> Result<(Journal, u32), Journ
 /// As [`read_journal`].
 fn first_journal(alloc: Global, bytes: &[u8]) -> Result<(Journal, u32), JournalFault>
     requires { length bytes.now < 2 ^ 32 - 1 }
-    ensures read { IfOk result (λ x. BeginsWith bytes.now x.0 x.1) }
+    ensures read { IfOk result (λ x. BeginsWithJournal bytes.now x.0 x.1) }
     ensures bad { IfErr result (TellsFault bytes.now) }
 {
     match behind(bytes, b"journal 1\n") {

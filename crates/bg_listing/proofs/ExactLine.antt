@@ -4,7 +4,7 @@ use Rattle.std.proofs.lemmas.Bool.{leb-true}
 use Rattle.bg_base.specs.declared.signature.Control.{Control}
 use Rattle.bg_listing.specs.declared.cursor.Cursor.{Cursor}
 use Rattle.bg_listing.specs.Spelling.{signature_text}
-use Rattle.bg_listing.specs.Verdict.{line_feeds, IsAt, Refusal, signature_verdict, big_verdict}
+use Rattle.bg_listing.specs.Verdict.{line_feeds, IsAt, ListingRefusal, signature_verdict, big_verdict}
 use Rattle.bg_listing.specs.Stops.{first_line, ends_line, StopsAt, StopsAtLine, HasText, AreListed, listed_text, IsListed}
 use Rattle.bg_listing.proofs.Values.{signature_found}
 use Rattle.bg_listing.proofs.Passes.{signature_here, big_here}
@@ -57,7 +57,7 @@ no_text bytes lines behind h s = s.none behind refl h.value h.rest h.fits (sym s
 
 -- ---- the verdict
 
-refused_if : {A Y : Type 0} {t : A → List ℕ} {F : A → Type 0} (bytes : List ℕ) (at : Cursor) (r : Result Y Refusal) (f : Refusal) (small : Bool) → leb f.0 2 ≡ small → r ≡ Err f
+refused_if : {A Y : Type 0} {t : A → List ℕ} {F : A → Type 0} (bytes : List ℕ) (at : Cursor) (r : Result Y ListingRefusal) (f : ListingRefusal) (small : Bool) → leb f.0 2 ≡ small → r ≡ Err f
     → ((code line : ℕ) → 2 < code → r ≡ Err (code, line) → HasText t F (drop at.offset bytes)) → ((code line : ℕ) → code ≤ 2 → r ≡ Err (code, line) → StopsAtLine t F bytes at line)
     → (line : ℕ) → StopsAtLine t F bytes at line → (code : ℕ) × (code ≤ 2) × (r ≡ Err (code, line))
 refused_if bytes at r f true b e form stopped line s =
@@ -70,7 +70,7 @@ refused_if bytes at r f false b e form stopped line s =
     let late : 2 < f.0 = grind (arith, b) in
     absurd (no_text (drop at.offset bytes) s.lines s.behind (form f.0 f.1 late e) s.stops)
 
-refused_there : {A Y : Type 0} {t : A → List ℕ} {F : A → Type 0} (bytes : List ℕ) (at : Cursor) (r s : Result Y Refusal) → r ≡ s → ((y : Y) → r ≡ Ok y → HasText t F (drop at.offset bytes))
+refused_there : {A Y : Type 0} {t : A → List ℕ} {F : A → Type 0} (bytes : List ℕ) (at : Cursor) (r s : Result Y ListingRefusal) → r ≡ s → ((y : Y) → r ≡ Ok y → HasText t F (drop at.offset bytes))
     → ((code line : ℕ) → 2 < code → r ≡ Err (code, line) → HasText t F (drop at.offset bytes)) → ((code line : ℕ) → code ≤ 2 → r ≡ Err (code, line) → StopsAtLine t F bytes at line)
     → (line : ℕ) → StopsAtLine t F bytes at line → (code : ℕ) × (code ≤ 2) × (r ≡ Err (code, line))
 refused_there bytes at r (Ok y) e ok form stopped line s = absurd (no_text (drop at.offset bytes) s.lines s.behind (ok y e) s.stops)

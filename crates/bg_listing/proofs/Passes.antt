@@ -19,17 +19,17 @@ use Rattle.bg_listing.specs.Spelling.{signature_text, big_text}
 use Rattle.bg_listing.specs.Limits.{AreCounted, IsControl, IsReadableSignature, IsReadableBig}
 use Rattle.bg_listing.specs.Lines as lines
 use Rattle.bg_listing.specs.Lines.{signature_at, big_at}
-use Rattle.bg_listing.specs.Verdict.{Stands, Refusal, judged, repeat_among, first_repeat, without_repeat, signature_verdict, rows_of, lines_before, without_fault, big_verdict, AnswersAs, ReadsBack}
+use Rattle.bg_listing.specs.Verdict.{Stands, ListingRefusal, judged, repeat_among, first_repeat, without_repeat, signature_verdict, rows_of, lines_before, without_fault, big_verdict, AnswersAs, ReadsBack}
 use Rattle.bg_listing.proofs.Combinators.{done_is}
 use Rattle.bg_listing.proofs.Labels.{no_repeat, all_here}
 use Rattle.bg_listing.proofs.Values.{big_found, big_again, signature_found, signature_again, readable_signature}
 
-pub judged_ok : {A : Type 0} (bytes : List ℕ) (r : Result A lines.Bad) (second : A → Result A Refusal) (y : A) → judged bytes r second ≡ Ok y → (x : A) × (r ≡ Ok x) × (second x ≡ Ok y)
+pub judged_ok : {A : Type 0} (bytes : List ℕ) (r : Result A lines.Bad) (second : A → Result A ListingRefusal) (y : A) → judged bytes r second ≡ Ok y → (x : A) × (r ≡ Ok x) × (second x ≡ Ok y)
 judged_ok bytes (Ok x) second y e = (x, refl, e)
 judged_ok bytes (Err b) second y e = absurd cc
 
 -- this value and this rest, from an answer
-reads_from : {A : Type 0} (bytes : List ℕ) (r : Result (A × Cursor) ListingFault) (verdict : Result (A × List ℕ) Refusal) (value : A) (rest : List ℕ) → AnswersAs bytes r verdict → verdict ≡ Ok (value, rest) → ReadsBack bytes r value rest
+reads_from : {A : Type 0} (bytes : List ℕ) (r : Result (A × Cursor) ListingFault) (verdict : Result (A × List ℕ) ListingRefusal) (value : A) (rest : List ℕ) → AnswersAs bytes r verdict → verdict ≡ Ok (value, rest) → ReadsBack bytes r value rest
 reads_from bytes (Ok x) verdict value rest a e =
     let same : (x.0, drop x.1.offset bytes) ≡ (value, rest) = done_is (x.0, drop x.1.offset bytes) (value, rest) (sym a.0 ∙ e) in
     (ap (λ p. p.0) same, ap (λ p. p.1) same)

@@ -16,11 +16,11 @@ use Rattle.bg_listing.specs.declared.cursor.Cursor.{Cursor}
 use Rattle.bg_listing.specs.Spelling.{signature_text, big_text}
 use Rattle.bg_listing.specs.Limits.{IsControl, IsReadableSignature, IsReadableBig}
 use Rattle.bg_listing.specs.Lines.{Bad, signature_at, big_at}
-use Rattle.bg_listing.specs.Verdict.{Refusal, repeat_among, first_repeat, without_repeat, without_fault, signature_verdict, big_verdict}
+use Rattle.bg_listing.specs.Verdict.{ListingRefusal, repeat_among, first_repeat, without_repeat, without_fault, signature_verdict, big_verdict}
 use Rattle.bg_listing.proofs.Values.{big_found, signature_found, readable_signature}
 use Rattle.bg_listing.proofs.Passes.{judged_ok, signature_here, signature_verdict_is, big_here, big_verdict_is}
 
-accepted_and_refused : {A : Type 0} (x : A) (refusal : Refusal) → Ok x ≡ Err refusal → ⊥
+accepted_and_refused : {A : Type 0} (x : A) (refusal : ListingRefusal) → Ok x ≡ Err refusal → ⊥
 accepted_and_refused x refusal e = cc
 
 -- what was accepted, told by what the first pass gives
@@ -74,7 +74,7 @@ signature_listed bytes at controls rest =
     (signature_accepted bytes at controls rest, λ there. signature_verdict_is bytes at controls rest there.0 there.1)
 
 -- where a signature is refused, no listing of one stands
-pub signature_refused : (bytes : List ℕ) (at : Cursor) (refusal : Refusal) → signature_verdict bytes at ≡ Err refusal
+pub signature_refused : (bytes : List ℕ) (at : Cursor) (refusal : ListingRefusal) → signature_verdict bytes at ≡ Err refusal
     → (controls : List Control) (rest : List ℕ) → IsReadableSignature controls → drop at.offset bytes ≡ signature_text controls ++ rest → ⊥
 signature_refused bytes at refusal e controls rest fits there =
     accepted_and_refused (controls, rest) refusal (sym (signature_verdict_is bytes at controls rest fits there) ∙ e)
@@ -106,7 +106,7 @@ big_listed signature kept bytes at big rest =
     (big_accepted signature bytes at big rest, λ there. big_verdict_is signature kept bytes at big rest there.0 there.1)
 
 -- where a bigraph is refused, no listing of one stands
-pub big_refused : (signature : List Control) → IsSignature signature → (bytes : List ℕ) (at : Cursor) (refusal : Refusal) → big_verdict signature bytes at ≡ Err refusal
+pub big_refused : (signature : List Control) → IsSignature signature → (bytes : List ℕ) (at : Cursor) (refusal : ListingRefusal) → big_verdict signature bytes at ≡ Err refusal
     → (big : Big) (rest : List ℕ) → IsReadableBig signature big → drop at.offset bytes ≡ big_text signature big ++ rest → ⊥
 big_refused signature kept bytes at refusal e big rest fits there =
     accepted_and_refused (big, rest) refusal (sym (big_verdict_is signature kept bytes at big rest fits there) ∙ e)

@@ -16,7 +16,7 @@ use Rattle.bg_listing.specs.Spelling.{label_of, place_line, inner_line, name_lin
 use Rattle.bg_listing.specs.Limits.{IsNumber, IsPlace, IsName, IsInner, AreCounted}
 use Rattle.bg_listing.specs.Combinators.{both}
 use Rattle.bg_listing.specs.Lines.{Bad, count_at, section_at, edge_row, place_row, name_row, inner_row, node_row, NodeParts, row_from_parts, Sections, big_of, signature_at, big_at}
-use Rattle.bg_listing.specs.Verdict.{line_feeds, IsAt, Refusal, line_number, judged, first_repeat, without_repeat, without_fault, lines_before, signature_verdict, big_verdict}
+use Rattle.bg_listing.specs.Verdict.{line_feeds, IsAt, ListingRefusal, line_number, judged, first_repeat, without_repeat, without_fault, lines_before, signature_verdict, big_verdict}
 use Rattle.bg_listing.specs.Stops.{StopsAtLine, AreListed, Listed, listed_text, IsListed}
 use Rattle.bg_listing.proofs.Listings.{parts_line, AreParts, parts_text, AreSections}
 use Rattle.bg_listing.proofs.Values.{parts_of, sections_of, parts_text_is, spelled_from_sections, sections_from_spelled}
@@ -36,15 +36,15 @@ line_at bytes at lines behind is e =
     omega (arith, counted, is.line)
 
 -- a refusal that the second pass does not give is one of the first, at the line where the text stops
-pub one_refusal : {A : Type 0} (r : Result A Refusal) (a b : Refusal) → r ≡ Err a → r ≡ Err b → a ≡ b
+pub one_refusal : {A : Type 0} (r : Result A ListingRefusal) (a b : ListingRefusal) → r ≡ Err a → r ≡ Err b → a ≡ b
 one_refusal (Ok x) a b e f = absurd cc
 one_refusal (Err c) a b e f = cc
 
-stopped_line : {D X : Type 0} {t : D → List ℕ} {F : D → Type 0} (bytes : List ℕ) (at : Cursor) (r : Result (X × List ℕ) Bad) (second : X × List ℕ → Result (X × List ℕ) Refusal) (code line : ℕ)
+stopped_line : {D X : Type 0} {t : D → List ℕ} {F : D → Type 0} (bytes : List ℕ) (at : Cursor) (r : Result (X × List ℕ) Bad) (second : X × List ℕ → Result (X × List ℕ) ListingRefusal) (code line : ℕ)
     → IsAt bytes at → Stops t F (drop at.offset bytes) r → ((x : X × List ℕ) → second x ≡ Err (code, line) → ⊥) → judged bytes r second ≡ Err (code, line) → StopsAtLine t F bytes at line
 stopped_line bytes at r second code line is (goes x) other e = absurd (other x e)
 stopped_line bytes at r second code line is (stops bad lines behind left s) other e =
-    let named : line_number bytes bad.left ≡ line = ap (λ (r : Refusal). r.1) (one_refusal (judged bytes (Err bad) second) (bad.code, line_number bytes bad.left) (code, line) refl e) in
+    let named : line_number bytes bad.left ≡ line = ap (λ (r : ListingRefusal). r.1) (one_refusal (judged bytes (Err bad) second) (bad.code, line_number bytes bad.left) (code, line) refl e) in
     record {
       lines = lines;
       behind = behind;
@@ -60,7 +60,7 @@ signature_stops bytes = (section_part most_controls (codes "signature ") (lit≤
 
 repeat_is_9 : {A : Type 0} (repeat : Option ℕ) (first_line : ℕ) (x : A) (code line : ℕ) → code ≤ 2 → without_repeat repeat first_line x ≡ Err (code, line) → ⊥
 repeat_is_9 None first_line x code line le e = cc
-repeat_is_9 (Some row) first_line x code line le e = let nine : 9 ≡ code = ap (λ (r : Refusal). r.0) (one_refusal (without_repeat (Some row) first_line x) (9, first_line + row) (code, line) refl e) in omega arith
+repeat_is_9 (Some row) first_line x code line le e = let nine : 9 ≡ code = ap (λ (r : ListingRefusal). r.0) (one_refusal (without_repeat (Some row) first_line x) (9, first_line + row) (code, line) refl e) in omega arith
 
 pub signature_line : (bytes : List ℕ) (at : Cursor) → IsAt bytes at → (code line : ℕ) → code ≤ 2 → signature_verdict bytes at ≡ Err (code, line) → StopsAtLine signature_text AreListed bytes at line
 unfolding signature_verdict
@@ -209,7 +209,7 @@ fault_late signature big =
 
 fault_is_late : {A : Type 0} (fault : Option (Part × ℕ × ℕ)) (first_line : ℕ) (big : Big) (x : A) (code line : ℕ) → IfSome fault (λ f. 2 < f.2) → code ≤ 2 → without_fault fault first_line big x ≡ Err (code, line) → ⊥
 fault_is_late None first_line big x code line l le e = cc
-fault_is_late (Some f) first_line big x code line l le e = let same : f.2 ≡ code = ap (λ (r : Refusal). r.0) (one_refusal (without_fault (Some f) first_line big x) (f.2, first_line + lines_before f.0 big + f.1) (code, line) refl e) in omega arith
+fault_is_late (Some f) first_line big x code line l le e = let same : f.2 ≡ code = ap (λ (r : ListingRefusal). r.0) (one_refusal (without_fault (Some f) first_line big x) (f.2, first_line + lines_before f.0 big + f.1) (code, line) refl e) in omega arith
 
 pub big_line : (signature : List Control) (bytes : List ℕ) (at : Cursor) → IsAt bytes at → (code line : ℕ) → code ≤ 2 → big_verdict signature bytes at ≡ Err (code, line) → StopsAtLine listed_text IsListed bytes at line
 unfolding big_verdict

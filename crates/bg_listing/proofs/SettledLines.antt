@@ -21,7 +21,7 @@ use Rattle.bg_listing.specs.declared.cursor.Cursor.{Cursor}
 use Rattle.bg_listing.specs.Spelling.{control_line, place_line, inner_line, name_line, edge_line, count_line, section_text, signature_text, big_text}
 use Rattle.bg_listing.specs.Limits.{IsNumber, IsPlace, IsName, IsInner, AreCounted, IsControl, IsReadableSignature, IsReadableBig}
 use Rattle.bg_listing.specs.Lines.{Bad, NodeParts, row_from_parts, Sections, signature_at, big_at}
-use Rattle.bg_listing.specs.Verdict.{IsAt, Refusal, line_number, judged, repeat_among, first_repeat, without_repeat, lines_before, without_fault, signature_verdict, big_verdict}
+use Rattle.bg_listing.specs.Verdict.{IsAt, ListingRefusal, line_number, judged, repeat_among, first_repeat, without_repeat, lines_before, without_fault, signature_verdict, big_verdict}
 use Rattle.bg_listing.specs.Stops.{Begins, StopsAtLine, HasText, NoneFromLine, is_settled, AreListed, listed_text, IsListed}
 use Rattle.bg_listing.specs.RowLines.{seen_under}
 use Rattle.bg_listing.proofs.Combinators.{Holds, found, joined, FitBoth, map_same}
@@ -46,11 +46,11 @@ named_line bytes at line count s e = record { lines = s.lines; behind = s.behind
 settled_is_late : (code : ℕ) → is_settled code ≡ true → 2 < code
 settled_is_late code s = grind arith
 
-pub second_pass : {D X : Type 0} {t : D → List ℕ} {F : D → Type 0} (bytes rest : List ℕ) (r : Result (X × List ℕ) Bad) (second : X × List ℕ → Result (X × List ℕ) Refusal) (code line : ℕ) → 2 < code
+pub second_pass : {D X : Type 0} {t : D → List ℕ} {F : D → Type 0} (bytes rest : List ℕ) (r : Result (X × List ℕ) Bad) (second : X × List ℕ → Result (X × List ℕ) ListingRefusal) (code line : ℕ) → 2 < code
     → Stops t F rest r → judged bytes r second ≡ Err (code, line) → (x : X × List ℕ) × (r ≡ Ok x) × (second x ≡ Err (code, line))
 second_pass bytes rest r second code line s (goes x) e = (x, refl, e)
 second_pass bytes rest r second code line s (stops bad lines behind named at) e =
-    let same : bad.code ≡ code = ap (λ (r : Refusal). r.0) (one_refusal (judged bytes (Err bad) second) (bad.code, line_number bytes bad.left) (code, line) refl e) in
+    let same : bad.code ≡ code = ap (λ (r : ListingRefusal). r.0) (one_refusal (judged bytes (Err bad) second) (bad.code, line_number bytes bad.left) (code, line) refl e) in
     let le : code ≤ 2 = subst (λ c. c ≤ 2) same named.1 in
     absurd (omega arith)
 
@@ -147,7 +147,7 @@ pub repeat_of : {A : Type 0} (repeat : Option ℕ) (first_line : ℕ) (x : A) (c
 repeat_of None first_line x code line e = absurd cc
 repeat_of (Some row) first_line x code line e =
     let same = one_refusal (without_repeat (Some row) first_line x) (9, first_line + row) (code, line) refl e in
-    (row, refl, sym (ap (λ (r : Refusal). r.1) same), sym (ap (λ (r : Refusal). r.0) same))
+    (row, refl, sym (ap (λ (r : ListingRefusal). r.1) same), sym (ap (λ (r : ListingRefusal). r.0) same))
 
 pub signature_settled : (bytes : List ℕ) (at : Cursor) → IsAt bytes at → (code line : ℕ) → IsTrue (is_settled code) → signature_verdict bytes at ≡ Err (code, line) → StopsAtLine signature_text IsReadableSignature bytes at line
 unfolding signature_verdict
@@ -392,7 +392,7 @@ pub fault_of_line : {A : Type 0} (fault : Option (Part × ℕ × ℕ)) (first_li
 fault_of_line None first_line big x code line e = absurd cc
 fault_of_line (Some f) first_line big x code line e =
     let same = one_refusal (without_fault (Some f) first_line big x) (f.2, first_line + lines_before f.0 big + f.1) (code, line) refl e in
-    (f, refl, ap (λ (r : Refusal). r.0) same, sym (ap (λ (r : Refusal). r.1) same))
+    (f, refl, ap (λ (r : ListingRefusal). r.0) same, sym (ap (λ (r : ListingRefusal). r.1) same))
 
 pub big_settled : (signature : List Control) → IsSignature signature → (bytes : List ℕ) (at : Cursor) → IsAt bytes at → (code line : ℕ) → IsTrue (is_settled code) → big_verdict signature bytes at ≡ Err (code, line)
     → NoneFromLine (big_text signature) (IsReadableBig signature) bytes at line

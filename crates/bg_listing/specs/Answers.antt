@@ -18,9 +18,9 @@ GivesPart view (Ok x) read = read ≡ Ok (view x)
 GivesPart view (Err fault) read = Fails fault read
 
 -- the same of a function that takes no memory, whose fault says that it is not there and nothing else
-abbrev pub Shows : {X Y F : Type 0} → (X → Y) → Result X F → Result Y (Unit {0}) → Type 0
-Shows view (Ok x) read = read ≡ Ok (view x)
-Shows view (Err fault) read = read ≡ Err tt
+abbrev pub GivesOrFails : {X Y F : Type 0} → (X → Y) → Result X F → Result Y (Unit {0}) → Type 0
+GivesOrFails view (Ok x) read = read ≡ Ok (view x)
+GivesOrFails view (Err fault) read = read ≡ Err tt
 
 -- the same, as an option
 abbrev pub Finds : {X Y : Type 0} → (X → Y) → Option X → Result Y (Unit {0}) → Type 0

@@ -33,15 +33,15 @@ pub record Stands (bytes : List ℕ) (at : Cursor) (text : List ℕ) (end : Curs
   pub behind : IsAt bytes end
 
 -- the code and the line of a refusal
-abbrev pub Refusal : Type 0
-Refusal = ℕ × ℕ
+abbrev pub ListingRefusal : Type 0
+ListingRefusal = ℕ × ℕ
 
 -- the line at the beginning of which so many bytes are left
 abbrev pub line_number : List ℕ → ℕ → ℕ
 line_number bytes left = 1 + line_feeds (take (length bytes - left) bytes)
 
 -- what the second pass makes of what the first one gives
-abbrev pub judged : {A : Type 0} → List ℕ → Result A lines.Bad → (A → Result A Refusal) → Result A Refusal
+abbrev pub judged : {A : Type 0} → List ℕ → Result A lines.Bad → (A → Result A ListingRefusal) → Result A ListingRefusal
 judged bytes (Ok found) second = second found
 judged bytes (Err bad) second = Err (bad.code, line_number bytes bad.left)
 
@@ -67,11 +67,11 @@ abbrev pub first_repeat : List Control → Option ℕ
 first_repeat controls = repeat_among [] controls
 
 -- no label twice, or 9 and the line of the first row whose label stood before
-abbrev pub without_repeat : {A : Type 0} → Option ℕ → ℕ → A → Result A Refusal
+abbrev pub without_repeat : {A : Type 0} → Option ℕ → ℕ → A → Result A ListingRefusal
 without_repeat None first_line found = Ok found
 without_repeat (Some row) first_line found = Err (9, first_line + row)
 
-unfoldable pub signature_verdict : List ℕ → Cursor → Result (List Control × List ℕ) Refusal
+unfoldable pub signature_verdict : List ℕ → Cursor → Result (List Control × List ℕ) ListingRefusal
 signature_verdict bytes at = judged bytes (signature_at (drop at.offset bytes)) (λ found. without_repeat (first_repeat found.0) (at.line + 1) found)
 
 -- ---- bigraphs
@@ -89,30 +89,30 @@ lines_before Edges big = 5 + length big.sites + length big.inner + length big.ou
 lines_before Nodes big = 6 + length big.sites + length big.inner + length big.outer + length big.edges
 
 -- a valid bigraph, or the code and the line of the first row that breaks a rule
-abbrev pub without_fault : {A : Type 0} → Option (Part × ℕ × ℕ) → ℕ → Big → A → Result A Refusal
+abbrev pub without_fault : {A : Type 0} → Option (Part × ℕ × ℕ) → ℕ → Big → A → Result A ListingRefusal
 without_fault None line big found = Ok found
 without_fault (Some fault) line big found = Err (fault.2, line + lines_before fault.0 big + fault.1)
 
-unfoldable pub big_verdict : List Control → List ℕ → Cursor → Result (Big × List ℕ) Refusal
+unfoldable pub big_verdict : List Control → List ℕ → Cursor → Result (Big × List ℕ) ListingRefusal
 big_verdict signature bytes at =
     judged bytes (big_at signature (drop at.offset bytes)) (λ found. without_fault (fault_of signature found.0) at.line found.0 found)
 
 -- ---- what the readers return
 
 -- the code and the line of the refusal, or want of memory
-abbrev pub Tells : {Y : Type 0} → ListingFault → Result Y Refusal → Type 0
-Tells (Bad code line) verdict = verdict ≡ Err (code, line)
-Tells OutOfMemory verdict = Unit {0}
+abbrev pub TellsRefusal : {Y : Type 0} → ListingFault → Result Y ListingRefusal → Type 0
+TellsRefusal (Bad code line) verdict = verdict ≡ Err (code, line)
+TellsRefusal OutOfMemory verdict = Unit {0}
 
 -- the value, or the code and the line of the refusal, or want of memory
-abbrev pub Makes : {A : Type 0} → Result A ListingFault → Result A Refusal → Type 0
-Makes (Ok made) verdict = verdict ≡ Ok made
-Makes (Err fault) verdict = Tells fault verdict
+abbrev pub MakesVerdict : {A : Type 0} → Result A ListingFault → Result A ListingRefusal → Type 0
+MakesVerdict (Ok made) verdict = verdict ≡ Ok made
+MakesVerdict (Err fault) verdict = TellsRefusal fault verdict
 
 -- the value and a cursor behind it, or the code and the line of the refusal, or want of memory
-abbrev pub AnswersAs : {A : Type 0} → List ℕ → Result (A × Cursor) ListingFault → Result (A × List ℕ) Refusal → Type 0
+abbrev pub AnswersAs : {A : Type 0} → List ℕ → Result (A × Cursor) ListingFault → Result (A × List ℕ) ListingRefusal → Type 0
 AnswersAs bytes (Ok found) verdict = (verdict ≡ Ok (found.0, drop found.1.offset bytes)) × IsAt bytes found.1
-AnswersAs bytes (Err fault) verdict = Tells fault verdict
+AnswersAs bytes (Err fault) verdict = TellsRefusal fault verdict
 
 -- this value and this rest, or want of memory
 abbrev pub ReadsBack : {A : Type 0} → List ℕ → Result (A × Cursor) ListingFault → A → List ℕ → Type 0

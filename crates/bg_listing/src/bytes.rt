@@ -4,14 +4,14 @@ ghost use Rattle.std.specs.List.{prefix_len, list_all};
 ghost use Rattle.std.specs.Char.{is_ascii_digit};
 ghost use Rattle.bg_base.specs.Spelling as spelling;
 ghost use Rattle.bg_listing.specs.Combinators.{after};
-ghost use Rattle.bg_listing.specs.Answers.{IsFrontRun, Shows};
+ghost use Rattle.bg_listing.specs.Answers.{IsFrontRun, GivesOrFails};
 
 use crate::fault::NotThere;
 use bg_base::{is_text_byte, is_word_byte};
 
 /// The bytes behind `word`, where it stands in front.
 pub(crate) fn skip<'a>(bytes: &'a [u8], word: &[u8]) -> Result<&'a [u8], NotThere>
-    ensures { Shows (λ rest. rest.now) result (after word.now bytes.now) }
+    ensures { GivesOrFails (λ rest. rest.now) result (after word.now bytes.now) }
 {
     match bytes.strip_prefix(word) {
         Some(rest) => Ok(rest),

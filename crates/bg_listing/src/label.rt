@@ -1,7 +1,7 @@
 //! Labels.
 ghost use Rattle.std.specs.Prelude.{◌≡◌, pos, negsuc};
 ghost use Rattle.bg_listing.specs.Limits.{greatest_int};
-ghost use Rattle.bg_listing.specs.Answers.{GivesPart, Shows};
+ghost use Rattle.bg_listing.specs.Answers.{GivesPart, GivesOrFails};
 ghost use Rattle.bg_listing.specs.Combinators.{mapped};
 ghost use Rattle.bg_listing.specs.Reading as reading;
 
@@ -91,7 +91,7 @@ fn quoted(alloc: Global, bytes: &[u8]) -> Result<(Text, &[u8]), PartFault>
 const GREATEST_INT: u64 = 9_223_372_036_854_775_807;
 
 fn positive(bytes: &[u8]) -> Result<(i64, &[u8]), NotThere>
-    ensures { Shows (λ x. (x.0, x.1.now)) result (mapped pos (reading.number_at greatest_int bytes.now)) }
+    ensures { GivesOrFails (λ x. (x.0, x.1.now)) result (mapped pos (reading.number_at greatest_int bytes.now)) }
 {
     match number_up_to(bytes, GREATEST_INT) {
         Some((number, rest)) => Ok((number as i64, rest)),
@@ -102,7 +102,7 @@ fn positive(bytes: &[u8]) -> Result<(i64, &[u8]), NotThere>
 /// The negative number behind its `-`.
 #[tactic(auto, unfolding(crate::specs::Reading::negative_at))]
 fn negative(bytes: &[u8]) -> Result<(i64, &[u8]), NotThere>
-    ensures { Shows (λ x. (x.0, x.1.now)) result (mapped negsuc (reading.negative_at bytes.now)) }
+    ensures { GivesOrFails (λ x. (x.0, x.1.now)) result (mapped negsuc (reading.negative_at bytes.now)) }
 {
     match number_up_to(bytes, GREATEST_INT + 1) {
         Some((number, rest)) => {

@@ -6,7 +6,7 @@ ghost use Rattle.bg_base.specs.Signatures.{IsSignature};
 ghost use Rattle.bg_listing.specs.declared.cursor.Cursor.{Cursor};
 ghost use Rattle.bg_listing.specs.Spelling.{signature_text, big_text};
 ghost use Rattle.bg_listing.specs.Limits.{IsReadableSignature, IsReadableBig};
-ghost use Rattle.bg_listing.specs.Verdict.{IsAt, Refusal, signature_verdict, big_verdict};
+ghost use Rattle.bg_listing.specs.Verdict.{IsAt, ListingRefusal, signature_verdict, big_verdict};
 ghost use Rattle.bg_listing.specs.RowLines.{IsToldAtControl, IsToldAtRow};
 ghost use Rattle.bg_listing.specs.Stops.{StopsAtLine, HasText, NoneFromLine, AreListed, listed_text, IsListed, is_settled};
 
@@ -21,9 +21,9 @@ pub fn accepted_texts_are_the_listings()
 
 /// Where a text is refused, whatever the code and the line, no listing stands at the cursor, whatever follows it.
 pub fn refused_texts_are_no_listings()
-    ensures signatures { (bytes : List ℕ) (at : Cursor) (refusal : Refusal) → signature_verdict bytes at ≡ Err refusal
+    ensures signatures { (bytes : List ℕ) (at : Cursor) (refusal : ListingRefusal) → signature_verdict bytes at ≡ Err refusal
         → (controls : List Control) (rest : List ℕ) → IsReadableSignature controls → ¬ (drop at.offset bytes ≡ signature_text controls ++ rest) }
-    ensures bigraphs { (signature : List Control) → IsSignature signature → (bytes : List ℕ) (at : Cursor) (refusal : Refusal) → big_verdict signature bytes at ≡ Err refusal
+    ensures bigraphs { (signature : List Control) → IsSignature signature → (bytes : List ℕ) (at : Cursor) (refusal : ListingRefusal) → big_verdict signature bytes at ≡ Err refusal
         → (big : Big) (rest : List ℕ) → IsReadableBig signature big → ¬ (drop at.offset bytes ≡ big_text signature big ++ rest) }
 {}
 

@@ -4,7 +4,7 @@ ghost use Rattle.bg_listing.specs.Limits.{greatest_number};
 ghost use Rattle.bg_listing.specs.Combinators.{behind, line, each};
 ghost use Rattle.bg_listing.specs.Reading as reading;
 ghost use Rattle.bg_listing.specs.Lines.{Bad, count_at, section_at};
-ghost use Rattle.bg_listing.specs.Answers.{GivesLines, Shows};
+ghost use Rattle.bg_listing.specs.Answers.{GivesLines, GivesOrFails};
 
 use crate::bytes::skip;
 use crate::fault::{BAD_LINE, LineFault, NotThere, TOO_MANY};
@@ -93,7 +93,7 @@ pub(crate) fn count<'a>(
 }
 
 fn count_line<'a>(bytes: &'a [u8], word: &[u8]) -> Result<(u32, &'a [u8]), NotThere>
-    ensures { Shows (λ x. (x.0, x.1.now)) result (behind word.now (line (reading.number_at greatest_number)) bytes.now) }
+    ensures { GivesOrFails (λ x. (x.0, x.1.now)) result (behind word.now (line (reading.number_at greatest_number)) bytes.now) }
 {
     let rest = skip(bytes, word)?;
     number_line(rest)
@@ -101,7 +101,7 @@ fn count_line<'a>(bytes: &'a [u8], word: &[u8]) -> Result<(u32, &'a [u8]), NotTh
 
 /// A number and the line feed.
 pub(crate) fn number_line(bytes: &[u8]) -> Result<(u32, &[u8]), NotThere>
-    ensures { Shows (λ x. (x.0, x.1.now)) result (line (reading.number_at greatest_number) bytes.now) }
+    ensures { GivesOrFails (λ x. (x.0, x.1.now)) result (line (reading.number_at greatest_number) bytes.now) }
 {
     let (number, rest) = number(bytes)?;
     let rest = skip(rest, b"\n")?;

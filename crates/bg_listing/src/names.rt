@@ -2,7 +2,7 @@
 ghost use Rattle.std.specs.Prelude.{◌≡◌};
 ghost use Rattle.bg_base.specs.Spelling.{is_lower_case, is_upper_case};
 ghost use Rattle.bg_listing.specs.Limits.{begins};
-ghost use Rattle.bg_listing.specs.Answers.{GivesPart, Shows};
+ghost use Rattle.bg_listing.specs.Answers.{GivesPart, GivesOrFails};
 ghost use Rattle.bg_listing.specs.Reading as reading;
 
 use crate::bytes::{skip, word_bytes};
@@ -13,7 +13,7 @@ use std::alloc::Global;
 
 #[tactic(auto, unfolding(crate::specs::Reading::place_at))]
 pub(crate) fn place(bytes: &[u8]) -> Result<(Place, &[u8]), NotThere>
-    ensures { Shows (λ x. (x.0, x.1.now)) result (reading.place_at bytes.now) }
+    ensures { GivesOrFails (λ x. (x.0, x.1.now)) result (reading.place_at bytes.now) }
 {
     match bytes {
         [b'n', rest @ ..] => {

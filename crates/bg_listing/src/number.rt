@@ -4,7 +4,7 @@ ghost use Rattle.std.specs.List.{list_all};
 ghost use Rattle.std.specs.Char.{is_ascii_digit, digit_value};
 ghost use Rattle.std.specs.Str.Parse.{digits_value};
 ghost use Rattle.bg_listing.specs.Limits.{greatest_number};
-ghost use Rattle.bg_listing.specs.Answers.{Finds, Shows};
+ghost use Rattle.bg_listing.specs.Answers.{Finds, GivesOrFails};
 ghost use Rattle.bg_listing.specs.Reading as reading;
 
 use crate::bytes::digits;
@@ -32,7 +32,7 @@ pub(crate) fn number_up_to(bytes: &[u8], most: u64) -> Option<(u64, &[u8])>
 
 /// The number of a listing in front, and the bytes behind it.
 pub(crate) fn number(bytes: &[u8]) -> Result<(u32, &[u8]), NotThere>
-    ensures { Shows (λ x. (x.0, x.1.now)) result (reading.number_at greatest_number bytes.now) }
+    ensures { GivesOrFails (λ x. (x.0, x.1.now)) result (reading.number_at greatest_number bytes.now) }
 {
     match number_up_to(bytes, u64::from(GREATEST)) {
         Some((number, rest)) => Ok((number as u32, rest)),

@@ -8,7 +8,7 @@ ghost use Rattle.bg_base.specs.Bigraph.{IsValidUnder};
 ghost use Rattle.bg_listing.specs.Spelling.{signature_text, big_text};
 ghost use Rattle.bg_listing.specs.Limits.{AreCounted, IsControl, IsReadableSignature, IsReadableBig};
 ghost use Rattle.bg_listing.specs.Verdict as verdict;
-ghost use Rattle.bg_listing.specs.Verdict.{IsAt, Stands, ReadsBack, AnswersAs, Makes, signature_verdict, big_verdict, rows_of};
+ghost use Rattle.bg_listing.specs.Verdict.{IsAt, Stands, ReadsBack, AnswersAs, MakesVerdict, signature_verdict, big_verdict, rows_of};
 
 use crate::cursor::{Cursor, cursor_before, line_before};
 use crate::fault::{DUPLICATE_LABEL, LineFault, ListingFault};
@@ -101,7 +101,7 @@ fn without_repeat(
 ) -> Result<Signature, ListingFault>
     requires lines { first_line + length rows < 2 ^ 32 }
     requires limits { AreCounted most_controls IsControl rows }
-    ensures exact { Makes result (verdict.without_repeat (verdict.first_repeat rows) first_line rows) }
+    ensures exact { MakesVerdict result (verdict.without_repeat (verdict.first_repeat rows) first_line rows) }
     ensures kept { IfOk result IsSignature }
 {
     let mut signature = Signature::new(alloc);

@@ -4,7 +4,7 @@ ghost use Rattle.bg_base.specs.declared.names.Link.{Link};
 ghost use Rattle.bg_listing.specs.Combinators.{line};
 ghost use Rattle.bg_listing.specs.Reading as reading;
 ghost use Rattle.bg_listing.specs.Lines as lines;
-ghost use Rattle.bg_listing.specs.Answers.{GivesPart, GivesLines, Shows};
+ghost use Rattle.bg_listing.specs.Answers.{GivesPart, GivesLines, GivesOrFails};
 
 use crate::bytes::skip;
 use crate::chain::{Piece, read_chain};
@@ -65,7 +65,7 @@ impl Row for Place {
 }
 
 fn place_line(bytes: &[u8]) -> Result<(Place, &[u8]), NotThere>
-    ensures { Shows (λ x. (x.0, x.1.now)) result (line reading.place_at bytes.now) }
+    ensures { GivesOrFails (λ x. (x.0, x.1.now)) result (line reading.place_at bytes.now) }
 {
     let (place, rest) = place(bytes)?;
     let rest = skip(rest, b"\n")?;
@@ -192,7 +192,7 @@ fn control(alloc: Global, bytes: &[u8]) -> Result<(Control, &[u8]), PartFault>
 
 #[tactic(auto, unfolding(crate::specs::Reading::kind_at))]
 fn kind(bytes: &[u8]) -> Result<(Kind, &[u8]), NotThere>
-    ensures { Shows (λ x. (x.0, x.1.now)) result (reading.kind_at bytes.now) }
+    ensures { GivesOrFails (λ x. (x.0, x.1.now)) result (reading.kind_at bytes.now) }
 {
     match skip(bytes, b"normal") {
         Ok(rest) => Ok((Kind::Normal, rest)),

@@ -8,7 +8,7 @@ use Rattle.bg_machine.specs.Calls.{AreSmall}
 use Rattle.bg_terms.specs.declared.shape.ControlEntry.{ControlEntry}
 use Rattle.bg_terms.specs.declared.shape.Shape.{Shape}
 use Rattle.bg_terms.specs.Read.{shapes_of}
-use Rattle.bg_values.specs.Names.{Entry}
+use Rattle.bg_values.specs.Names.{NamedValue}
 use Rattle.bg_base.specs.Limits.{most_ports}
 
 abbrev IsSmall : Shape → Type 0
@@ -18,10 +18,10 @@ pub none_small : AreSmall []
 none_small = All-from_members IsSmall [] (λ shape m. elim m [ ])
 
 -- one control more
-pub small_more : (controls : List (Entry ControlEntry)) (word : List ℕ) (entry : ControlEntry) → AreSmall controls → entry.shape.arity ≤ most_ports
+pub small_more : (controls : List (NamedValue ControlEntry)) (word : List ℕ) (entry : ControlEntry) → AreSmall controls → entry.shape.arity ≤ most_ports
     → AreSmall (controls ++ (word, entry) ∷ [])
 small_more controls word entry are small =
-    subst (All IsSmall) (sym (map-append (λ (e : Entry ControlEntry). e.1.shape) controls ((word, entry) ∷ [])))
+    subst (All IsSmall) (sym (map-append (λ (e : NamedValue ControlEntry). e.1.shape) controls ((word, entry) ∷ [])))
     (All-append IsSmall (shapes_of controls) (entry.shape ∷ []) are (All-from_members IsSmall (entry.shape ∷ []) only))
   where
     only : (shape : Shape) → Mem shape (entry.shape ∷ []) → IsSmall shape

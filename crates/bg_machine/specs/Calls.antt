@@ -6,7 +6,7 @@ use Rattle.bg_values.specs.declared.refusal.Refusal.{Refusal}
 use Rattle.bg_values.specs.declared.refusal.Cause.TheVariants.{Unexpected}
 use Rattle.bg_values.specs.Outcome.{◌>>=◌, there_or}
 use Rattle.bg_builder.specs.Stack.{topmost}
-use Rattle.bg_values.specs.Names.{Entry}
+use Rattle.bg_values.specs.Names.{NamedValue}
 use Rattle.bg_terms.specs.declared.shape.ControlEntry.{ControlEntry}
 use Rattle.bg_terms.specs.declared.shape.Shape.{Shape}
 use Rattle.bg_terms.specs.Read.{shapes_of}
@@ -17,7 +17,7 @@ use Rattle.bg_machine.specs.States.{State}
 use Rattle.bg_base.specs.declared.big.Big.{Big}
 
 -- no arity of the controls is above 16
-abbrev pub AreSmall : List (Entry ControlEntry) → Type 0
+abbrev pub AreSmall : List (NamedValue ControlEntry) → Type 0
 AreSmall controls = All (λ (shape : Shape). shape.arity ≤ most_ports) (shapes_of controls)
 
 -- a statement begins: these controls were met, and no term

@@ -17,7 +17,7 @@ use Rattle.bg_terms.specs.Values.{Reached, Come, value, tallied, entered, single
 use Rattle.bg_values.specs.declared.refusal.Refusal.{Refusal}
 use Rattle.bg_values.specs.declared.refusal.LimitWord.TheVariants.{Depth}
 use Rattle.bg_values.specs.declared.refusal.Cause.TheVariants.{Unexpected, UnknownName, TooLarge}
-use Rattle.bg_values.specs.declared.formula.Step.{Step}
+use Rattle.bg_values.specs.declared.formula.FormulaStep.{FormulaStep}
 use Rattle.bg_values.specs.Operands.{outcomes}
 use Rattle.bg_values.specs.Outcome.{◌>>=◌, refused, there_or}
 use Rattle.bg_values.specs.Stacks.{first, rest}
@@ -88,7 +88,7 @@ abbrev pub opened : State → State
 opened s = record s { edges_open = s.reached.edges ∷ s.edges_open; reached = record (s.reached) { edges = s.reached.edges + 1 } }
 
 -- a reference counts, then its arguments are evaluated, then the definition is called
-abbrev pub referred : List Shape → List Running → List Value → ℕ → ℕ → List (ℕ × List Step) → State → Result State Refusal
+abbrev pub referred : List Shape → List Running → List Value → ℕ → ℕ → List (ℕ × List FormulaStep) → State → Result State Refusal
 referred shapes running env at definition args s =
     gone_on s (tallied at s.reached) >>= λ t. outcomes env args >>= λ vs. called at (slice_get running definition) vs t
 

@@ -28,14 +28,14 @@ pub(crate) fn run(
     ensures { Goes result machine.new (definition.run (shapes_of controls.now) (definition.running_of (shapes_of controls.now) definitions.now) env.now operations.now machine.old) }
 {
     for operation in operations {
-        take_step(alloc, controls, definitions, env, operation, machine)?;
+        take_operation(alloc, controls, definitions, env, operation, machine)?;
     }
     Ok(())
 }
 
 /// Takes one operation.
 #[cycle(machine)]
-fn take_step(
+fn take_operation(
     alloc: Global,
     controls: &NameTable<ControlEntry>,
     definitions: &[Rows<Operation>],

@@ -5,15 +5,15 @@ use Rattle.bg_base.specs.declared.big.Big.{Big}
 use Rattle.bg_rules.specs.Occurrences.{AreOccurrences}
 use Rattle.bg_rules.specs.Rules.{RuleParts}
 use Rattle.bg_match_text.specs.Appending.{Appends}
-use Rattle.bg_match_text.specs.MatchText.{AreOccurrenceTexts, IsRuleText, rule_line, listed}
+use Rattle.bg_match_text.specs.MatchText.{AreOccurrenceTexts, IsRuleText, matched_rule_line, listed}
 use Rattle.bg_match_text.proofs.Writing.{behind}
 
 pub line_and_texts : {signature : List Control} {host pattern : Big} {explain : Bool} (number : ℕ) (rule : RuleParts) (maps given : List (List ℕ))
     (count : ℕ) (before now after : List ℕ) → AreOccurrences host rule.redex maps → count ≡ length given → given ≡ maps → pattern ≡ rule.redex
-    → now ≡ before ++ rule_line number rule count → Appends (AreOccurrenceTexts signature host pattern explain given) now after
+    → now ≡ before ++ matched_rule_line number rule count → Appends (AreOccurrenceTexts signature host pattern explain given) now after
     → Appends (IsRuleText signature host explain number rule) before after
 line_and_texts {signature} {host} {pattern} {explain} number rule maps given count before now after found counted same redex line others =
-    let line_of : ℕ → List ℕ = λ n. rule_line number rule n in
+    let line_of : ℕ → List ℕ = λ n. matched_rule_line number rule n in
     let texts : AreOccurrenceTexts signature host rule.redex explain maps others.text =
     subst (λ (all : List (List ℕ)). AreOccurrenceTexts signature host rule.redex explain all others.text) same
     (subst (λ (p : Big). AreOccurrenceTexts signature host p explain given others.text) redex others.is_text) in

@@ -5,7 +5,7 @@ use Rattle.bg_lists.proofs.Words.{All-member}
 use Rattle.bg_base.specs.declared.signature.Control.{Control}
 use Rattle.bg_base.specs.declared.big.Big.{Big}
 use Rattle.bg_base.specs.Bigraph.{IsGround}
-use Rattle.bg_match_text.specs.MatchText.{map_line, decomposition_text, rule_line, IsOccurrenceText, plain, explained, AreOccurrenceTexts, IsRuleText, listed, AreRuleTexts, IsMatchText, none, each}
+use Rattle.bg_match_text.specs.MatchText.{occurrence_line, decomposition_text, matched_rule_line, IsOccurrenceText, plain, explained, AreOccurrenceTexts, IsRuleText, listed, AreRuleTexts, IsMatchText, none, each}
 use Rattle.bg_rules.specs.Rules.{RuleParts}
 use Rattle.bg_rules.specs.Solid.{IsPattern}
 use Rattle.bg_rules.specs.Systems.{SystemParts, IsRuleUnder, IsSystem}
@@ -21,9 +21,9 @@ module _ (signature : List Control) (host : Big) (explain : Bool) (ground : IsGr
   one_occurrence pattern is map plain plain = refl
   one_occurrence pattern is map (explained {context = context} {images = images} {parameter = parameter} d) (explained {context = context2} {images = images2} {parameter = parameter2} e) =
       let same = one_decomposition host pattern is ground map context context2 images images2 parameter parameter2 d e in
-      ap (λ (c : Big). map_line map ++ decomposition_text signature c images parameter) same.0
-      ∙ ap (λ (i : List ℕ). map_line map ++ decomposition_text signature context2 i parameter) same.1
-      ∙ ap (λ (p : Big). map_line map ++ decomposition_text signature context2 images2 p) same.2
+      ap (λ (c : Big). occurrence_line map ++ decomposition_text signature c images parameter) same.0
+      ∙ ap (λ (i : List ℕ). occurrence_line map ++ decomposition_text signature context2 i parameter) same.1
+      ∙ ap (λ (p : Big). occurrence_line map ++ decomposition_text signature context2 images2 p) same.2
 
   all_occurrences : (pattern : Big) → IsPattern pattern → {maps : List (List ℕ)} {one other : List ℕ}
       → AreOccurrenceTexts signature host pattern explain maps one → AreOccurrenceTexts signature host pattern explain maps other → one ≡ other
@@ -36,7 +36,7 @@ module _ (signature : List Control) (host : Big) (explain : Bool) (ground : IsGr
   one_rule number rule is (listed {maps = maps} {texts = texts} occur first) (listed {maps = others} also second) =
       let same = one_list host rule.redex maps others occur also in
       let moved = subst (λ (ms : List (List ℕ)). AreOccurrenceTexts signature host rule.redex explain ms texts) same first in
-      both (ap (λ (ms : List (List ℕ)). rule_line number rule (length ms)) same) (all_occurrences rule.redex is moved second)
+      both (ap (λ (ms : List (List ℕ)). matched_rule_line number rule (length ms)) same) (all_occurrences rule.redex is moved second)
 
   all_rules : {rules : List RuleParts} → ((rule : RuleParts) → Mem rule rules → IsPattern rule.redex) → {number : ℕ} {one other : List ℕ}
       → AreRuleTexts signature host explain number rules one → AreRuleTexts signature host explain number rules other → one ≡ other

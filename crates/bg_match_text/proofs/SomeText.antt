@@ -5,7 +5,7 @@ use Rattle.bg_lists.proofs.Words.{All-member}
 use Rattle.bg_base.specs.declared.signature.Control.{Control}
 use Rattle.bg_base.specs.declared.big.Big.{Big}
 use Rattle.bg_base.specs.Bigraph.{IsGround}
-use Rattle.bg_match_text.specs.MatchText.{map_line, decomposition_text, rule_line, IsOccurrenceText, plain, explained, AreOccurrenceTexts, IsRuleText, listed, AreRuleTexts, IsMatchText, none, each}
+use Rattle.bg_match_text.specs.MatchText.{occurrence_line, decomposition_text, matched_rule_line, IsOccurrenceText, plain, explained, AreOccurrenceTexts, IsRuleText, listed, AreRuleTexts, IsMatchText, none, each}
 use Rattle.bg_rules.specs.Decomposition.{Occurs}
 use Rattle.bg_rules.specs.Rules.{RuleParts}
 use Rattle.bg_rules.specs.Solid.{IsPattern}
@@ -14,9 +14,9 @@ use Rattle.bg_rules.proofs.Occurrences.{all_maps, are_occurrences}
 
 module _ (signature : List Control) (host : Big) (ground : IsGround host) where
   an_occurrence : (explain : Bool) (pattern : Big) (map : List ℕ) → Occurs host pattern map → (text : List ℕ) × IsOccurrenceText signature host pattern map explain text
-  an_occurrence false pattern map occurs = (map_line map, plain)
+  an_occurrence false pattern map occurs = (occurrence_line map, plain)
   an_occurrence true pattern map occurs =
-      (map_line map ++ decomposition_text signature occurs.context occurs.edges occurs.parameter, explained occurs.decomposes)
+      (occurrence_line map ++ decomposition_text signature occurs.context occurs.edges occurs.parameter, explained occurs.decomposes)
 
   occurrences : (explain : Bool) (pattern : Big) (maps : List (List ℕ)) → ((map : List ℕ) → Mem map maps → Occurs host pattern map)
       → (text : List ℕ) × AreOccurrenceTexts signature host pattern explain maps text
@@ -31,7 +31,7 @@ module _ (signature : List Control) (host : Big) (ground : IsGround host) where
       let maps = all_maps host rule.redex is ground in
       let all = are_occurrences host rule.redex is ground in
       let texts = occurrences explain rule.redex maps all.occur in
-      (rule_line number rule (length maps) ++ texts.0, listed all texts.1)
+      (matched_rule_line number rule (length maps) ++ texts.0, listed all texts.1)
 
   rules_from : (explain : Bool) (number : ℕ) (rules : List RuleParts) → ((rule : RuleParts) → Mem rule rules → IsPattern rule.redex)
       → (text : List ℕ) × AreRuleTexts signature host explain number rules text

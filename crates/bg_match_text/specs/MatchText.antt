@@ -10,9 +10,9 @@ use Rattle.bg_rules.specs.Rules.{RuleParts}
 use Rattle.bg_rules.specs.Systems.{SystemParts}
 
 -- the line of a map: its numbers, a space between each and the next
-abbrev pub map_line : List ℕ → List ℕ
-map_line [] = codes "\n"
-map_line (number ∷ numbers) = decimal number ++ numbers_line numbers
+abbrev pub occurrence_line : List ℕ → List ℕ
+occurrence_line [] = codes "\n"
+occurrence_line (number ∷ numbers) = decimal number ++ numbers_line numbers
 
 -- the line of the images of edges, each behind a space
 abbrev pub images_line : List ℕ → List ℕ
@@ -25,9 +25,9 @@ decomposition_text signature context images parameter =
 
 -- what is written of an occurrence: its map, and where it is explained the decomposition of the host there
 pub data IsOccurrenceText (signature : List Control) (host pattern : Big) (map : List ℕ) : Bool → List ℕ → Type 0 where
-  plain : IsOccurrenceText signature host pattern map false (map_line map)
+  plain : IsOccurrenceText signature host pattern map false (occurrence_line map)
   explained : {context : Big} {images : List ℕ} {parameter : Big} → Decomposes host pattern map context images parameter
-      → IsOccurrenceText signature host pattern map true (map_line map ++ decomposition_text signature context images parameter)
+      → IsOccurrenceText signature host pattern map true (occurrence_line map ++ decomposition_text signature context images parameter)
 
 -- the texts of the occurrences at these maps, one behind the other
 pub data AreOccurrenceTexts (signature : List Control) (host pattern : Big) (explain : Bool) : List (List ℕ) → List ℕ → Type 0 where
@@ -36,8 +36,8 @@ pub data AreOccurrenceTexts (signature : List Control) (host pattern : Big) (exp
       → AreOccurrenceTexts signature host pattern explain maps texts → AreOccurrenceTexts signature host pattern explain (map ∷ maps) (text ++ texts)
 
 -- the line of a rule: its number, its label, its class, and how many occurrences its redex has
-unfoldable pub rule_line : ℕ → RuleParts → ℕ → List ℕ
-rule_line number rule count =
+unfoldable pub matched_rule_line : ℕ → RuleParts → ℕ → List ℕ
+matched_rule_line number rule count =
     codes "rule " ++ (decimal number ++ (codes " " ++ (label_text rule.label
     ++ (codes " class " ++ (decimal rule.class ++ (codes " count " ++ (decimal count ++ codes "\n")))))))
 
@@ -45,7 +45,7 @@ rule_line number rule count =
 pub data IsRuleText (signature : List Control) (host : Big) (explain : Bool) (number : ℕ) (rule : RuleParts) : List ℕ → Type 0 where
   listed : {maps : List (List ℕ)} {texts : List ℕ} → AreOccurrences host rule.redex maps
       → AreOccurrenceTexts signature host rule.redex explain maps texts
-      → IsRuleText signature host explain number rule (rule_line number rule (length maps) ++ texts)
+      → IsRuleText signature host explain number rule (matched_rule_line number rule (length maps) ++ texts)
 
 -- the texts of the rules, the first with that number, the next with the next
 pub data AreRuleTexts (signature : List Control) (host : Big) (explain : Bool) : ℕ → List RuleParts → List ℕ → Type 0 where

@@ -19,7 +19,7 @@ pub(crate) fn write_rule_line(
     count: usize,
     out: &mut Vec<u8>,
 ) -> Mem<()>
-    ensures ok { OnOk result (out.new.items ≡ out.old.items ++ listing.rule_line number rule.now count) }
+    ensures ok { OnOk result (out.new.items ≡ out.old.items ++ listing.matched_rule_line number rule.now count) }
     ensures err { OnErr result (out.new.items ≡ out.old.items) }
 {
     let mut text = Vec::new(alloc);
@@ -35,7 +35,7 @@ fn put_rule_line(
     count: usize,
     out: &mut Vec<u8>,
 ) -> Mem<()>
-    ensures { OnOk result (out.new.items ≡ out.old.items ++ listing.rule_line number rule.now count) }
+    ensures { OnOk result (out.new.items ≡ out.old.items ++ listing.matched_rule_line number rule.now count) }
 {
     put_rule_name(alloc, number, rule, out)?;
     put_class_and_count(alloc, rule, count, out)?;
@@ -96,7 +96,7 @@ fn put_excess_line(alloc: Global, number: u32, rule: &Rule, most: u32, out: &mut
 
 /// The line of a map, behind what is there. After an error the bytes behind are of no use.
 pub(crate) fn put_map(alloc: Global, map: &[u32], out: &mut Vec<u8>) -> Mem<()>
-    ensures { OnOk result (out.new.items ≡ out.old.items ++ listing.map_line map.now) }
+    ensures { OnOk result (out.new.items ≡ out.old.items ++ listing.occurrence_line map.now) }
 {
     match map.split_first() {
         None => {

@@ -13,7 +13,7 @@ use Rattle.bg_base.proofs.LookUps.{row_from_has, row_from_row_of}
 use Rattle.bg_base.proofs.ClimbLaws.{rooted_parent}
 use Rattle.bg_place.specs.declared.graph.ParentRow.{ParentRow}
 use Rattle.bg_place.specs.Places.{parent_row, row_of, parent_in, climb, ancestors_in}
-use Rattle.bg_place.specs.Rows.{IsSettled}
+use Rattle.bg_place.specs.Rows.{ClimbsEnd}
 use Rattle.bg_place.proofs.ClimbLaws.{climb_region, climb_last}
 
 -- a node has the parent row that its row makes
@@ -76,7 +76,7 @@ module _ (big : Big) (valid : IsValid big) where
       climb_enough big.nodes big.regions (length big.nodes) (suc (length big.nodes)) (Node node) (rooted_at node (ap is_some e)) (omega arith)
 
   -- no climb needs more moves than there are rows
-  pub valid_settled : IsSettled (map parent_row big.nodes)
+  pub valid_settled : ClimbsEnd (map parent_row big.nodes)
   valid_settled =
       record {
         settled = λ some node. rw (length-map big.nodes parent_row) (settled_at node (node_row big.nodes node) refl (rw (length-map big.nodes parent_row) at some));

@@ -8,7 +8,7 @@ use Rattle.bg_base.specs.declared.names.Place.{Place}
 use Rattle.bg_base.specs.declared.names.Place.TheVariants.{Node, Region}
 use Rattle.bg_place.specs.declared.graph.ParentRow.{ParentRow}
 use Rattle.bg_place.specs.Places.{climb, is_within, is_above, node_number}
-use Rattle.bg_place.specs.Rows.{IsRowOf, IsSettled, lies_in, lies_at}
+use Rattle.bg_place.specs.Rows.{IsRowOf, ClimbsEnd, lies_in, lies_at}
 use Rattle.bg_place.proofs.ClimbLaws.{climb_region}
 
 -- ---- climbs and marks
@@ -24,7 +24,7 @@ module _ (rows : List ParentRow) (upper : ℕ) where
   row_number node at row is =
       eqb-true row.node node (member_from_find (λ (r : ParentRow). r.node == node) rows row is.first).1
 
-  module _ (ok : IsSettled rows) where
+  module _ (ok : ClimbsEnd rows) where
     -- a climb from a node meets it and what it lies in
     climb_within : 0 < length rows → (node : ℕ)
         → is_within rows upper node ≡ list_any (λ n. n == upper) (climb rows (length rows) (Node node))

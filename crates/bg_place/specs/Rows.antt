@@ -42,7 +42,7 @@ pub record HasGroups (groups rows : List ParentRow) : Type 0 where
       → filter (λ (row : ParentRow). same_place row.parent place) groups ≡ filter (λ (row : ParentRow). same_place row.parent place) rows
 
 -- no climb needs more moves than there are rows
-pub record IsSettled (rows : List ParentRow) : Type 0 where
+pub record ClimbsEnd (rows : List ParentRow) : Type 0 where
   pub settled : 0 < length rows → (node : ℕ) → climb rows (suc (length rows)) (Node node) ≡ climb rows (length rows) (Node node)
 
 -- the place is that node, or lies in it
@@ -57,6 +57,6 @@ lies_at rows upper at = is_within rows upper (unwrap_or (option_map node_number 
 -- what a forest keeps at hand for its places
 pub record IsForest (places : Places) (children sites : List ParentRow) : Type 0 where
   pub ascending : IsStrictlySortedBy parent_cmp places.parents
-  pub settled : IsSettled places.parents
+  pub settled : ClimbsEnd places.parents
   pub children_are : HasGroups children places.parents
   pub sites_are : HasGroups sites (numbered 0 places.sites)

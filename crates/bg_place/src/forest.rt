@@ -4,7 +4,7 @@ ghost use Rattle.std.specs.List.Sorted.{IsStrictlySortedBy};
 ghost use Rattle.std.specs.Ordering.{nat_cmp};
 ghost use Rattle.bg_base.specs.Bigraph.{IsValid};
 ghost use Rattle.bg_place.specs.Places as defined;
-ghost use Rattle.bg_place.specs.Rows.{parent_cmp, IsSettled};
+ghost use Rattle.bg_place.specs.Rows.{parent_cmp, ClimbsEnd};
 
 use crate::climb::{depth_in, is_above, parent_in};
 use crate::graph::{places_of, position};
@@ -47,7 +47,7 @@ impl Forest {
 
     fn of_places(alloc: Global, places: Places) -> Mem<Forest>
         requires ascending { IsStrictlySortedBy parent_cmp places.parents }
-        requires settled { IsSettled places.parents }
+        requires settled { ClimbsEnd places.parents }
         ensures { IfOk result (λ forest. forest ≡ places) }
     {
         let rows = places.parents.copy(alloc)?.into_vec();

@@ -4,11 +4,11 @@ ghost use Rattle.std.specs.Prelude.{◌≡◌, ◌<◌, length, map, filter, Non
 ghost use Rattle.std.specs.List.Sorted.{IsStrictlySortedBy};
 ghost use Rattle.bg_place.specs.Places as defined;
 ghost use Rattle.bg_base.specs.Climbing.{AreMarks};
-ghost use Rattle.bg_place.specs.Rows.{parent_cmp, IsRowOf, IsSettled, lies_in, lies_at};
+ghost use Rattle.bg_place.specs.Rows.{parent_cmp, IsRowOf, ClimbsEnd, lies_in, lies_at};
 
 use crate::ParentRow;
 use crate::graph::position;
-use bg_base::{Climbable, Found, Place, marked_value, no_marks};
+use bg_base::{AtFoothold, Climbable, Place, marked_value, no_marks};
 use bg_lists::Mem;
 use std::alloc::Global;
 
@@ -35,7 +35,7 @@ impl<'a> Climbable for Within<'a> {
 
     type Value = bool;
 
-    ghost is_foothold = { λ within _. IsStrictlySortedBy parent_cmp within.rows.now × IsSettled within.rows.now };
+    ghost is_foothold = { λ within _. IsStrictlySortedBy parent_cmp within.rows.now × ClimbsEnd within.rows.now };
 
     ghost value = { λ within place. lies_in within.rows.now within.upper place };
 
@@ -43,19 +43,19 @@ impl<'a> Climbable for Within<'a> {
 
     ghost height = { λ within place. length (defined.climb within.rows.now (length within.rows.now) place) };
 
-    fn find(&self, place: Place) -> Found<bool, Place> {
+    fn find(&self, place: Place) -> AtFoothold<bool, Place> {
         let Place::Node(node) = place else {
-            return Found::Value(false);
+            return AtFoothold::Value(false);
         };
         if node == self.upper {
-            return Found::Value(true);
+            return AtFoothold::Value(true);
         }
         match row_at(self.rows, node) {
-            Some((at, row)) => Found::Row {
+            Some((at, row)) => AtFoothold::Row {
                 at,
                 above: row.parent,
             },
-            None => Found::Value(false),
+            None => AtFoothold::Value(false),
         }
     }
 }
@@ -68,7 +68,7 @@ fn collect_within(
     node: u32,
 ) -> Mem<Vec<u32>>
     requires ascending { IsStrictlySortedBy parent_cmp rows.now }
-    requires settled { IsSettled rows.now }
+    requires settled { ClimbsEnd rows.now }
     requires marks { AreMarks (lies_at rows.now node) marks.old }
     ensures { IfOk result (λ nodes. nodes.items ≡ map defined.node_number (filter (λ row. defined.is_within rows.now node row.node) rows.now)) }
 {
@@ -85,7 +85,7 @@ fn collect_within(
 /// The node and all that lie in it, where no climb needs more moves than there are rows.
 pub fn nodes_within(alloc: Global, rows: &[ParentRow], node: u32) -> Mem<Vec<u32>>
     requires ascending { IsStrictlySortedBy parent_cmp rows.now }
-    requires settled { IsSettled rows.now }
+    requires settled { ClimbsEnd rows.now }
     ensures { IfOk result (λ nodes. nodes.items ≡ map defined.node_number (filter (λ row. defined.is_within rows.now node row.node) rows.now)) }
 {
     let mut marks = no_marks(alloc, rows.len())?;

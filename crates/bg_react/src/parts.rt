@@ -7,7 +7,7 @@ ghost use Rattle.bg_base.specs.Climbing.{node_at, depth};
 ghost use Rattle.bg_rules.specs.Instantiation.{part};
 ghost use Rattle.bg_react.specs.Parts.{lies_under, region_above, AreMarked, AreMembers, member_region, member_row};
 
-use bg_base::{Big, Climbable, Found, NodeRow, Place, find_node_at, marked_value, no_marks};
+use bg_base::{AtFoothold, Big, Climbable, NodeRow, Place, find_node_at, marked_value, no_marks};
 use bg_lists::{Duplicate, Mem};
 use std::alloc::Global;
 use std::marker::Model;
@@ -95,15 +95,15 @@ impl<'a> Climbable for Under<'a> {
 
     ghost height = { λ under place. depth under.parameter.now place };
 
-    fn find(&self, place: Place) -> Found<u32, Place> {
+    fn find(&self, place: Place) -> AtFoothold<u32, Place> {
         match place {
-            Place::Region(region) => Found::Value(region),
+            Place::Region(region) => AtFoothold::Value(region),
             Place::Node(node) => match find_node_at(&self.parameter.nodes, node) {
-                Some((at, row)) => Found::Row {
+                Some((at, row)) => AtFoothold::Row {
                     at,
                     above: row.parent,
                 },
-                None => Found::Value(0),
+                None => AtFoothold::Value(0),
             },
         }
     }

@@ -1,6 +1,6 @@
 //! A host that workers share.
 ghost use Rattle.std.specs.Prelude.{◌≡◌, ◌≤◌, length, IfOk, OnOk, OnErr};
-ghost use Rattle.bg_cond.specs.Boards.{Shows, IsNews, IsFound, IsCommitted};
+ghost use Rattle.bg_cond.specs.Boards.{IsViewOf, IsNews, IsFound, IsCommitted};
 ghost use Rattle.bg_cond.specs.Steps.{IsRun};
 ghost use Rattle.bg_seats.specs.Histories.{GrowsByOthers, new_passes};
 ghost use Rattle.bg_shared.specs.Shared.{IsHistory, OfTable, BeginsWithEach};
@@ -76,7 +76,7 @@ impl<N: HostName> SharedHost<N> {
         requires { pass.old.table ≡ N.table }
         ensures pass { pass.new ≡ record pass.old { seen = pass.new.seen } }
         ensures grows { GrowsByOthers pass.old.worker pass.old.seen pass.new.seen }
-        ensures shows { IfOk result (λ view. Shows N.system N.limit pass.new.seen view) }
+        ensures shows { IfOk result (λ view. IsViewOf N.system N.limit pass.new.seen view) }
         ensures history { OnOk result (IsHistory N.system N.limit N.passes pass.new.seen) }
         ensures no_memory { OnErr result (pass.new ≡ pass.old) }
     {

@@ -1,6 +1,6 @@
 //! What the lock of a shared host keeps.
 ghost use Rattle.std.specs.Prelude.{◌≡◌, ◌≤◌, length, drop, IfOk, OnOk, OnErr};
-ghost use Rattle.bg_cond.specs.Boards.{Shows, IsNews, IsFound, IsCommitted};
+ghost use Rattle.bg_cond.specs.Boards.{IsViewOf, IsNews, IsFound, IsCommitted};
 ghost use Rattle.bg_cond.specs.Drawn.{entry_of};
 ghost use Rattle.bg_cond.specs.Steps.{IsRun};
 ghost use Rattle.bg_seats.specs.Histories.{GrowsByOthers};
@@ -44,7 +44,7 @@ impl<N: HostName> Core<N> {
         ensures same { self.new ≡ self.old }
         ensures pass { OnOk result (pass.new ≡ record pass.old { seen = self.old.journal }) }
         ensures grows { OnOk result (GrowsByOthers pass.old.worker pass.old.seen self.old.journal) }
-        ensures shows { IfOk result (λ view. Shows N.system N.limit self.old.journal view) }
+        ensures shows { IfOk result (λ view. IsViewOf N.system N.limit self.old.journal view) }
         ensures history { IsHistory N.system N.limit N.passes self.old.journal }
         ensures no_memory { OnErr result (pass.new ≡ pass.old) }
     {

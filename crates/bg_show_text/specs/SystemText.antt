@@ -26,8 +26,8 @@ condition_text signature condition =
     sign_text condition.positive ++ (codes " " ++ (side_text condition.side ++ (codes "\n" ++ big_text signature condition.pattern)))
 
 -- the line of a map: its entries, each behind a space
-abbrev pub map_line : List ℕ → List ℕ
-map_line map = codes "map" ++ numbers_line map
+abbrev pub instantiation_line : List ℕ → List ℕ
+instantiation_line map = codes "map" ++ numbers_line map
 
 -- the line of a rule: its number, its label and its class
 unfoldable pub rule_line : ℕ → RuleParts → List ℕ
@@ -38,7 +38,7 @@ rule_line number rule =
 unfoldable pub rule_text : List Control → ℕ → RuleParts → List ℕ
 rule_text signature number rule =
     rule_line number rule ++ (codes "redex\n" ++ (big_text signature rule.redex ++ (codes "reactum\n" ++ (big_text signature rule.reactum
-    ++ (map_line rule.map ++ section_text (codes "conditions ") (condition_text signature) rule.conditions)))))
+    ++ (instantiation_line rule.map ++ section_text (codes "conditions ") (condition_text signature) rule.conditions)))))
 
 -- each rule in order, the first with that number, the next with the next
 abbrev pub rules_text : List Control → ℕ → List RuleParts → List ℕ

@@ -64,7 +64,7 @@ fn put_reactum(alloc: Global, signature: &Signature, rule: &Rule, out: &mut Vec<
 }
 
 fn put_map(alloc: Global, rule: &Rule, out: &mut Vec<u8>) -> Mem<()>
-    ensures { OnOk result (out.new.items ≡ out.old.items ++ listing.map_line rule.now.map) }
+    ensures { OnOk result (out.new.items ≡ out.old.items ++ listing.instantiation_line rule.now.map) }
 {
     out.extend_from_slice(b"map")?;
     write_numbers(alloc, rule.map(), out)

@@ -21,7 +21,7 @@ use Rattle.bg_values.specs.declared.refusal.Refusal.{Refusal}
 use Rattle.bg_values.specs.Lowering.{behind}
 use Rattle.bg_values.specs.declared.refusal.Stop.{Stop}
 use Rattle.bg_values.specs.declared.refusal.Stop.TheVariants.{Refused, OutOfMemory}
-use Rattle.bg_values.specs.Names.{Entry}
+use Rattle.bg_values.specs.Names.{NamedValue}
 use Rattle.bg_values.specs.Outcome.{◌>>=◌, Stops}
 
 -- what was read, by its code
@@ -35,7 +35,7 @@ read_as code (Ok f) made is = record { found = f; is = refl; coded = cc }
 read_as code (Err refusal) made is = absurd cc
 
 -- what a rule without formals is evaluated in
-pub set_so : (controls : List (Entry ControlEntry)) (definitions : List (List Operation)) (d : Defined) → controls ≡ d.controls
+pub set_so : (controls : List (NamedValue ControlEntry)) (definitions : List (List Operation)) (d : Defined) → controls ≡ d.controls
     → definitions ≡ map code_of d.expressions
     → ◌≡◌ {A = SettingParts} (record { controls = controls; definitions = definitions; values = [] }) (coded_setting (setting_of d))
 set_so controls definitions d controls_are definitions_are = λ t. record { controls = controls_are t; definitions = definitions_are t; values = [] }

@@ -34,7 +34,7 @@ use Rattle.bg_terms.proofs.Numbered.{bound, tested, untested}
 use Rattle.bg_terms.proofs.ShapesFit.{entered_fits}
 use Rattle.bg_values.proofs.Bindings.{ok_same}
 use Rattle.bg_values.specs.declared.refusal.Refusal.{Refusal}
-use Rattle.bg_values.specs.Names.{Entry, name_number}
+use Rattle.bg_values.specs.Names.{NamedValue, name_number}
 use Rattle.bg_values.specs.Parameters.{parameter_values, name_token}
 use Rattle.bg_values.specs.Reading.{number_token, number_at}
 use Rattle.bg_values.specs.Scopes.{ScopeParts, spelling}
@@ -57,7 +57,7 @@ as_many_more xs ys x y same = omega (arith, same, length-append xs (x ∷ []), l
 -- ---- what an Ok says of a name and of an arity
 
 -- the word that the token spells is new in the table
-record IsNew {T : Type 0} (text : ScopeParts) (entries : List (Entry T)) (token : ℕ) (word : List ℕ) : Type 0 where
+record IsNew {T : Type 0} (text : ScopeParts) (entries : List (NamedValue T)) (token : ℕ) (word : List ℕ) : Type 0 where
   spelled : spelling text token ≡ word
   new : is_none (name_number word entries) ≡ true
 
@@ -65,7 +65,7 @@ none_there : {A B : Type 0} (o : Option A) (r : Result B Refusal) (e : Refusal) 
 none_there (Some x) r e y is = absurd cc
 none_there None r e y is = refl
 
-is_new : {T : Type 0} (text : ScopeParts) (entries : List (Entry T)) (token : ℕ) (word : List ℕ) → new_word text entries token ≡ Ok word
+is_new : {T : Type 0} (text : ScopeParts) (entries : List (NamedValue T)) (token : ℕ) (word : List ℕ) → new_word text entries token ≡ Ok word
     → IsNew text entries token word
 is_new text entries token word is =
     let same = ok_same (untested (is_some (name_number (spelling text token) entries)) (Ok (spelling text token)) _ word is) in
@@ -152,7 +152,7 @@ module _ (before : Defined) (sound : IsSound before) (word : List ℕ) (none : i
   shape_sound at formals shape named small after is =
       let entry : ControlEntry = record { formals = formals; shape = shape } in
       let longer = before.controls ++ (word, entry) ∷ [] in
-      let more : shapes_of longer ≡ shapes_of before.controls ++ shape ∷ [] = map-append (λ (e : Entry ControlEntry). e.1.shape) before.controls ((word, entry) ∷ []) in
+      let more : shapes_of longer ≡ shapes_of before.controls ++ shape ∷ [] = map-append (λ (e : NamedValue ControlEntry). e.1.shape) before.controls ((word, entry) ∷ []) in
       let are = read_control before.controls before.expressions word entry sound.read none named small in
       let b = bound (entered_at_once at formals shape before) (λ (t : Defined). Ok (record t { controls = t.controls ++ (word, entry) ∷ [] })) after is in
       let so = entered_once (shapes_of longer) (controls_shapes longer are.table) at formals shape before b.found

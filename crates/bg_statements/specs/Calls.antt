@@ -15,7 +15,7 @@ use Rattle.bg_statements.specs.Sound.{IsSound}
 use Rattle.bg_terms.specs.declared.shape.ControlEntry.{ControlEntry}
 use Rattle.bg_values.specs.declared.refusal.Refusal.{Refusal}
 use Rattle.bg_values.specs.declared.refusal.Stop.{Stop}
-use Rattle.bg_values.specs.Names.{Entry}
+use Rattle.bg_values.specs.Names.{NamedValue}
 use Rattle.bg_values.specs.Lowering.{behind}
 use Rattle.bg_values.specs.Outcome.{◌>>=◌, Goes, Stops}
 
@@ -63,12 +63,12 @@ coded_setting s = record { controls = s.controls; definitions = map code_of s.ex
 
 -- what is kept of the statements: each bigraph and each rule as its code
 pub record Kept : Type 0 where
-  pub controls : List (Entry ControlEntry)
-  pub bigraphs : List (Entry ℕ)
+  pub controls : List (NamedValue ControlEntry)
+  pub bigraphs : List (NamedValue ℕ)
   pub codes : List (List Operation)
-  pub rules : List (Entry ℕ)
+  pub rules : List (NamedValue ℕ)
   pub rule_codes : List RuleCode
-  pub parameters : List (Entry (List Value))
+  pub parameters : List (NamedValue (List Value))
   pub signature : List Control
 
 -- what is kept of these definitions

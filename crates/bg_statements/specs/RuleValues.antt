@@ -20,12 +20,12 @@ use Rattle.bg_terms.specs.Read.{shapes_of}
 use Rattle.bg_terms.specs.Terms.{Term}
 use Rattle.bg_values.specs.declared.refusal.Refusal.{Refusal}
 use Rattle.bg_values.specs.declared.refusal.Cause.TheVariants.{SidesDiffer, BadMap, NotSolid}
-use Rattle.bg_values.specs.Names.{Entry}
+use Rattle.bg_values.specs.Names.{NamedValue}
 use Rattle.bg_values.specs.Outcome.{◌>>=◌, refused}
 
 -- what expressions are evaluated in: the controls, the definitions, and the values of the formals
 pub record Setting : Type 0 where
-  pub controls : List (Entry ControlEntry)
+  pub controls : List (NamedValue ControlEntry)
   pub expressions : List Expression
   pub values : List Value
 

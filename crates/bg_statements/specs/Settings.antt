@@ -11,11 +11,11 @@ use Rattle.bg_base.specs.declared.labels.Value.{Value}
 use Rattle.bg_code.specs.declared.operation.Operation.{Operation}
 use Rattle.bg_rules.specs.Rules.{IsNumberedFromZero}
 use Rattle.bg_terms.specs.declared.shape.ControlEntry.{ControlEntry}
-use Rattle.bg_values.specs.Names.{Entry}
+use Rattle.bg_values.specs.Names.{NamedValue}
 
 -- the controls, the definitions by their code, and the values of the formals
 pub record SettingParts : Type 0 where
-  pub controls : List (Entry ControlEntry)
+  pub controls : List (NamedValue ControlEntry)
   pub definitions : List (List Operation)
   pub values : List Value
 

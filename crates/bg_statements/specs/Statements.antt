@@ -31,31 +31,31 @@ use Rattle.bg_terms.specs.Values.{entered}
 use Rattle.bg_values.specs.declared.refusal.Refusal.{Refusal}
 use Rattle.bg_values.specs.declared.refusal.LimitWord.TheVariants.{Arity}
 use Rattle.bg_values.specs.declared.refusal.Cause.TheVariants.{DuplicateName, TooLarge}
-use Rattle.bg_values.specs.Names.{Entry, name_number}
+use Rattle.bg_values.specs.Names.{NamedValue, name_number}
 use Rattle.bg_values.specs.Outcome.{◌>>=◌, refused}
 use Rattle.bg_values.specs.Parameters.{parameter_values, name_token}
 use Rattle.bg_values.specs.Reading.{number_at, number_token}
 use Rattle.bg_values.specs.Scopes.{ScopeParts, spelling}
 
 -- the word that the token spells, which no name of the space is yet
-abbrev pub new_word : {T : Type 0} → ScopeParts → List (Entry T) → ℕ → Result (List ℕ) Refusal
+abbrev pub new_word : {T : Type 0} → ScopeParts → List (NamedValue T) → ℕ → Result (List ℕ) Refusal
 new_word text entries token =
     if is_some (name_number (spelling text token) entries) then refused DuplicateName token else Ok (spelling text token)
 
 -- the formals with one more, which does not repeat
-abbrev pub with_formal : ScopeParts → ℕ → List (Entry (Unit {0})) → Result (List (Entry (Unit {0}))) Refusal
+abbrev pub with_formal : ScopeParts → ℕ → List (NamedValue (Unit {0})) → Result (List (NamedValue (Unit {0}))) Refusal
 with_formal text token formals = new_word text formals token >>= λ word. Ok (formals ++ (word, tt) ∷ [])
 
 -- the formals with those of the items
-abbrev pub with_formals : ScopeParts → List SynMoreLowItem → List (Entry (Unit {0})) → Result (List (Entry (Unit {0}))) Refusal
+abbrev pub with_formals : ScopeParts → List SynMoreLowItem → List (NamedValue (Unit {0})) → Result (List (NamedValue (Unit {0}))) Refusal
 with_formals text = in_turn (λ (item : SynMoreLowItem). with_formal text item.part2)
 
 -- the first formal and those of the items
-abbrev pub listed_formals : ScopeParts → ℕ → List SynMoreLowItem → Result (List (Entry (Unit {0}))) Refusal
+abbrev pub listed_formals : ScopeParts → ℕ → List SynMoreLowItem → Result (List (NamedValue (Unit {0}))) Refusal
 listed_formals text first items = with_formal text first [] >>= with_formals text items
 
 -- the formals of a statement
-abbrev pub formals_read : ScopeParts → SynFormals → Result (List (Entry (Unit {0}))) Refusal
+abbrev pub formals_read : ScopeParts → SynFormals → Result (List (NamedValue (Unit {0}))) Refusal
 formals_read text (formals_ways.Way1 bracket first more end) = listed_formals text first more.items
 formals_read text formals_ways.Way2 = Ok []
 

@@ -18,7 +18,7 @@ use Rattle.bg_trees.specs.declared.models.SynStmtsItem.{SynStmtsItem}
 use Rattle.bg_statements.specs.RuleValues.{Setting, rule_valued, solid_at, whole_value}
 use Rattle.bg_values.specs.declared.refusal.Refusal.{Refusal}
 use Rattle.bg_values.specs.declared.refusal.Cause.TheVariants.{NotGround, UnknownName}
-use Rattle.bg_values.specs.Names.{Entry}
+use Rattle.bg_values.specs.Names.{NamedValue}
 use Rattle.bg_values.specs.Outcome.{◌>>=◌, refused, there_or}
 use Rattle.bg_values.specs.Scopes.{ScopeParts}
 
@@ -29,9 +29,9 @@ defined_by text statements parameters = with_statements text statements nothing 
 -- the names that the block may use: the bigraphs and the rules, each with how many formals it has, and the parameters, each
 -- with its values
 pub record NameSpacesParts : Type 0 where
-  pub bigraphs : List (Entry ℕ)
-  pub rules : List (Entry ℕ)
-  pub parameters : List (Entry (List Value))
+  pub bigraphs : List (NamedValue ℕ)
+  pub rules : List (NamedValue ℕ)
+  pub parameters : List (NamedValue (List Value))
 
 abbrev pub spaces_of : Defined → NameSpacesParts
 spaces_of d = record { bigraphs = d.bigraphs; rules = d.rules; parameters = d.parameters }

@@ -27,7 +27,7 @@ ghost use Rattle.bg_terms.specs.Shapes.{FitsShapes};
 ghost use Rattle.bg_terms.specs.Trees.{e_read};
 ghost use Rattle.bg_terms.specs.Values.{Reached, value};
 ghost use Rattle.bg_values.specs.declared.refusal.Cause.TheVariants.{UnknownName};
-ghost use Rattle.bg_values.specs.Names.{Entry};
+ghost use Rattle.bg_values.specs.Names.{NamedValue};
 ghost use Rattle.bg_values.specs.Outcome.{refused};
 ghost use Rattle.bg_values.specs.Scopes.{ScopeParts};
 
@@ -67,7 +67,7 @@ pub fn numbers_of_names_have_expressions()
 /// Behind sound definitions, the bigraph that an expression of the text comes to is valid under the signature reached,
 /// whose controls are those of the text with some arguments.
 pub fn expressions_fit_the_signature_reached()
-    ensures { (d : Defined) → IsSound d → (text : ScopeParts) (formals : List (Entry (Unit {0}))) (tree : SynE) (expression : Expression)
+    ensures { (d : Defined) → IsSound d → (text : ScopeParts) (formals : List (NamedValue (Unit {0}))) (tree : SynE) (expression : Expression)
         → (e_read tree).1 (visible_with text formals d) ≡ Ok expression
         → (env : List Value) (depth nodes edges terms : ℕ) (big : Big) (after : Reached)
         → value depth (expand (shapes_of d.controls) (meanings_of (shapes_of d.controls) d.expressions) env expression)

@@ -2,7 +2,7 @@
 use Rattle.std.proofs.Common.{◌≡◌, ℕ, ◌<◌, ◌≤◌, List, [], length, Result, Ok, Err, IsErrAnd, IfErr, sym, subst}
 use Rattle.bg_text.specs.declared.token.Token.{Token}
 use Rattle.bg_text.specs.declared.token.TokenKind.TheVariants as kinds_of_token
-use Rattle.bg_grammar.specs.Grammar.{Step}
+use Rattle.bg_grammar.specs.Grammar.{GrammarStep}
 use Rattle.bg_grammar.specs.Faults.{unexpected, too_deep, is_unexpected, is_too_deep, IsOnlyDerivation}
 use Rattle.bg_grammar.specs.Machine.{Runs, StopsUnexpected, StopsDeep, stuck_done}
 use Rattle.bg_grammar.proofs.Stops.{stopped_unexpected, stopped_deep, accepted_once}
@@ -33,7 +33,7 @@ first_fault ts f (fails_unexpected {t = t} s) = unexpected_at ts t (s [])
 first_fault ts f (fails_deep {t = t} s) = too_deep_at ts t (s [])
 first_fault ts f fails_memory = tt
 
-pub fault_more : (ts : List Token) (n : ℕ) (ss : List Step) → Moves ts 0 (wants 0 symbols.Model) ss n → n < length ts → IsSyntaxFault ts (Unexpected n)
+pub fault_more : (ts : List Token) (n : ℕ) (ss : List GrammarStep) → Moves ts 0 (wants 0 symbols.Model) ss n → n < length ts → IsSyntaxFault ts (Unexpected n)
 fault_more ts n ss a below = unexpected_at ts n (record {
   steps = ss;
   rest = _;
@@ -42,7 +42,7 @@ fault_more ts n ss a below = unexpected_at ts n (record {
   stuck = stuck_done;
 })
 
-derived : (ts : List Token) (n : ℕ) (ss : List Step) → Moves ts 0 (wants 0 symbols.Model) ss n → length ts ≤ n → IsOnlyDerivation grammar 0 most_levels (kinds ts) ss
+derived : (ts : List Token) (n : ℕ) (ss : List GrammarStep) → Moves ts 0 (wants 0 symbols.Model) ss n → length ts ≤ n → IsOnlyDerivation grammar 0 most_levels (kinds ts) ss
 unfolding plan
 derived ts n ss a beyond = accepted_once grammar plan plan_fits most_levels (kinds ts) ss
     (record { token = n; runs = subst (λ z. Runs grammar plan most_levels 0 (kinds ts) (wants 0 symbols.Model) ss n z []) (kinds_end ts n beyond) (a.runs []) })
@@ -51,7 +51,7 @@ pub tree_of : (ts : List Token) (n : ℕ) (tree : SynModel) → Moves ts 0 (want
 tree_of ts n tree a beyond = let d = derived ts n (model_steps tree 0) a beyond in record { derivation = d.derivation; shallow = d.shallow }
 
 pub only_tree_of : (ts : List Token) (n : ℕ) (tree : SynModel) → Moves ts 0 (wants 0 symbols.Model) (model_steps tree 0) n → length ts ≤ n
-    → (steps : List Step) → DerivesModel ts steps → steps ≡ model_steps tree 0
+    → (steps : List GrammarStep) → DerivesModel ts steps → steps ≡ model_steps tree 0
 only_tree_of ts n tree a beyond = (derived ts n (model_steps tree 0) a beyond).once
 
 -- what `?` leaves

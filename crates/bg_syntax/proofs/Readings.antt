@@ -3,7 +3,7 @@ use Rattle.std.proofs.Common.{◌≡◌, ℕ, zero, suc, ◌+◌, ◌<◌, ◌�
 use Rattle.bg_lists.proofs.Places.{At-get_or}
 use Rattle.bg_text.specs.declared.token.Token.{Token}
 use Rattle.bg_text.specs.declared.token.TokenKind.{TokenKind}
-use Rattle.bg_grammar.specs.Grammar.{Part, kind, symbol, Expected, expect, Step, opened, taken, ways_of, under, finished, kinds_of}
+use Rattle.bg_grammar.specs.Grammar.{Part, kind, symbol, Expected, expect, GrammarStep, opened, taken, ways_of, under, finished, kinds_of}
 use Rattle.bg_grammar.specs.Plan.{row}
 use Rattle.bg_grammar.specs.Machine.{look, Runs, stay, step_kind, step_symbol, IsStuck, stuck_end, stuck_kind, stuck_symbol, StopsUnexpected, StopsDeep}
 use Rattle.bg_grammar.proofs.Plans.{named_below}
@@ -63,10 +63,10 @@ kinds_length (t ∷ ts) = ap suc (kinds_length ts)
 
 -- ---- the machine goes on after it has run
 
-stops_after : {n m t : ℕ} {ks ls : List ℕ} {es fs : List Expected} {ss : List Step} → Runs grammar plan most_levels n ks es ss m ls fs → StopsUnexpected grammar plan most_levels m ls fs t → StopsUnexpected grammar plan most_levels n ks es t
+stops_after : {n m t : ℕ} {ks ls : List ℕ} {es fs : List Expected} {ss : List GrammarStep} → Runs grammar plan most_levels n ks es ss m ls fs → StopsUnexpected grammar plan most_levels m ls fs t → StopsUnexpected grammar plan most_levels n ks es t
 stops_after {ss} r w = record { steps = ss ++ w.steps; rest = w.rest; left = w.left; runs = run_on grammar plan plan_fits most_levels r w.runs; stuck = w.stuck }
 
-deep_after : {n m t : ℕ} {ks ls : List ℕ} {es fs : List Expected} {ss : List Step} → Runs grammar plan most_levels n ks es ss m ls fs → StopsDeep grammar plan most_levels m ls fs t → StopsDeep grammar plan most_levels n ks es t
+deep_after : {n m t : ℕ} {ks ls : List ℕ} {es fs : List Expected} {ss : List GrammarStep} → Runs grammar plan most_levels n ks es ss m ls fs → StopsDeep grammar plan most_levels m ls fs t → StopsDeep grammar plan most_levels n ks es t
 deep_after {ss} r w = record { steps = ss ++ w.steps; token = w.token; rest = w.rest; depth = w.depth; left = w.left; runs = run_on grammar plan plan_fits most_levels r w.runs; deep = w.deep }
 
 -- ---- one token
@@ -122,7 +122,7 @@ fails_symbol ts n k entry depth head e f z = fails_unexpected (λ es. record {
 pub moves_none : (ts : List Token) (n : ℕ) → n ≤ length ts → Moves ts n [] [] n
 moves_none ts n within = record { runs = λ es. stay; ahead = omega arith; within = within }
 
-pub moves_next : {ts : List Token} {n m o : ℕ} {q : Expected} {w : List Expected} {ss us : List Step} → Moves ts n (q ∷ []) ss m → Moves ts m w us o → Moves ts n (q ∷ w) (ss ++ us) o
+pub moves_next : {ts : List Token} {n m o : ℕ} {q : Expected} {w : List Expected} {ss us : List GrammarStep} → Moves ts n (q ∷ []) ss m → Moves ts m w us o → Moves ts n (q ∷ w) (ss ++ us) o
 moves_next {w} a b = record {
   runs = λ es. run_on grammar plan plan_fits most_levels (a.runs (w ++ es)) (b.runs es);
   ahead = let h = a.ahead in let l = b.ahead in omega arith;
@@ -135,7 +135,7 @@ way s i = get_or (ways_of grammar s) i []
 same_number : (e j i : ℕ) → e ≡ suc j → j ≡ i → e ≡ suc i
 same_number e j i p q = omega arith
 
-pub moves_open : {ts : List Token} {n m j : ℕ} {head : Symbol} {ss : List Step} (depth i : ℕ) → Chooses ts n head j → j ≡ i → Moves ts n (under grammar depth (symbol_number head) (way (symbol_number head) i)) ss m
+pub moves_open : {ts : List Token} {n m j : ℕ} {head : Symbol} {ss : List GrammarStep} (depth i : ℕ) → Chooses ts n head j → j ≡ i → Moves ts n (under grammar depth (symbol_number head) (way (symbol_number head) i)) ss m
     → Moves ts n (wants depth head) (opened (symbol_number head) i ∷ ss) m
 moves_open {j} {head} depth i c same a = record {
   runs = λ es. step_symbol (same_number _ j i c.entry same) (At-get_or (ways_of grammar (symbol_number head)) i [] (let h = c.known in omega arith)) (a.runs es);
@@ -148,7 +148,7 @@ fails_here w (fails_unexpected s) = fails_unexpected (λ es. s (w ++ es))
 fails_here w (fails_deep s) = fails_deep (λ es. s (w ++ es))
 fails_here w fails_memory = fails_memory
 
-pub fails_next : {ts : List Token} {n m : ℕ} {q : Expected} {w : List Expected} {ss : List Step} {f : SyntaxFault} → Moves ts n (q ∷ []) ss m → Fails ts m w f → Fails ts n (q ∷ w) f
+pub fails_next : {ts : List Token} {n m : ℕ} {q : Expected} {w : List Expected} {ss : List GrammarStep} {f : SyntaxFault} → Moves ts n (q ∷ []) ss m → Fails ts m w f → Fails ts n (q ∷ w) f
 fails_next {w} a (fails_unexpected s) = fails_unexpected (λ es. stops_after (a.runs (w ++ es)) (s es))
 fails_next {w} a (fails_deep s) = fails_deep (λ es. deep_after (a.runs (w ++ es)) (s es))
 fails_next a fails_memory = fails_memory
@@ -183,15 +183,15 @@ fails_open depth i c same (fails_unexpected s) = fails_unexpected (λ es. stops_
 fails_open depth i c same (fails_deep s) = fails_deep (λ es. deep_opened depth i c same es (s es))
 fails_open depth i c same fails_memory = fails_memory
 
-pub moves_same : {ts : List Token} {n m : ℕ} {w : List Expected} {ss us : List Step} → us ≡ ss → Moves ts n w ss m → Moves ts n w us m
+pub moves_same : {ts : List Token} {n m : ℕ} {w : List Expected} {ss us : List GrammarStep} → us ≡ ss → Moves ts n w ss m → Moves ts n w us m
 moves_same {ts} {n} {m} {w} e a = subst (λ z. Moves ts n w z m) (sym e) a
 
 -- what `?` leaves
-pub err_exit : {X : Type 0} {ts : List Token} {n : ℕ} {w : List Expected} {e : SyntaxFault} (steps : X → List Step) (m : ℕ) (r : Result X SyntaxFault) → IsErrAnd r (λ f. f ≡ e) → Fails ts n w e → ReadsSymbol steps ts n w m r
+pub err_exit : {X : Type 0} {ts : List Token} {n : ℕ} {w : List Expected} {e : SyntaxFault} (steps : X → List GrammarStep) (m : ℕ) (r : Result X SyntaxFault) → IsErrAnd r (λ f. f ≡ e) → Fails ts n w e → ReadsSymbol steps ts n w m r
 err_exit steps m (Ok x) h f = absurd h
 err_exit {ts} {n} {w} steps m (Err g) h f = subst (λ z. Fails ts n w z) (sym h) f
 
-pub err_item : {X : Type 0} {ts : List Token} {e : SyntaxFault} (steps : X → List Step) (n depth : ℕ) (head : Symbol) (end : List Step) (m : ℕ) (r : Result (Option X) SyntaxFault) → IsErrAnd r (λ f. f ≡ e)
+pub err_item : {X : Type 0} {ts : List Token} {e : SyntaxFault} (steps : X → List GrammarStep) (n depth : ℕ) (head : Symbol) (end : List GrammarStep) (m : ℕ) (r : Result (Option X) SyntaxFault) → IsErrAnd r (λ f. f ≡ e)
     → Fails ts n (wants depth head) e → ReadsItem steps ts n depth head end m r
 err_item steps n depth head end m (Ok x) h f = absurd h
 err_item {ts} steps n depth head end m (Err g) h f = subst (λ z. Fails ts n (wants depth head) z) (sym h) f
@@ -221,7 +221,7 @@ pub map_pushed : {X Y : Type 0} (f : X → Y) (xs : List X) (x : X) → map f (x
 map_pushed f [] x = refl
 map_pushed f (y ∷ xs) x = ap (λ z. f y ∷ z) (map_pushed f xs x)
 
-pub items_end : (end : Step) (fs : List Steps) (d : ℕ) → in_turn end fs d ≡ items_before fs d ++ (end ∷ [])
+pub items_end : (end : GrammarStep) (fs : List Steps) (d : ℕ) → in_turn end fs d ≡ items_before fs d ++ (end ∷ [])
 unfolding in_turn items_before
 items_end end [] d = refl
 items_end end (f ∷ fs) d = ap (λ z. f d ++ z) (items_end end fs d) ∙ sym (append_assoc (f d) (items_before fs d) (end ∷ []))
@@ -234,10 +234,10 @@ pub gathered_none : {X : Type 0} (item_steps : X → Steps) (ts : List Token) (n
 unfolding items_before
 gathered_none item_steps ts n depth head items e within = subst (λ z. Gathered item_steps ts n depth head z n) (sym e) (record { loops = record { runs = λ es. stay; ahead = omega arith; within = within } })
 
-pub loops_same : {ts : List Token} {n m depth : ℕ} {head : Symbol} {ss us : List Step} → us ≡ ss → Loops ts n depth head ss m → Loops ts n depth head us m
+pub loops_same : {ts : List Token} {n m depth : ℕ} {head : Symbol} {ss us : List GrammarStep} → us ≡ ss → Loops ts n depth head ss m → Loops ts n depth head us m
 loops_same {ts} {n} {m} {depth} {head} e a = subst (λ z. Loops ts n depth head z m) (sym e) a
 
-loops_join : {ts : List Token} {n m o depth : ℕ} {head : Symbol} {ss us : List Step} → Loops ts n depth head ss m → Loops ts m depth head us o → Loops ts n depth head (ss ++ us) o
+loops_join : {ts : List Token} {n m o depth : ℕ} {head : Symbol} {ss us : List GrammarStep} → Loops ts n depth head ss m → Loops ts m depth head us o → Loops ts n depth head (ss ++ us) o
 loops_join a b = record { runs = λ es. run_on grammar plan plan_fits most_levels (a.runs es) (b.runs es); ahead = let h = a.ahead in let l = b.ahead in omega arith; within = b.within }
 
 pub gathered_more : {X : Type 0} {item_steps : X → Steps} {ts : List Token} {n m o depth : ℕ} {head : Symbol} {items more : List X} (x : X) → Gathered item_steps ts n depth head items m → Loops ts m depth head (item_steps x depth) o
@@ -246,7 +246,7 @@ gathered_more {item_steps = item_steps} {ts = ts} {n = n} {o = o} {depth = depth
     subst (λ z. Gathered item_steps ts n depth head z o) (sym e)
     (record { loops = loops_same (ap (λ z. items_before z depth) (map_pushed item_steps items x) ∙ items_pushed (map item_steps items) (item_steps x) depth) (loops_join g.loops l) })
 
-pub gathered_end : {X : Type 0} {item_steps : X → Steps} {ts : List Token} {n m o depth : ℕ} {head : Symbol} {items : List X} (end : Step) → Gathered item_steps ts n depth head items m → Moves ts m (wants depth head) (end ∷ []) o
+pub gathered_end : {X : Type 0} {item_steps : X → Steps} {ts : List Token} {n m o depth : ℕ} {head : Symbol} {items : List X} (end : GrammarStep) → Gathered item_steps ts n depth head items m → Moves ts m (wants depth head) (end ∷ []) o
     → Moves ts n (wants depth head) (in_turn end (map item_steps items) depth) o
 gathered_end {item_steps = item_steps} {depth = depth} {items = items} end g a =
     moves_same (items_end end (map item_steps items) depth) (record { runs = λ es. run_on grammar plan plan_fits most_levels (g.loops.runs es) (a.runs es); ahead = let h = g.loops.ahead in let l = a.ahead in omega arith; within = a.within })
@@ -257,7 +257,7 @@ gathered_fails g (fails_deep s) = fails_deep (λ es. deep_after (g.loops.runs es
 gathered_fails g fails_memory = fails_memory
 
 -- an item: an alternative of the list, up to the list itself
-pub loops_open : {ts : List Token} {n m j : ℕ} {head : Symbol} {ss : List Step} {parts : List Expected} (depth i : ℕ) → Chooses ts n head j → j ≡ i → Moves ts n parts ss m
+pub loops_open : {ts : List Token} {n m j : ℕ} {head : Symbol} {ss : List GrammarStep} {parts : List Expected} (depth i : ℕ) → Chooses ts n head j → j ≡ i → Moves ts n parts ss m
     → under grammar depth (symbol_number head) (way (symbol_number head) i) ≡ parts ++ wants depth head → Loops ts n depth head (opened (symbol_number head) i ∷ ss) m
 loops_open {ts} {n} {m} {j} {head} {ss} {parts} depth i c same a e = record {
   runs = λ es. step_symbol (same_number _ j i c.entry same) (At-get_or (ways_of grammar (symbol_number head)) i [] (let h = c.known in omega arith))
@@ -268,7 +268,7 @@ loops_open {ts} {n} {m} {j} {head} {ss} {parts} depth i c same a e = record {
 }
 
 -- a part that derives no empty list takes a token
-pub solid_ahead : {ts : List Token} {n m : ℕ} {q : Expected} {ss : List Step} → Moves ts n (q ∷ []) ss m → is_solid model_solids q.part ≡ true → n < m
+pub solid_ahead : {ts : List Token} {n m : ℕ} {q : Expected} {ss : List GrammarStep} → Moves ts n (q ∷ []) ss m → is_solid model_solids q.part ≡ true → n < m
 solid_ahead {n} {m} {q} {ss} a e =
     let taken = takes_token grammar model_solids solids_fit (run_sound grammar plan plan_fits most_levels (a.runs []) finished) (or_left _ _ e) in
     let count = run_count grammar plan plan_fits most_levels (a.runs []) in

@@ -1,7 +1,7 @@
 -- Which tokens are a model, and where the others stop to be one.
 use Rattle.std.specs.Prelude.{ℕ, List, map}
 use Rattle.bg_text.specs.declared.token.Token.{Token}
-use Rattle.bg_grammar.specs.Grammar.{Step, IsDerivation}
+use Rattle.bg_grammar.specs.Grammar.{GrammarStep, IsDerivation}
 use Rattle.bg_grammar.specs.Faults.{IsShallow, unexpected, too_deep, IsOnlyFault}
 use Rattle.bg_grammar.specs.Trees.{Trees, no_tree}
 use Rattle.bg_syntax.specs.declared.fault.SyntaxFault.{SyntaxFault}
@@ -18,7 +18,7 @@ abbrev pub kinds : List Token → List ℕ
 kinds tokens = map (λ token. kind_number token.kind) tokens
 
 -- these steps derive the kinds of the tokens from `Model`
-abbrev pub DerivesModel : List Token → List Step → Type 0
+abbrev pub DerivesModel : List Token → List GrammarStep → Type 0
 DerivesModel tokens steps = IsDerivation grammar (symbol_number symbols.Model) (kinds tokens) steps
 
 -- the tree is the tree of a derivation of the tokens, and no token has more than 256 symbols K and U above it

@@ -1,6 +1,6 @@
 //! The tree of a model.
 ghost use Rattle.std.specs.Prelude.{◌≡◌, ◌<◌, ◌^◌, ◌-◌, length, IfOk, IfErr, List};
-ghost use Rattle.bg_grammar.specs.Grammar.{Step};
+ghost use Rattle.bg_grammar.specs.Grammar.{GrammarStep};
 ghost use Rattle.bg_syntax.specs.ModelsSteps.{model_steps};
 ghost use Rattle.bg_syntax.specs.Models.{DerivesModel, IsTreeOf, IsSyntaxFault};
 
@@ -16,7 +16,7 @@ use std::alloc::Global;
 pub fn parse(alloc: Global, tokens: &[Token]) -> Result<SynModel, SyntaxFault>
     requires { length tokens.now < 2 ^ 32 - 1 }
     ensures tree { IfOk result (λ tree. IsTreeOf tokens.now tree) }
-    ensures once { IfOk result (λ tree. (steps : List Step) → DerivesModel tokens.now steps → steps ≡ model_steps tree 0) }
+    ensures once { IfOk result (λ tree. (steps : List GrammarStep) → DerivesModel tokens.now steps → steps ≡ model_steps tree 0) }
     ensures fault { IfErr result (λ fault. IsSyntaxFault tokens.now fault) }
 {
     let reader = Reader { alloc, tokens };

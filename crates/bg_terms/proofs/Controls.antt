@@ -7,7 +7,7 @@ use Rattle.std.specs.Cmp.Lexicographic.{other_text}
 use Rattle.bg_lists.specs.Lists.{Mem, here, there}
 use Rattle.bg_lists.proofs.Members.{Mem-append_cases, Mem-map, Mem-unmap}
 use Rattle.bg_lists.proofs.Words.{All-from_members}
-use Rattle.bg_values.specs.Names.{Entry, name_number, same_word, words}
+use Rattle.bg_values.specs.Names.{NamedValue, name_number, same_word, words}
 use Rattle.bg_terms.specs.declared.shape.ControlEntry.{ControlEntry}
 use Rattle.bg_terms.specs.declared.shape.Shape.{Shape}
 use Rattle.bg_terms.specs.Read.{shapes_of, AreControls}
@@ -43,11 +43,11 @@ is_none_from : {X : Type 0} (o : Option X) → is_none o ≡ true → o ≡ None
 is_none_from None is = refl
 is_none_from (Some x) is = absurd cc
 
-word_new : (word : List ℕ) (controls : List (Entry ControlEntry)) → is_none (name_number word controls) ≡ true
-    → (control : Entry ControlEntry) → Mem control controls → control.0 ≡ word → ⊥
+word_new : (word : List ℕ) (controls : List (NamedValue ControlEntry)) → is_none (name_number word controls) ≡ true
+    → (control : NamedValue ControlEntry) → Mem control controls → control.0 ≡ word → ⊥
 word_new word controls none control m same =
     other_text word control.0
-    (sym (none_passes (same_word word) (words controls) (is_none_from (name_number word controls) none) control.0 (Mem-map (λ (e : Entry ControlEntry). e.0) m))) (sym same)
+    (sym (none_passes (same_word word) (words controls) (is_none_from (name_number word controls) none) control.0 (Mem-map (λ (e : NamedValue ControlEntry). e.0) m))) (sym same)
 
 -- ---- one more control
 
@@ -58,14 +58,14 @@ only_one (there m) = elim m [ ]
 pub controls_none : AreControls []
 controls_none = record { named = λ control m. elim m [ ]; small = λ control m. elim m [ ]; once = λ x y m n same. elim m [ ] }
 
-module _ (controls : List (Entry ControlEntry)) (word : List ℕ) (entry : ControlEntry) (are : AreControls controls)
+module _ (controls : List (NamedValue ControlEntry)) (word : List ℕ) (entry : ControlEntry) (are : AreControls controls)
     (none : is_none (name_number word controls) ≡ true) (named : entry.shape.word ≡ word) (small : entry.shape.arity ≤ most_ports) where
-  abbrev last : Entry ControlEntry
+  abbrev last : NamedValue ControlEntry
   last = (word, entry)
 
   -- what holds of the controls that are there and of the last one
-  of_each : (P : Entry ControlEntry → Type 0) → ((control : Entry ControlEntry) → Mem control controls → P control) → P last
-      → (control : Entry ControlEntry) → Mem control (controls ++ last ∷ []) → P control
+  of_each : (P : NamedValue ControlEntry → Type 0) → ((control : NamedValue ControlEntry) → Mem control controls → P control) → P last
+      → (control : NamedValue ControlEntry) → Mem control (controls ++ last ∷ []) → P control
   of_each P old new control m = elim (Mem-append_cases controls (last ∷ []) m) [ inl l ↦ old control l | inr r ↦ subst P (only_one r) new ]
 
   pub controls_more : AreControls (controls ++ last ∷ [])
@@ -79,18 +79,18 @@ module _ (controls : List (Entry ControlEntry)) (word : List ℕ) (entry : Contr
 
 -- ---- their shapes
 
-pub controls_shapes : (controls : List (Entry ControlEntry)) → AreControls controls → AreShapes (shapes_of controls)
+pub controls_shapes : (controls : List (NamedValue ControlEntry)) → AreControls controls → AreShapes (shapes_of controls)
 controls_shapes controls are = record {
   small = λ shape m. let w = from shape m in subst (λ (s : Shape). s.arity ≤ most_ports) w.2 (are.small w.0 w.1);
   once = λ x y m n same. let v = from x m in
       let w = from y n in
       let words_same : v.0.0 ≡ w.0.0 =
       sym (are.named v.0 v.1) ∙ ap (λ (s : Shape). s.word) v.2 ∙ same ∙ sym (ap (λ (s : Shape). s.word) w.2) ∙ are.named w.0 w.1 in
-      sym v.2 ∙ ap (λ (control : Entry ControlEntry). control.1.shape) (are.once v.0 w.0 v.1 w.1 words_same) ∙ w.2;
+      sym v.2 ∙ ap (λ (control : NamedValue ControlEntry). control.1.shape) (are.once v.0 w.0 v.1 w.1 words_same) ∙ w.2;
 }
   where
-    from : (shape : Shape) → Mem shape (shapes_of controls) → (control : Entry ControlEntry) × Mem control controls × (control.1.shape ≡ shape)
-    from shape m = Mem-unmap (λ (control : Entry ControlEntry). control.1.shape) controls m
+    from : (shape : Shape) → Mem shape (shapes_of controls) → (control : NamedValue ControlEntry) × Mem control controls × (control.1.shape ≡ shape)
+    from shape m = Mem-unmap (λ (control : NamedValue ControlEntry). control.1.shape) controls m
 
-pub controls_small : (controls : List (Entry ControlEntry)) → AreControls controls → All (λ (shape : Shape). shape.arity ≤ most_ports) (shapes_of controls)
+pub controls_small : (controls : List (NamedValue ControlEntry)) → AreControls controls → All (λ (shape : Shape). shape.arity ≤ most_ports) (shapes_of controls)
 controls_small controls are = All-from_members (λ (shape : Shape). shape.arity ≤ most_ports) (shapes_of controls) (controls_shapes controls are).small

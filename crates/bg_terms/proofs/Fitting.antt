@@ -94,7 +94,7 @@ still_fits signature more big fits =
 abbrev pub Within : (controls all : List Control) → Type 0
 Within controls all = (x : Control) → Mem x controls → Mem x all
 
-pub record Entry (all : List Control) (control : Control) (number : ℕ) (after : List Control) : Type 0 where
+pub record EntersAt (all : List Control) (control : Control) (number : ℕ) (after : List Control) : Type 0 where
   pub is_there : slice_get after number ≡ Some control
   pub kept : IsSignature after
   pub inside : Within after all
@@ -106,7 +106,7 @@ last_where b old control r = if b then Ok (length old, old ++ control ∷ []) el
 -- a control that enters last
 entry_last : (all : List Control) (control : Control) (old : List Control) (number : ℕ) (after : List Control) → IsSignature old → control.arity ≤ most_ports
     → Within old all → Mem control all → control_number old control.label ≡ None → (b : Bool) → nat_lt (length old) most_controls ≡ b → (r : Refusal)
-    → last_where b old control r ≡ Ok (number, after) → Entry all control number after
+    → last_where b old control r ≡ Ok (number, after) → EntersAt all control number after
 entry_last all control old number after kept small inside member new false room r e = absurd cc
 entry_last all control old number after kept small inside member new true room r e =
     let below : length old < most_controls = grind (arith, room) in
@@ -126,10 +126,10 @@ entry_last all control old number after kept small inside member new true room r
 
 pub enters : (all : List Control) (at : ℕ) (control : Control) (old : List Control) (number : ℕ) (after : List Control) → AreOneByLabel all
     → IsSignature old → control.arity ≤ most_ports → Within old all → Mem control all → entered at control old ≡ Ok (number, after)
-    → Entry all control number after
+    → EntersAt all control number after
 enters all at control old number after one kept small inside member is = by (control_number old control.label) refl is
   where
-    by : (o : Option ℕ) → control_number old control.label ≡ o → entered_at at control old o ≡ Ok (number, after) → Entry all control number after
+    by : (o : Option ℕ) → control_number old control.label ≡ o → entered_at at control old o ≡ Ok (number, after) → EntersAt all control number after
     by (Some found_at) known e =
         let there_already = found old control.label found_at known in
         let pair : (found_at, old) ≡ (number, after) = ok_same e in

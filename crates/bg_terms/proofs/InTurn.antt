@@ -8,7 +8,7 @@ use Rattle.bg_base.specs.declared.labels.Value.{Value}
 use Rattle.bg_base.specs.declared.signature.Control.{Control}
 use Rattle.bg_base.specs.Signatures.{IsSignature}
 use Rattle.bg_trees.specs.declared.expressions.SynE.{SynE}
-use Rattle.bg_values.specs.Names.{Entry, name_number}
+use Rattle.bg_values.specs.Names.{NamedValue, name_number}
 use Rattle.bg_terms.specs.declared.shape.ControlEntry.{ControlEntry}
 use Rattle.bg_terms.specs.declared.shape.Shape.{Shape}
 use Rattle.bg_terms.specs.Expansion.{expand, meanings_of}
@@ -45,15 +45,15 @@ IsRead-has_ports shapes e read =
 pub read_none : AreRead [] []
 read_none = record { table = controls_none; each = λ e m. elim m [ ] }
 
-pub read_control : (controls : List (Entry ControlEntry)) (definitions : List Expression) (word : List ℕ) (entry : ControlEntry) → AreRead controls definitions
+pub read_control : (controls : List (NamedValue ControlEntry)) (definitions : List Expression) (word : List ℕ) (entry : ControlEntry) → AreRead controls definitions
     → is_none (name_number word controls) ≡ true → entry.shape.word ≡ word → entry.shape.arity ≤ most_ports → AreRead (controls ++ (word, entry) ∷ []) definitions
 read_control controls definitions word entry are none named small = record {
   table = controls_more controls word entry are.table none named small;
-  each = λ e m. subst (λ s. IsRead s e) (sym (map-append (λ (control : Entry ControlEntry). control.1.shape) controls ((word, entry) ∷ [])))
+  each = λ e m. subst (λ s. IsRead s e) (sym (map-append (λ (control : NamedValue ControlEntry). control.1.shape) controls ((word, entry) ∷ [])))
       (IsRead-more (shapes_of controls) (entry.shape ∷ []) e (are.each e m));
 }
 
-pub read_definition : (controls : List (Entry ControlEntry)) (definitions : List Expression) (e : Expression) → AreRead controls definitions
+pub read_definition : (controls : List (NamedValue ControlEntry)) (definitions : List Expression) (e : Expression) → AreRead controls definitions
     → IsRead (shapes_of controls) e → AreRead controls (definitions ++ e ∷ [])
 read_definition controls definitions e are read = record {
   table = are.table;
@@ -63,7 +63,7 @@ read_definition controls definitions e are read = record {
 
 -- ---- values
 
-pub read_fits : (controls : List (Entry ControlEntry)) (definitions : List Expression) → AreRead controls definitions
+pub read_fits : (controls : List (NamedValue ControlEntry)) (definitions : List Expression) → AreRead controls definitions
     → (env : List Value) (e : Expression) → IsRead (shapes_of controls) e
     → (depth : ℕ) (before after : Reached) (big : Big) → IsSignature before.signature → AreOfShapes (shapes_of controls) before.signature
     → value depth (expand (shapes_of controls) (meanings_of (shapes_of controls) definitions) env e) before ≡ Ok (big, after)

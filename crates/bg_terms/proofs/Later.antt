@@ -7,7 +7,7 @@ use Rattle.bg_lists.specs.Lists.{Mem, here, there}
 use Rattle.bg_lists.proofs.Places.{At-slice_get, slice_get-At, At-append_left, slice_get-append_left}
 use Rattle.bg_base.specs.declared.labels.Value.{Value}
 use Rattle.bg_trees.specs.declared.expressions.SynE.{SynE}
-use Rattle.bg_values.specs.Names.{Entry, name_number, look_up}
+use Rattle.bg_values.specs.Names.{NamedValue, name_number, look_up}
 use Rattle.bg_values.specs.Operands.{values}
 use Rattle.bg_values.specs.Scopes.{spelling}
 use Rattle.bg_terms.specs.declared.shape.Shape.{Shape}
@@ -115,10 +115,10 @@ module _ (shapes : List Shape) where
 
 -- ---- trees
 
-number_within : {T : Type 0} (entries : List (Entry T)) (word : List ℕ) (number : ℕ) (x : T) → look_up word entries ≡ Some (number, x) → number < length entries
+number_within : {T : Type 0} (entries : List (NamedValue T)) (word : List ℕ) (number : ℕ) (x : T) → look_up word entries ≡ Some (number, x) → number < length entries
 number_within {T} entries word number x is = by (slice_get entries number) refl (entry_there entries (name_number word entries) number x is)
   where
-    by : (o : Option (Entry T)) → slice_get entries number ≡ o → option_map (λ (e : Entry T). e.1) o ≡ Some x → number < length entries
+    by : (o : Option (NamedValue T)) → slice_get entries number ≡ o → option_map (λ (e : NamedValue T). e.1) o ≡ Some x → number < length entries
     by None stands made = absurd cc
     by (Some e) stands made = slice_get_within entries number e stands
 

@@ -4,7 +4,7 @@ use Rattle.std.specs.Prelude.{IfOk, option_map}
 use Rattle.std.proofs.lemmas.Option.{slice_get-map}
 use Rattle.bg_lists.proofs.Places.{At-slice_get, slice_get-At, At-append_left}
 use Rattle.bg_trees.specs.declared.expressions.SynE.{SynE}
-use Rattle.bg_values.specs.Names.{Entry, name_number, entry_at, look_up}
+use Rattle.bg_values.specs.Names.{NamedValue, name_number, entry_at, look_up}
 use Rattle.bg_values.specs.Scopes.{spelling}
 use Rattle.bg_terms.specs.declared.shape.ControlEntry.{ControlEntry}
 use Rattle.bg_terms.specs.declared.shape.Shape.{Shape}
@@ -17,28 +17,28 @@ use Rattle.bg_terms.proofs.Claims.{IsKept, tree_says}
 -- ---- names of a table
 
 -- what a name was found to stand for, stands at its number
-pub entry_there : {T : Type 0} (entries : List (Entry T)) (found : Option ℕ) (number : ℕ) (x : T) → entry_at entries found ≡ Some (number, x)
-    → option_map (λ (e : Entry T). e.1) (slice_get entries number) ≡ Some x
+pub entry_there : {T : Type 0} (entries : List (NamedValue T)) (found : Option ℕ) (number : ℕ) (x : T) → entry_at entries found ≡ Some (number, x)
+    → option_map (λ (e : NamedValue T). e.1) (slice_get entries number) ≡ Some x
 entry_there {T} entries None number x is = absurd cc
 entry_there {T} entries (Some n) number x is = by (slice_get entries n) refl is
   where
-    by : (o : Option (Entry T)) → slice_get entries n ≡ o → option_map {U = ℕ × T} (λ (e : Entry T). (n, e.1)) o ≡ Some (number, x)
-        → option_map (λ (e : Entry T). e.1) (slice_get entries number) ≡ Some x
+    by : (o : Option (NamedValue T)) → slice_get entries n ≡ o → option_map {U = ℕ × T} (λ (e : NamedValue T). (n, e.1)) o ≡ Some (number, x)
+        → option_map (λ (e : NamedValue T). e.1) (slice_get entries number) ≡ Some x
     by None stands made = absurd cc
     by (Some e) stands made =
         let pair : (n, e.1) ≡ (number, x) = cc in
         let number_is : n ≡ number = ap (λ (p : ℕ × T). p.0) pair in
         let x_is : e.1 ≡ x = ap (λ (p : ℕ × T). p.1) pair in
-        ap (λ k. option_map (λ (e : Entry T). e.1) (slice_get entries k)) (sym number_is) ∙ ap (option_map (λ (e : Entry T). e.1)) stands ∙ ap Some x_is
+        ap (λ k. option_map (λ (e : NamedValue T). e.1) (slice_get entries k)) (sym number_is) ∙ ap (option_map (λ (e : NamedValue T). e.1)) stands ∙ ap Some x_is
 
-shape_there : (controls : List (Entry ControlEntry)) (word : List ℕ) (number : ℕ) (entry : ControlEntry)
+shape_there : (controls : List (NamedValue ControlEntry)) (word : List ℕ) (number : ℕ) (entry : ControlEntry)
     → look_up word controls ≡ Some (number, entry) → slice_get (shapes_of controls) number ≡ Some entry.shape
 shape_there controls word number entry is =
-    slice_get-map (λ (control : Entry ControlEntry). control.1.shape) controls number
+    slice_get-map (λ (control : NamedValue ControlEntry). control.1.shape) controls number
     ∙ by (slice_get controls number) (entry_there controls (name_number word controls) number entry is)
   where
-    by : (o : Option (Entry ControlEntry)) → option_map (λ (e : Entry ControlEntry). e.1) o ≡ Some entry
-        → option_map (λ (control : Entry ControlEntry). control.1.shape) o ≡ Some entry.shape
+    by : (o : Option (NamedValue ControlEntry)) → option_map (λ (e : NamedValue ControlEntry). e.1) o ≡ Some entry
+        → option_map (λ (control : NamedValue ControlEntry). control.1.shape) o ≡ Some entry.shape
     by None made = absurd cc
     by (Some e) made = let same : e.1 ≡ entry = cc in ap (λ (x : ControlEntry). Some x.shape) same
 

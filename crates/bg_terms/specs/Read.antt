@@ -2,7 +2,7 @@
 use Rattle.std.specs.Prelude.{◌≡◌, ◌≤◌, ◌<◌, ℕ, List, ◌++◌, map, Ok}
 use Rattle.bg_lists.specs.Lists.{Mem}
 use Rattle.bg_trees.specs.declared.expressions.SynE.{SynE}
-use Rattle.bg_values.specs.Names.{Entry}
+use Rattle.bg_values.specs.Names.{NamedValue}
 use Rattle.bg_terms.specs.declared.shape.ControlEntry.{ControlEntry}
 use Rattle.bg_terms.specs.declared.shape.Shape.{Shape}
 use Rattle.bg_terms.specs.Expressions.{Expression, node, reference, names, identity_of, merger_of, barren, empty, brackets, deeper, closure, nesting, binary}
@@ -10,8 +10,8 @@ use Rattle.bg_terms.specs.Trees.{Visible, e_read}
 use Rattle.bg_base.specs.Limits.{most_ports}
 
 -- the shapes of the controls of a table, in their order
-abbrev pub shapes_of : List (Entry ControlEntry) → List Shape
-shapes_of controls = map (λ (control : Entry ControlEntry). control.1.shape) controls
+abbrev pub shapes_of : List (NamedValue ControlEntry) → List Shape
+shapes_of controls = map (λ (control : NamedValue ControlEntry). control.1.shape) controls
 
 -- the expression is what a tree says where the controls were visible that these shapes begin with
 pub record IsRead (shapes : List Shape) (expression : Expression) : Type 0 where
@@ -22,13 +22,13 @@ pub record IsRead (shapes : List Shape) (expression : Expression) : Type 0 where
   pub begins : shapes ≡ shapes_of visible.controls ++ later
 
 -- the controls of a table: each is found by its word, no arity is above 16, and no word stands for two
-pub record AreControls (controls : List (Entry ControlEntry)) : Type 0 where
-  pub named : (control : Entry ControlEntry) → Mem control controls → control.1.shape.word ≡ control.0
-  pub small : (control : Entry ControlEntry) → Mem control controls → control.1.shape.arity ≤ most_ports
-  pub once : (x y : Entry ControlEntry) → Mem x controls → Mem y controls → x.0 ≡ y.0 → x ≡ y
+pub record AreControls (controls : List (NamedValue ControlEntry)) : Type 0 where
+  pub named : (control : NamedValue ControlEntry) → Mem control controls → control.1.shape.word ≡ control.0
+  pub small : (control : NamedValue ControlEntry) → Mem control controls → control.1.shape.arity ≤ most_ports
+  pub once : (x y : NamedValue ControlEntry) → Mem x controls → Mem y controls → x.0 ≡ y.0 → x ≡ y
 
 -- what statements have made visible: the controls, and definitions that were each read under the first ones of these controls
-pub record AreRead (controls : List (Entry ControlEntry)) (definitions : List Expression) : Type 0 where
+pub record AreRead (controls : List (NamedValue ControlEntry)) (definitions : List Expression) : Type 0 where
   pub table : AreControls controls
   pub each : (definition : Expression) → Mem definition definitions → IsRead (shapes_of controls) definition
 

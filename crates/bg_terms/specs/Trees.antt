@@ -34,7 +34,7 @@ use Rattle.bg_trees.specs.declared.expressions.SynP.{SynP}
 use Rattle.bg_trees.specs.declared.expressions.SynP1Item.{SynP1Item}
 use Rattle.bg_values.specs.declared.refusal.Refusal.{Refusal}
 use Rattle.bg_values.specs.declared.refusal.Cause.TheVariants.{Unexpected, UnknownName, WrongArguments, WrongPorts}
-use Rattle.bg_values.specs.Names.{Entry, look_up}
+use Rattle.bg_values.specs.Names.{NamedValue, look_up}
 use Rattle.bg_values.specs.Operands.{operands_read, trees}
 use Rattle.bg_values.specs.Outcome.{◌>>=◌, each, refused, there_or}
 use Rattle.bg_values.specs.Reading.{number_at, number_token}
@@ -47,8 +47,8 @@ use Rattle.bg_terms.specs.Expressions.{Expression, node, reference, names, ident
 -- what is visible: the text with its tokens and the formals, the controls, and the bigraphs with how many formals each has
 pub record Visible : Type 0 where
   pub scope : ScopeParts
-  pub controls : List (Entry ControlEntry)
-  pub bigraphs : List (Entry ℕ)
+  pub controls : List (NamedValue ControlEntry)
+  pub bigraphs : List (NamedValue ℕ)
 
 -- ---- the small parts
 

@@ -15,7 +15,7 @@ ghost use Rattle.bg_terms.specs.declared.shape.Shape.{Shape};
 ghost use Rattle.bg_terms.specs.Expansion.{Meaning, expand, meanings_of, HasNoReference};
 ghost use Rattle.bg_terms.specs.Closures.{StandsBehind, IsEvaluatedAt};
 ghost use Rattle.bg_trees.specs.declared.expressions.SynE.{SynE};
-ghost use Rattle.bg_values.specs.Names.{Entry, name_number};
+ghost use Rattle.bg_values.specs.Names.{NamedValue, name_number};
 ghost use Rattle.bg_terms.specs.declared.shape.ControlEntry.{ControlEntry};
 ghost use Rattle.bg_terms.specs.Read.{shapes_of, IsRead, AreControls, AreRead, RefersBelow};
 ghost use Rattle.bg_terms.specs.Trees.{Visible, e_read};
@@ -113,20 +113,20 @@ pub fn expressions_of_trees_have_their_ports()
 /// A control whose word is not in the table, with an arity of at most 16, may become visible: no word stands for two.
 pub fn controls_become_visible_one_by_one()
     ensures none { AreControls [] }
-    ensures more { (controls : List (Entry ControlEntry)) (word : List ℕ) (entry : ControlEntry) → AreControls controls
+    ensures more { (controls : List (NamedValue ControlEntry)) (word : List ℕ) (entry : ControlEntry) → AreControls controls
         → is_none (name_number word controls) ≡ true → entry.shape.word ≡ word → entry.shape.arity ≤ most_ports → AreControls (controls ++ (word, entry) ∷ []) }
-    ensures shapes { (controls : List (Entry ControlEntry)) → AreControls controls → AreShapes (shapes_of controls) }
-    ensures small { (controls : List (Entry ControlEntry)) → AreControls controls → All (λ (shape : Shape). shape.arity ≤ most_ports) (shapes_of controls) }
+    ensures shapes { (controls : List (NamedValue ControlEntry)) → AreControls controls → AreShapes (shapes_of controls) }
+    ensures small { (controls : List (NamedValue ControlEntry)) → AreControls controls → All (λ (shape : Shape). shape.arity ≤ most_ports) (shapes_of controls) }
 {}
 
 /// What statements make visible in turn: nothing at first; then a control, whose word is not in the table and whose
 /// arity is at most 16, or a definition that is read. An expression that was read stays one as controls follow.
 pub fn definitions_are_read_one_by_one()
     ensures none { AreRead [] [] }
-    ensures control { (controls : List (Entry ControlEntry)) (definitions : List Expression) (word : List ℕ) (entry : ControlEntry)
+    ensures control { (controls : List (NamedValue ControlEntry)) (definitions : List Expression) (word : List ℕ) (entry : ControlEntry)
         → AreRead controls definitions → is_none (name_number word controls) ≡ true → entry.shape.word ≡ word → entry.shape.arity ≤ most_ports
         → AreRead (controls ++ (word, entry) ∷ []) definitions }
-    ensures definition { (controls : List (Entry ControlEntry)) (definitions : List Expression) (expression : Expression)
+    ensures definition { (controls : List (NamedValue ControlEntry)) (definitions : List Expression) (expression : Expression)
         → AreRead controls definitions → IsRead (shapes_of controls) expression → AreRead controls (definitions ++ expression ∷ []) }
     ensures at_once { (tree : SynE) (visible : Visible) (expression : Expression) → (e_read tree).1 visible ≡ Ok expression
         → IsRead (shapes_of visible.controls) expression }
@@ -137,7 +137,7 @@ pub fn definitions_are_read_one_by_one()
 /// controls: what the expression comes to is valid under the signature reached, and the controls of that signature are
 /// visible controls with some arguments, if those before were; they stay so as controls follow.
 pub fn values_of_trees_fit_the_visible_controls()
-    ensures fits { (controls : List (Entry ControlEntry)) (definitions : List Expression) → AreRead controls definitions
+    ensures fits { (controls : List (NamedValue ControlEntry)) (definitions : List Expression) → AreRead controls definitions
         → (env : List Value) (expression : Expression) → IsRead (shapes_of controls) expression
         → (depth : ℕ) (before after : Reached) (big : Big) → IsSignature before.signature → AreOfShapes (shapes_of controls) before.signature
         → value depth (expand (shapes_of controls) (meanings_of (shapes_of controls) definitions) env expression) before ≡ Ok (big, after)

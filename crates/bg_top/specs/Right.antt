@@ -68,12 +68,12 @@ abbrev pub IsRefused : List Watched → Request → List ℕ → Type 0
 IsRefused watchers request input = (refusal : Refusal) × (promise_of request watchers).refuses input refusal
 
 -- the command makes of the input an answer of which P holds
-abbrev pub Makes : List Watched → Request → List ℕ → (Answer → Type 0) → Type 0
-Makes watchers request input P = (answer : Answer) × (promise_of request watchers).makes input answer × P answer
+abbrev pub MakesAnswer : List Watched → Request → List ℕ → (Answer → Type 0) → Type 0
+MakesAnswer watchers request input P = (answer : Answer) × (promise_of request watchers).makes input answer × P answer
 
 -- what the command makes of the input tells that there would be too much to list
 abbrev pub IsTooMuch : List Watched → Request → List ℕ → Type 0
-IsTooMuch watchers request input = Makes watchers request input (λ answer. answer.status ≡ TooMany)
+IsTooMuch watchers request input = MakesAnswer watchers request input (λ answer. answer.status ≡ TooMany)
 
 -- a journal is to be judged, and the input has no text of a journal in front, or its journal is no run of the system that the
 -- model behind it describes
@@ -82,7 +82,7 @@ IsReplayOfNoRun request input = (request.command ≡ Replay) × IsNoRunInput inp
 
 -- the result is the status of what the command makes of the input
 abbrev pub EndsWith : ℕ → List Watched → Request → List ℕ → Type 0
-EndsWith result watchers request input = Makes watchers request input (λ answer. result ≡ status_number answer.status)
+EndsWith result watchers request input = MakesAnswer watchers request input (λ answer. result ≡ status_number answer.status)
 
 -- a right answer to what was left: `too long` past the most bytes, else the command's
 abbrev pub ReadsRight : ℕ → Request → List Watched → Option (List ℕ) → Answer → Type 0

@@ -3,8 +3,8 @@ use Rattle.std.proofs.Common.{◌≡◌, ℕ, List, [], ◌∷◌, ◌++◌, Opt
 use Rattle.bg_base.specs.declared.labels.Value.{Value}
 use Rattle.bg_base.specs.declared.labels.Value.TheVariants.{Int}
 use Rattle.bg_values.specs.declared.formula.Operator.{Operator}
-use Rattle.bg_values.specs.declared.formula.Step.{Step}
-use Rattle.bg_values.specs.declared.formula.Step.TheVariants as steps
+use Rattle.bg_values.specs.declared.formula.FormulaStep.{FormulaStep}
+use Rattle.bg_values.specs.declared.formula.FormulaStep.TheVariants as steps
 use Rattle.bg_values.specs.declared.refusal.Refusal.{Refusal}
 use Rattle.bg_values.specs.declared.refusal.Stop.{Stop}
 use Rattle.bg_values.specs.declared.refusal.Cause.TheVariants.{UnknownName}
@@ -18,7 +18,7 @@ use Rattle.bg_values.proofs.Bindings.{bind_assoc, bind_same}
 abbrev onto : Result Value Refusal → List Value → Result (List Value) Refusal
 onto r stack = r >>= λ v. Ok (v ∷ stack)
 
-pub run_append : (env : List Value) (xs ys : List Step) (stack : List Value)
+pub run_append : (env : List Value) (xs ys : List FormulaStep) (stack : List Value)
     → run env (xs ++ ys) stack ≡ run env xs stack >>= run env ys
 run_append env [] ys stack = refl
 run_append env (x ∷ xs) ys stack =
@@ -69,7 +69,7 @@ right_go : (env : List Value) (operator : Operator) (at left right : ℕ) (v : V
 right_go env operator at left right v (Ok w) stack = first_go env operator at (whole_of left v) (whole_of right w) stack
 right_go env operator at left right v (Err e) stack = refl
 
-left_go : (env : List Value) (operator : Operator) (at left right : ℕ) (r s : Result Value Refusal) (code : List Step) (stack : List Value)
+left_go : (env : List Value) (operator : Operator) (at left right : ℕ) (r s : Result Value Refusal) (code : List FormulaStep) (stack : List Value)
     → ((below : List Value) → run env code below ≡ onto s below)
     → onto r stack >>= run env (code ++ steps.Apply operator at left right ∷ [])
     ≡ onto (r >>= λ v. s >>= outcome operator at left right v) stack
@@ -101,14 +101,14 @@ evaluated env f = ap (λ r. r >>= top) (runs env f []) ∙ seen (value env f)
     seen (Err e) = refl
 
 -- a run that stopped stops the evaluation
-pub when_stopped : (env : List Value) (f : Formula) (code : List Step) (stop : Stop) → code ≡ code_of f
+pub when_stopped : (env : List Value) (f : Formula) (code : List FormulaStep) (stop : Stop) → code ≡ code_of f
     → Stops stop (run env code []) → Stops stop (value env f)
 when_stopped env f code (refusals.Refused refusal) same stops =
     sym (evaluated env f) ∙ ap (λ xs. run env xs [] >>= top) (sym same) ∙ ap (λ r. r >>= top) stops
 when_stopped env f code refusals.OutOfMemory same stops = tt
 
 -- a run that ended leaves what the formula comes to on top
-pub when_run : (env : List Value) (f : Formula) (code : List Step) (stack : List Value) → code ≡ code_of f
+pub when_run : (env : List Value) (f : Formula) (code : List FormulaStep) (stack : List Value) → code ≡ code_of f
     → run env code [] ≡ Ok stack → top stack ≡ value env f
 when_run env f code stack same ends =
     sym (ap (λ r. r >>= top) ends) ∙ ap (λ xs. run env xs [] >>= top) same ∙ evaluated env f

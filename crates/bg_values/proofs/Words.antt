@@ -6,7 +6,7 @@ use Rattle.std.specs.List.{prefix_len, position_or_len}
 use Rattle.std.specs.Cmp.Lexicographic.{pointwise}
 use Rattle.indexmap.specs.IndexMap.{IndexMap, get, get_by, insert_entry}
 use Rattle.indexmap.proofs.CallerLemmas.{insert_entry-new}
-use Rattle.bg_values.specs.Names.{Entry, words, name_number}
+use Rattle.bg_values.specs.Names.{NamedValue, words, name_number}
 
 module _ {A B : Type 0} (test : B → Bool) (f : A → B) where
   prefix_of_map : (xs : List A) → prefix_len (λ x. not (test (f x))) xs ≡ prefix_len (λ y. not (test y)) (map f xs)
@@ -24,7 +24,7 @@ is_none (Some x) is = absurd cc
 
 module _ {T : Type 0} where
   -- an entry of the map, as the table shows it
-  abbrev pub shown : Vec ℕ Global × T → Entry T
+  abbrev pub shown : Vec ℕ Global × T → NamedValue T
   shown e = (e.0.items, e.1)
 
   names_shown : (es : List (Vec ℕ Global × T)) → map (λ k. k.items) (map (λ (e : Vec ℕ Global × T). e.0) es) ≡ words (map shown es)
@@ -37,13 +37,13 @@ module _ {T : Type 0} where
       found_by_words (pointwise nat_eq word) (λ k. k.items) (map (λ (e : Vec ℕ Global × T). e.0) es)
       ∙ ap (position (pointwise nat_eq word)) (names_shown es)
 
-  pub found_number : (word : List ℕ) (es : List (Vec ℕ Global × T)) (entries : List (Entry T)) (result : Option ℕ)
+  pub found_number : (word : List ℕ) (es : List (Vec ℕ Global × T)) (entries : List (NamedValue T)) (result : Option ℕ)
       → result ≡ position (λ k. pointwise nat_eq word k.items) (map (λ (e : Vec ℕ Global × T). e.0) es) → map shown es ≡ entries
       → result ≡ name_number word entries
   found_number word es entries result is same = is ∙ found_in word es ∙ ap (name_number word) same
 
   -- a word that is not there goes last
-  pub added_last : {S : Type 0} (m : IndexMap (Vec ℕ Global) T S) (word : List ℕ) (key : Vec ℕ Global) (value : T) (entries : List (Entry T))
+  pub added_last : {S : Type 0} (m : IndexMap (Vec ℕ Global) T S) (word : List ℕ) (key : Vec ℕ Global) (value : T) (entries : List (NamedValue T))
       (result : Option ℕ) (new : List (Vec ℕ Global × T))
       → key.items ≡ word → is_some result ≡ is_some (get_by (λ k. pointwise nat_eq word k.items) m) → result ≡ None
       → map shown m.entries ≡ entries → new ≡ insert_entry (λ a b. pointwise nat_eq a.items b.items) m.entries key value

@@ -1,6 +1,6 @@
 -- The steps of a formula behind others.
 use Rattle.std.specs.Prelude.{◌≡◌, List, ◌++◌, Result, Ok, Err}
-use Rattle.bg_values.specs.declared.formula.Step.{Step}
+use Rattle.bg_values.specs.declared.formula.FormulaStep.{FormulaStep}
 use Rattle.bg_values.specs.declared.formula.Formula.{Formula as Code}
 use Rattle.bg_values.specs.declared.refusal.Refusal.{Refusal}
 use Rattle.bg_values.specs.declared.refusal.Stop.{Stop}
@@ -13,12 +13,12 @@ abbrev pub behind : {S F : Type 0} → (F → List S) → List S → Result F Re
 behind code base read = read >>= λ f. Ok (base ++ code f)
 
 -- the steps of the formula that is read, behind these
-abbrev pub lowered : List Step → Result Formula Refusal → Result (List Step) Refusal
+abbrev pub lowered : List FormulaStep → Result Formula Refusal → Result (List FormulaStep) Refusal
 lowered = behind code_of
 
 -- behind the steps of a formula f come those that make the formula of it that an item says
-abbrev pub Extends : {X : Type 0} → Result X Stop → List Step → List Step → (Formula → Result Formula Refusal) → Type 0
-Extends result old new item = (base : List Step) (f : Formula) → old ≡ base ++ code_of f → Goes result new (lowered base (item f))
+abbrev pub Extends : {X : Type 0} → Result X Stop → List FormulaStep → List FormulaStep → (Formula → Result Formula Refusal) → Type 0
+Extends result old new item = (base : List FormulaStep) (f : Formula) → old ≡ base ++ code_of f → Goes result new (lowered base (item f))
 
 -- a call gives the steps of the formula that is read, or stops
 abbrev pub GivesSteps : Result Code Stop → Result Formula Refusal → Type 0

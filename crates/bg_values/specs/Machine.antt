@@ -3,8 +3,8 @@ use Rattle.std.specs.Prelude.{◌≡◌, ℕ, List, [], ◌∷◌, ◌++◌, Res
 use Rattle.bg_base.specs.declared.labels.Value.{Value}
 use Rattle.bg_base.specs.declared.labels.Value.TheVariants as values
 use Rattle.bg_values.specs.declared.formula.Operator.{Operator}
-use Rattle.bg_values.specs.declared.formula.Step.{Step}
-use Rattle.bg_values.specs.declared.formula.Step.TheVariants.{Whole, Words, Name, Negate, Apply}
+use Rattle.bg_values.specs.declared.formula.FormulaStep.{FormulaStep}
+use Rattle.bg_values.specs.declared.formula.FormulaStep.TheVariants.{Whole, Words, Name, Negate, Apply}
 use Rattle.bg_values.specs.declared.formula.Formula.{Formula as Code}
 use Rattle.bg_values.specs.declared.refusal.Refusal.{Refusal}
 use Rattle.bg_values.specs.declared.refusal.Cause.TheVariants.{Unexpected, UnknownName}
@@ -13,7 +13,7 @@ use Rattle.bg_values.specs.Outcome.{◌>>=◌, there_or}
 use Rattle.bg_values.specs.Stacks.{first, rest}
 
 -- the steps of a formula
-abbrev pub code_of : Formula → List Step
+abbrev pub code_of : Formula → List FormulaStep
 code_of (whole z) = Whole z ∷ []
 code_of (words text) = Words text ∷ []
 code_of (name at number) = Name at number ∷ []
@@ -56,7 +56,7 @@ apply operator at left right stack =
     applied operator at x y >>= λ z. put (values.Int z) (below (below stack))
 
 -- one step
-abbrev pub step : List Value → Step → List Value → Result (List Value) Refusal
+abbrev pub step : List Value → FormulaStep → List Value → Result (List Value) Refusal
 step env (Whole z) stack = put (values.Int z) stack
 step env (Words text) stack = put (values.Words text) stack
 step env (Name at number) stack = put_name env at number stack
@@ -64,10 +64,10 @@ step env (Negate at operand) stack = negate at operand stack
 step env (Apply operator at left right) stack = apply operator at left right stack
 
 -- steps in order
-abbrev pub run : List Value → List Step → List Value → Result (List Value) Refusal
+abbrev pub run : List Value → List FormulaStep → List Value → Result (List Value) Refusal
 run env [] stack = Ok stack
 run env (s ∷ steps) stack = step env s stack >>= run env steps
 
 -- what steps leave on top of an empty stack
-abbrev pub outcome : List Value → List Step → Result Value Refusal
+abbrev pub outcome : List Value → List FormulaStep → Result Value Refusal
 outcome env steps = run env steps [] >>= top

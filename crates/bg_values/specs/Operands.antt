@@ -6,7 +6,7 @@ use Rattle.bg_base.specs.declared.labels.Value.{Value}
 use Rattle.bg_base.specs.declared.labels.Value.TheVariants.{Int}
 use Rattle.bg_trees.specs.declared.arithmetic.SynX.{SynX}
 use Rattle.bg_trees.specs.declared.arithmetic.SynMoreXItem.{SynMoreXItem}
-use Rattle.bg_values.specs.declared.formula.Step.{Step}
+use Rattle.bg_values.specs.declared.formula.FormulaStep.{FormulaStep}
 use Rattle.bg_values.specs.declared.operands.Operand.{Operand as Code}
 use Rattle.bg_values.specs.declared.refusal.Refusal.{Refusal}
 use Rattle.bg_values.specs.declared.refusal.Stop.{Stop}
@@ -49,15 +49,15 @@ abbrev pub numbers : List Value → List Operand → Result (List Value) Refusal
 numbers env = each (number env)
 
 -- the formula as its steps
-abbrev pub coded : Operand → ℕ × List Step
+abbrev pub coded : Operand → ℕ × List FormulaStep
 coded f = (f.0, code_of f.1)
 
 -- an operand of the code as its first token and its steps
-abbrev pub shown : Code → ℕ × List Step
+abbrev pub shown : Code → ℕ × List FormulaStep
 shown operand = (operand.first, operand.formula.steps.items)
 
 -- what formulas come to, each by its first token and its steps
-abbrev pub outcomes : List Value → List (ℕ × List Step) → Result (List Value) Refusal
+abbrev pub outcomes : List Value → List (ℕ × List FormulaStep) → Result (List Value) Refusal
 outcomes env = each (λ f. outcome env f.1)
 
 -- these are the formulas, as their steps

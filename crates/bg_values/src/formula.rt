@@ -23,7 +23,7 @@ pub enum Operator {
 
 /// A step of a formula, written with the operands before the operator. An operand is named by its first token.
 #[derive(Debug, Drop)]
-pub enum Step {
+pub enum FormulaStep {
     /// Puts a number.
     Whole(i64),
     /// Puts a text.
@@ -50,7 +50,7 @@ pub enum Step {
 /// A formula in which the names are numbered.
 #[derive(Debug, Drop)]
 pub struct Formula {
-    pub(crate) steps: Vec<Step>,
+    pub(crate) steps: Vec<FormulaStep>,
 }
 
 impl Formula {
@@ -82,30 +82,35 @@ fn top(stack: &mut Stack<Value>) -> Result<Value, Refusal>
 }
 
 /// Takes the steps in order.
-fn run(alloc: Global, steps: &[Step], env: &[Value], stack: &mut Stack<Value>) -> Result<(), Stop>
+fn run(
+    alloc: Global,
+    steps: &[FormulaStep],
+    env: &[Value],
+    stack: &mut Stack<Value>,
+) -> Result<(), Stop>
     ensures { Goes result stack.new (machine.run env.now steps.now stack.old) }
 {
     for step in steps {
-        take_step(alloc, step, env, stack)?;
+        take_formula_step(alloc, step, env, stack)?;
     }
     Ok(())
 }
 
 /// Takes one step.
-fn take_step(
+fn take_formula_step(
     alloc: Global,
-    step: &Step,
+    step: &FormulaStep,
     env: &[Value],
     stack: &mut Stack<Value>,
 ) -> Result<(), Stop>
     ensures { Goes result stack.new (machine.step env.now step.now stack.old) }
 {
     match step {
-        Step::Whole(number) => put(stack, Value::Int(*number)),
-        Step::Words(text) => put_text(alloc, stack, text),
-        Step::Name { at, number } => put_name(alloc, stack, env, *at, *number),
-        Step::Negate { at, operand } => negate(stack, *at, *operand),
-        Step::Apply {
+        FormulaStep::Whole(number) => put(stack, Value::Int(*number)),
+        FormulaStep::Words(text) => put_text(alloc, stack, text),
+        FormulaStep::Name { at, number } => put_name(alloc, stack, env, *at, *number),
+        FormulaStep::Negate { at, operand } => negate(stack, *at, *operand),
+        FormulaStep::Apply {
             operator,
             at,
             left,

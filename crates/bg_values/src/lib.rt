@@ -23,8 +23,8 @@ mod scope;
 mod stack;
 mod values;
 
-pub use formula::{Formula, Operator, Step};
-pub use names::{Found, NameTable};
+pub use formula::{Formula, FormulaStep, Operator};
+pub use names::{FoundName, NameTable};
 pub use operands::{Operand, operands_of, values_of};
 pub use parameter::{parameter_name, parameter_values};
 pub use reading::{formula_of, number_at, number_token};

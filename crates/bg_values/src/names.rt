@@ -16,9 +16,9 @@ pub struct NameTable<T> {
 
 impl<T> Model for NameTable<T> {
     ghost use Rattle.std.specs.Prelude.{List, map, length, ◌<◌, ◌-◌, ◌^◌};
-    ghost use Rattle.bg_values.specs.Names.{Entry};
+    ghost use Rattle.bg_values.specs.Names.{NamedValue};
 
-    ghost Value = { List (Entry T) };
+    ghost Value = { List (NamedValue T) };
 
     ghost view = { λ table. map (λ e. (e.0.items, e.1)) table.entries.entries };
 
@@ -27,12 +27,12 @@ impl<T> Model for NameTable<T> {
 
 /// A name of a table: its number, counted from 0, and what it stands for.
 #[derive(Drop)]
-pub struct Found<'a, T> {
+pub struct FoundName<'a, T> {
     pub number: u32,
     pub value: &'a T,
 }
 
-impl<'a, T> Model for Found<'a, T> {
+impl<'a, T> Model for FoundName<'a, T> {
     ghost use Rattle.std.specs.Prelude.{ℕ};
 
     ghost Value = { ℕ × T };
@@ -75,7 +75,7 @@ impl<T: Drop> NameTable<T> {
     }
 
     /// The number of the name, counted from 0, and what it stands for. Takes as long as the name has bytes, on average.
-    pub fn look_up(&self, word: &[u8]) -> Option<Found<'_, T>>
+    pub fn look_up(&self, word: &[u8]) -> Option<FoundName<'_, T>>
         ensures { result ≡ definition.look_up word.now self.now }
     {
         match self.entries.get_index_of(word) {
@@ -85,11 +85,11 @@ impl<T: Drop> NameTable<T> {
     }
 
     /// The entry with that number: its number, and what its name stands for. Takes constant time.
-    pub fn entry(&self, number: u32) -> Option<Found<'_, T>>
+    pub fn entry(&self, number: u32) -> Option<FoundName<'_, T>>
         ensures { result ≡ definition.entry_at self.now (Some number) }
     {
         match self.entries.get_index(number as usize) {
-            Some((_, value)) => Some(Found { number, value }),
+            Some((_, value)) => Some(FoundName { number, value }),
             None => None,
         }
     }

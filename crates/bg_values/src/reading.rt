@@ -4,7 +4,7 @@ ghost use Rattle.bg_values.specs.Outcome.{Gives, Goes};
 ghost use Rattle.bg_values.specs.Reading as definition;
 ghost use Rattle.bg_values.specs.Lowering.{lowered, Extends, GivesSteps};
 
-use crate::formula::{Formula, Operator, Step};
+use crate::formula::{Formula, FormulaStep, Operator};
 use crate::number::number_in;
 use crate::refusal::{Cause, Refusal, Stop};
 use crate::scope::Scope;
@@ -104,7 +104,12 @@ fn first_of_u(tree: &SynU) -> u32
 }
 
 #[cycle(lowering)]
-fn lower_x(alloc: Global, scope: &Scope, tree: &SynX, steps: &mut Vec<Step>) -> Result<(), Stop>
+fn lower_x(
+    alloc: Global,
+    scope: &Scope,
+    tree: &SynX,
+    steps: &mut Vec<FormulaStep>,
+) -> Result<(), Stop>
     ensures { Goes result steps.new.items (lowered steps.old.items ((definition.x_read tree.now).1 scope.now)) }
 {
     lower_t(alloc, scope, &tree.part1, steps)?;
@@ -123,7 +128,7 @@ fn lower_x_items(
     scope: &Scope,
     first: u32,
     items: &[SynX1Item],
-    steps: &mut Vec<Step>,
+    steps: &mut Vec<FormulaStep>,
 ) -> Result<(), Stop>
     ensures { Extends result steps.old.items steps.new.items (definition.items_read (map definition.x1_item_read items.now) scope.now first) }
 {
@@ -139,7 +144,7 @@ fn lower_x_item(
     scope: &Scope,
     first: u32,
     item: &SynX1Item,
-    steps: &mut Vec<Step>,
+    steps: &mut Vec<FormulaStep>,
 ) -> Result<(), Stop>
     ensures { Extends result steps.old.items steps.new.items (definition.x1_item_read item.now scope.now first) }
 {
@@ -173,12 +178,12 @@ fn lower_term(
     at: u32,
     first: u32,
     right: &SynT,
-    steps: &mut Vec<Step>,
+    steps: &mut Vec<FormulaStep>,
 ) -> Result<(), Stop>
     ensures { Extends result steps.old.items steps.new.items (definition.operated operator at (definition.t_read right.now) scope.now first) }
 {
     lower_t(alloc, scope, right, steps)?;
-    steps.push(Step::Apply {
+    steps.push(FormulaStep::Apply {
         operator,
         at,
         left: first,
@@ -188,7 +193,12 @@ fn lower_term(
 }
 
 #[cycle(lowering)]
-fn lower_t(alloc: Global, scope: &Scope, tree: &SynT, steps: &mut Vec<Step>) -> Result<(), Stop>
+fn lower_t(
+    alloc: Global,
+    scope: &Scope,
+    tree: &SynT,
+    steps: &mut Vec<FormulaStep>,
+) -> Result<(), Stop>
     ensures { Goes result steps.new.items (lowered steps.old.items ((definition.t_read tree.now).1 scope.now)) }
 {
     lower_u(alloc, scope, &tree.part1, steps)?;
@@ -207,7 +217,7 @@ fn lower_t_items(
     scope: &Scope,
     first: u32,
     items: &[SynT1Item],
-    steps: &mut Vec<Step>,
+    steps: &mut Vec<FormulaStep>,
 ) -> Result<(), Stop>
     ensures { Extends result steps.old.items steps.new.items (definition.items_read (map definition.t1_item_read items.now) scope.now first) }
 {
@@ -223,7 +233,7 @@ fn lower_t_item(
     scope: &Scope,
     first: u32,
     item: &SynT1Item,
-    steps: &mut Vec<Step>,
+    steps: &mut Vec<FormulaStep>,
 ) -> Result<(), Stop>
     ensures { Extends result steps.old.items steps.new.items (definition.t1_item_read item.now scope.now first) }
 {
@@ -257,12 +267,12 @@ fn lower_factor(
     at: u32,
     first: u32,
     right: &SynU,
-    steps: &mut Vec<Step>,
+    steps: &mut Vec<FormulaStep>,
 ) -> Result<(), Stop>
     ensures { Extends result steps.old.items steps.new.items (definition.operated operator at (definition.u_read right.now) scope.now first) }
 {
     lower_u(alloc, scope, right, steps)?;
-    steps.push(Step::Apply {
+    steps.push(FormulaStep::Apply {
         operator,
         at,
         left: first,
@@ -272,7 +282,12 @@ fn lower_factor(
 }
 
 #[cycle(lowering)]
-fn lower_u(alloc: Global, scope: &Scope, tree: &SynU, steps: &mut Vec<Step>) -> Result<(), Stop>
+fn lower_u(
+    alloc: Global,
+    scope: &Scope,
+    tree: &SynU,
+    steps: &mut Vec<FormulaStep>,
+) -> Result<(), Stop>
     ensures { Goes result steps.new.items (lowered steps.old.items ((definition.u_read tree.now).1 scope.now)) }
 {
     match tree {
@@ -290,38 +305,43 @@ fn lower_negation(
     scope: &Scope,
     at: u32,
     operand: &SynU,
-    steps: &mut Vec<Step>,
+    steps: &mut Vec<FormulaStep>,
 ) -> Result<(), Stop>
     ensures { Goes result steps.new.items (lowered steps.old.items (definition.negation_at at (definition.u_read operand.now) scope.now)) }
 {
     lower_u(alloc, scope, operand, steps)?;
-    steps.push(Step::Negate {
+    steps.push(FormulaStep::Negate {
         at,
         operand: first_of_u(operand),
     })?;
     Ok(())
 }
 
-fn lower_number(scope: &Scope, number: &SynNumber, steps: &mut Vec<Step>) -> Result<(), Stop>
+fn lower_number(scope: &Scope, number: &SynNumber, steps: &mut Vec<FormulaStep>) -> Result<(), Stop>
     ensures { Goes result steps.new.items (lowered steps.old.items (definition.whole_at scope.now (definition.number_token number.now))) }
 {
     let value = number_at(scope, number_token(number))?;
-    steps.push(Step::Whole(value))?;
+    steps.push(FormulaStep::Whole(value))?;
     Ok(())
 }
 
-fn lower_text(alloc: Global, scope: &Scope, token: u32, steps: &mut Vec<Step>) -> Result<(), Stop>
+fn lower_text(
+    alloc: Global,
+    scope: &Scope,
+    token: u32,
+    steps: &mut Vec<FormulaStep>,
+) -> Result<(), Stop>
     ensures { Goes result steps.new.items (lowered steps.old.items (definition.words_at scope.now token)) }
 {
     let text = text_at(alloc, scope, token)?;
-    steps.push(Step::Words(text))?;
+    steps.push(FormulaStep::Words(text))?;
     Ok(())
 }
 
-fn lower_name(scope: &Scope, token: u32, steps: &mut Vec<Step>) -> Result<(), Stop>
+fn lower_name(scope: &Scope, token: u32, steps: &mut Vec<FormulaStep>) -> Result<(), Stop>
     ensures { Goes result steps.new.items (lowered steps.old.items (definition.named_at scope.now token)) }
 {
     let number = name_at(scope, token)?;
-    steps.push(Step::Name { at: token, number })?;
+    steps.push(FormulaStep::Name { at: token, number })?;
     Ok(())
 }

@@ -5,7 +5,7 @@ use Rattle.std.proofs.lemmas.List.{take-append-le, take-append-drop, length-drop
 use Rattle.bg_base.specs.declared.history.Entry.{Entry}
 use Rattle.bg_cond.proofs.DrawnRuns.{system_rules}
 use Rattle.bg_cond.proofs.Runs.{run_append, run_one_end, run_split}
-use Rattle.bg_cond.specs.Boards.{Shows, IsNews, IsDone, IsCommitted}
+use Rattle.bg_cond.specs.Boards.{IsViewOf, IsNews, IsDone, IsCommitted}
 use Rattle.bg_cond.specs.Drawn.{entry_of}
 use Rattle.bg_cond.specs.Followers.{GoOn, HasFollowed, HasFollowedSome}
 use Rattle.bg_cond.specs.Steps.{IsRun}
@@ -101,7 +101,7 @@ module _ (system : SystemParts) {limit version : ℕ} {seen entries : List Entry
 
   -- behind all that it has heard, its host is the one that all lead to
   pub shows_followed : {later : ℕ} {next : HostState} → HasFollowed system.rules version host entries later next
-      → Shows system limit seen (record { version = later; host = next })
+      → IsViewOf system limit seen (record { version = later; host = next })
   shows_followed {later} {next} followed =
       let few = behind.few in
       let long = heard_long in

@@ -4,7 +4,7 @@ use Rattle.bg_base.specs.declared.history.Entry.{Entry}
 use Rattle.bg_base.specs.declared.history.Step.{Step}
 use Rattle.bg_cond.proofs.DrawnRuns.{pick_legal, system_rules}
 use Rattle.bg_cond.proofs.Runs.{run_one_end, run_snoc}
-use Rattle.bg_cond.specs.Boards.{Shows, IsDone, IsAgain, IsFull}
+use Rattle.bg_cond.specs.Boards.{IsViewOf, IsDone, IsAgain, IsFull}
 use Rattle.bg_cond.specs.Drawn.{IsPick, entry_of, Draws, limit, quiet, full, drawn}
 use Rattle.bg_cond.specs.Picks.{next_state}
 use Rattle.bg_cond.specs.Steps.{IsLegal, HasNoStep, LeadsTo, IsTooLarge, IsRun, ended}
@@ -28,7 +28,7 @@ module _ (system : SystemParts) (is : IsSystem system) where
   -- ---- one turn, where `before` had been seen, `between` is seen by the look, and the view is of that
 
   module _ (most worker : ℕ) (before : List Entry) (state : Lcg) (between : List Entry) (view : View)
-      (grows : GrowsByOthers worker before between) (shows : Shows system most between view) where
+      (grows : GrowsByOthers worker before between) (shows : IsViewOf system most between view) where
     -- nothing came where all is own
     none_came : (rest after : List Entry) → after ≡ between ++ rest → IsOwn worker after → between ≡ before
     none_came rest after e own = own_before rest after grows e own

@@ -1,6 +1,6 @@
 //! A worker that keeps a host of its own: it hears what came, follows it, finds, picks and commits until it comes to an end.
 ghost use Rattle.std.specs.Prelude.{◌≡◌, [], IfOk, MatchOption, OnErr, OnOk};
-ghost use Rattle.bg_cond.specs.Boards.{Shows};
+ghost use Rattle.bg_cond.specs.Boards.{IsViewOf};
 ghost use Rattle.bg_cond.specs.Drawn.{IsPick};
 ghost use Rattle.bg_cond.specs.Picks.{next_state};
 ghost use Rattle.bg_cond.specs.Steps.{HasNoStep};
@@ -150,7 +150,7 @@ fn catch_up<B: Board, F: Follower, R: Wait>(
     ensures grows { GrowsByOthers (B.worker pass.old) (B.seen pass.old) (B.seen pass.new) }
     ensures stands { F.stands follower.new system.now }
     ensures behind { IsBehind system.now (B.seen pass.new) (F.version follower.new) (F.host follower.new) }
-    ensures shows { OnOk result (Shows (B.system board.now) (B.limit board.now) (B.seen pass.new) (record { version = F.version follower.new; host = F.host follower.new })) }
+    ensures shows { OnOk result (IsViewOf (B.system board.now) (B.limit board.now) (B.seen pass.new) (record { version = F.version follower.new; host = F.host follower.new })) }
 {
     let entries = board.news(rt, alloc, pass, follower.version())?;
     follower.follow(alloc, system, &entries)?;

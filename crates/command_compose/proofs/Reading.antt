@@ -6,7 +6,7 @@ use Rattle.bg_listing.specs.Combinators.{◌>>=◌}
 use Rattle.bg_listing.specs.declared.cursor.Cursor.{Cursor}
 use Rattle.bg_listing.specs.declared.fault.ListingFault.{ListingFault}
 use Rattle.bg_listing.specs.declared.fault.ListingFault.TheVariants.{Bad, OutOfMemory}
-use Rattle.bg_listing.specs.Verdict.{IsAt, Tells as TellsFault, line_number, line_feeds, signature_verdict, big_verdict}
+use Rattle.bg_listing.specs.Verdict.{IsAt, TellsRefusal as TellsFault, line_number, line_feeds, signature_verdict, big_verdict}
 use Rattle.command_compose.specs.declared.operands.Operands.{Operands}
 use Rattle.bg_answers.specs.declared.refusal.Refusal.{Refusal}
 use Rattle.bg_answers.specs.declared.refusal.Refusal.TheVariants.{Listing}

@@ -15,16 +15,16 @@ use Rattle.bg_listing.specs.Spelling.{signature_text, big_text}
 use Rattle.bg_listing.specs.Limits.{IsControl, IsReadableSignature, IsReadableBig}
 use Rattle.bg_listing.specs.Lines as lines
 use Rattle.bg_listing.specs.Lines.{signature_at, big_at}
-use Rattle.bg_listing.specs.Verdict.{Refusal, judged, repeat_among, first_repeat, without_repeat, without_fault, signature_verdict, big_verdict}
+use Rattle.bg_listing.specs.Verdict.{ListingRefusal, judged, repeat_among, first_repeat, without_repeat, without_fault, signature_verdict, big_verdict}
 use Rattle.bg_listing.proofs.Values.{big_found, signature_found, readable_signature}
 
 -- a value that both passes let through
-record Passes {A : Type 0} (first : Result A lines.Bad) (second : A → Result A Refusal) (found : A) : Type 0 where
+record Passes {A : Type 0} (first : Result A lines.Bad) (second : A → Result A ListingRefusal) (found : A) : Type 0 where
   read : A
   read_is : first ≡ Ok read
   kept : second read ≡ Ok found
 
-passes : {A : Type 0} (bytes : List ℕ) (first : Result A lines.Bad) (second : A → Result A Refusal) (found : A)
+passes : {A : Type 0} (bytes : List ℕ) (first : Result A lines.Bad) (second : A → Result A ListingRefusal) (found : A)
     → judged bytes first second ≡ Ok found → Passes first second found
 passes bytes (Ok read) second found e = record { read = read; read_is = refl; kept = e }
 passes bytes (Err bad) second found e = absurd cc

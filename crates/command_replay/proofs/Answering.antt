@@ -9,7 +9,7 @@ use Rattle.bg_answers.specs.declared.reply.Reply.{Reply}
 use Rattle.bg_base.specs.Bigraph.{IsValidUnder}
 use Rattle.bg_base.specs.declared.history.Entry.{Entry}
 use Rattle.bg_cond.proofs.DrawnRuns.{system_run_fits}
-use Rattle.bg_journal.specs.JournalReading.{BeginsWith, IsBadAt}
+use Rattle.bg_journal.specs.JournalReading.{BeginsWithJournal, IsBadAt}
 use Rattle.bg_journal.specs.JournalText.{journal_text}
 use Rattle.bg_journal.specs.Replays.{IsReplayOf}
 use Rattle.bg_journal.specs.declared.outcome.Replay.{Replay}
@@ -21,14 +21,14 @@ use Rattle.command_replay.specs.Replay.{IsJournalAndModel, IsReplayAnswer, stopp
 use Rattle.command_replay.specs.ReplayText.{bad_at}
 
 -- the text of the journal is no longer than the bytes
-pub used_within : {bytes : List ℕ} {entries : List Entry} {used : ℕ} → BeginsWith bytes entries used → used ≤ length bytes
+pub used_within : {bytes : List ℕ} {entries : List Entry} {used : ℕ} → BeginsWithJournal bytes entries used → used ≤ length bytes
 used_within {bytes} {entries} {used} begins =
     let long : length bytes ≡ length (journal_text entries) + length (drop used bytes)
     = ap length begins.text_there ∙ length-append (journal_text entries) (drop used bytes) in
     omega (arith, long, begins.text_length)
 
 -- the bytes are the text of the journal and the model behind it
-parts_of : {bytes : List ℕ} {entries : List Entry} {used : ℕ} (model : List ℕ) → BeginsWith bytes entries used → model ≡ drop used bytes
+parts_of : {bytes : List ℕ} {entries : List Entry} {used : ℕ} (model : List ℕ) → BeginsWithJournal bytes entries used → model ≡ drop used bytes
     → IsJournalAndModel bytes entries model
 parts_of {bytes} {entries} {used} model begins behind = record {
   journal = begins.journal;
@@ -36,7 +36,7 @@ parts_of {bytes} {entries} {used} model begins behind = record {
 }
 
 -- what is told of the model behind the journal is told of the input
-pub told_behind : {bytes : List ℕ} {entries : List Entry} {used : ℕ} (model : List ℕ) (result : Result Reply Failure) → BeginsWith bytes entries used
+pub told_behind : {bytes : List ℕ} {entries : List Entry} {used : ℕ} (model : List ℕ) (result : Result Reply Failure) → BeginsWithJournal bytes entries used
     → model ≡ drop used bytes → Judges entries model result → Keeps replay_promise result bytes
 told_behind {bytes} {entries} {used} model (Ok reply) begins behind judged =
     subst (IsReplayAnswer bytes) (sym judged.told)

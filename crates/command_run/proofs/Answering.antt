@@ -3,7 +3,7 @@ use Rattle.std.proofs.Common.{◌≡◌, ℕ, List, refl, sym, ap, subst, ◌∙
 use Rattle.std.specs.Prelude.{Result, Ok, Err, IfOk}
 use Rattle.bg_answers.specs.Answer.{Answer, answer_of}
 use Rattle.bg_answers.specs.Described.{Describes}
-use Rattle.bg_answers.specs.Promise.{IsRightAnswer, made, refused, IsTold}
+use Rattle.bg_answers.specs.Promise.{IsRightAnswer, made, refused, StandsForReply}
 use Rattle.bg_answers.specs.declared.failure.Failure.{Failure}
 use Rattle.bg_answers.specs.declared.failure.Failure.TheVariants.{Refused, OutOfMemory}
 use Rattle.bg_answers.specs.declared.reply.Reply.{Reply}
@@ -15,12 +15,12 @@ use Rattle.command_run.specs.RunText.{IsRunText}
 
 module _ (most workers seed : ℕ) (watchers : List Watched) (input : List ℕ) where
   -- a refusal is told by its line
-  right_refusal : (failure : Failure) (answer : Answer) → Describes (Err failure) input → IsTold (Err failure) answer
+  right_refusal : (failure : Failure) (answer : Answer) → Describes (Err failure) input → StandsForReply (Err failure) answer
       → IsRightAnswer (run_promise most workers seed watchers) input answer
   right_refusal (Refused refusal) answer told is = subst (IsRightAnswer (run_promise most workers seed watchers) input) (sym is) (refused told)
   right_refusal OutOfMemory answer told is = absurd is
 
-  refusal_kept : (failure : Failure) (answer : Answer) → IsTold (Err failure) answer → HaveStayed most workers seed watchers watchers input answer
+  refusal_kept : (failure : Failure) (answer : Answer) → StandsForReply (Err failure) answer → HaveStayed most workers seed watchers watchers input answer
   refusal_kept (Refused refusal) answer is = record {
     told = λ done. let both = sym done ∙ ap (λ (a : Answer). a.status) is in absurd cc;
     kept = λ not. refl;
@@ -28,12 +28,12 @@ module _ (most workers seed : ℕ) (watchers : List Watched) (input : List ℕ) 
   refusal_kept OutOfMemory answer is = absurd is
 
   pub refusal_right : {E : Type 0} (failure : Failure) (reply : Result Reply E) → Describes (Err failure) input
-      → IfOk reply (λ reply. IsTold (Err failure) (answer_of reply))
+      → IfOk reply (λ reply. StandsForReply (Err failure) (answer_of reply))
       → IfOk reply (λ reply. IsRightAnswer (run_promise most workers seed watchers) input (answer_of reply))
   refusal_right failure (Ok reply) told is = right_refusal failure (answer_of reply) told is
   refusal_right failure (Err e) told is = tt
 
-  pub refusal_stayed : {E : Type 0} (failure : Failure) (reply : Result Reply E) → IfOk reply (λ reply. IsTold (Err failure) (answer_of reply))
+  pub refusal_stayed : {E : Type 0} (failure : Failure) (reply : Result Reply E) → IfOk reply (λ reply. StandsForReply (Err failure) (answer_of reply))
       → IfOk reply (λ reply. HaveStayed most workers seed watchers watchers input (answer_of reply))
   refusal_stayed failure (Ok reply) is = refusal_kept failure (answer_of reply) is
   refusal_stayed failure (Err e) is = tt

@@ -1,7 +1,7 @@
 //! What `run` answers.
 ghost use Rattle.std.specs.Prelude.{◌≡◌, ◌-◌, ◌<◌, ◌≤◌, ◌^◌, length, map, Err, IfOk, OnErr};
 ghost use Rattle.bg_answers.specs.Answer.{answer_of};
-ghost use Rattle.bg_answers.specs.Promise.{IsRightAnswer, IsTold};
+ghost use Rattle.bg_answers.specs.Promise.{IsRightAnswer, StandsForReply};
 ghost use Rattle.bg_base.specs.Limits.{most_steps};
 ghost use Rattle.command_run.specs.Run.{run_promise, HaveStayed};
 
@@ -52,7 +52,7 @@ pub fn answer_run<G: Gate + Sync, R: Threads + Wait + Sync>(
 
 /// The answer to an input that describes no system.
 fn refusal_of(alloc: Global, failure: Failure) -> Mem<Reply>
-    ensures { IfOk result (λ reply. IsTold (Err failure) (answer_of reply)) }
+    ensures { IfOk result (λ reply. StandsForReply (Err failure) (answer_of reply)) }
 {
     Reply::of(alloc, Err(failure))
 }

@@ -20,19 +20,19 @@ unfoldable pub size_text : Big → List ℕ
 size_text big = codes "nodes " ++ (decimal (length big.nodes) ++ (codes " edges " ++ (decimal (length big.edges) ++ codes "\n")))
 
 -- the line of a rule: its number, its label, and how many occurrences its redex has
-unfoldable pub rule_line : ℕ → RuleParts → ℕ → List ℕ
-rule_line number rule count =
+unfoldable pub trial_rule_line : ℕ → RuleParts → ℕ → List ℕ
+trial_rule_line number rule count =
     codes "rule " ++ (decimal number ++ (codes " " ++ (label_text rule.label ++ (codes " count " ++ (decimal count ++ codes "\n")))))
 
 -- the lines of rules, of which the first has that number, each with its count
 abbrev pub rule_lines : ℕ → List RuleParts → List ℕ → List ℕ
 rule_lines number [] counts = []
 rule_lines number (rule ∷ rules) [] = []
-rule_lines number (rule ∷ rules) (count ∷ counts) = rule_line number rule count ++ rule_lines (number + 1) rules counts
+rule_lines number (rule ∷ rules) (count ∷ counts) = trial_rule_line number rule count ++ rule_lines (number + 1) rules counts
 
 -- the size, how large the host is at first, and the rules
-unfoldable pub front_text : ℕ → SystemParts → List ℕ → List ℕ
-front_text size system counts = codes "trial " ++ (decimal size ++ (codes "\n" ++ (size_text system.init.big ++ rule_lines 0 system.rules counts)))
+unfoldable pub trial_front_text : ℕ → SystemParts → List ℕ → List ℕ
+trial_front_text size system counts = codes "trial " ++ (decimal size ++ (codes "\n" ++ (size_text system.init.big ++ rule_lines 0 system.rules counts)))
 
 -- how many steps were made, how they ended, and how large the host is after them
 unfoldable pub end_text : List Entry → End → HostState → List ℕ
@@ -40,7 +40,7 @@ end_text entries end host = codes "steps " ++ (decimal (length entries) ++ (code
 
 -- the whole text
 abbrev pub trial_text : ℕ → SystemParts → List ℕ → List Entry → End → HostState → List ℕ
-trial_text size system counts entries end host = front_text size system counts ++ end_text entries end host
+trial_text size system counts entries end host = trial_front_text size system counts ++ end_text entries end host
 
 -- ---- what it tells
 

@@ -52,7 +52,7 @@ fn put_front(
     out: &mut Vec<u8>,
 ) -> Mem<()>
     requires { length counts.now ≡ length system.now.rules }
-    ensures { OnOk result (out.new.items ≡ out.old.items ++ definition.front_text size system.now counts.now) }
+    ensures { OnOk result (out.new.items ≡ out.old.items ++ definition.trial_front_text size system.now counts.now) }
 {
     out.extend_from_slice(b"trial ")?;
     write_number(alloc, size, out)?;
@@ -101,7 +101,7 @@ fn put_rules(alloc: Global, rules: &[Rule], counts: &[usize], out: &mut Vec<u8>)
 /// The line of the rule.
 #[tactic(auto, unfolding(crate::specs::TrialText::rule_line))]
 fn put_rule(alloc: Global, number: usize, rule: &Rule, count: usize, out: &mut Vec<u8>) -> Mem<()>
-    ensures { OnOk result (out.new.items ≡ out.old.items ++ definition.rule_line number rule.now count) }
+    ensures { OnOk result (out.new.items ≡ out.old.items ++ definition.trial_rule_line number rule.now count) }
 {
     out.extend_from_slice(b"rule ")?;
     write_size(alloc, number, out)?;

@@ -4,7 +4,7 @@ ghost use Rattle.bg_rules.specs.Decomposition.{Occurs};
 
 use crate::models::{first_rule, system_of};
 use bg_base::Big;
-use bg_cond::{context_piece, enabled, param_piece};
+use bg_cond::{context_piece, enabled, parameter_piece};
 use bg_lists::{Mem, OutOfMemory};
 use bg_match::embeds;
 use bg_rules::{Host, Rule, System};
@@ -54,7 +54,7 @@ fn counts_of(piece: &Big) -> Counts {
 fn parameter_counts(alloc: Global, host: &Host, rule: &Rule, nodes: &[u32]) -> Mem<Counts>
     requires occurs { Occurs host.now.big rule.now.redex nodes.now }
 {
-    let piece = param_piece(alloc, host, rule, nodes)?;
+    let piece = parameter_piece(alloc, host, rule, nodes)?;
     Ok(counts_of(&piece))
 }
 

@@ -1,7 +1,7 @@
 //! Hosts that two passes share, on one thread.
 ghost use Rattle.std.specs.Prelude.{◌≡◌, ◌≤◌, IfOk, IfSome, OnOk};
 ghost use Rattle.bg_base.specs.Limits.{most_steps};
-ghost use Rattle.bg_cond.specs.Boards.{Shows, IsFound};
+ghost use Rattle.bg_cond.specs.Boards.{IsViewOf, IsFound};
 ghost use Rattle.bg_cond.specs.Steps.{IsLegal};
 ghost use Rattle.bg_shared.specs.Shared.{OfTable};
 

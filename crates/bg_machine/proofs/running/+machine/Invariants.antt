@@ -9,8 +9,8 @@ decreases-call l = 4 * length l.definitions.now
 abbrev pub decreases-refer : goal.decreases-refer
 decreases-refer l = 4 * length l.definitions.now + 1
 
-abbrev pub decreases-take_step : goal.decreases-take_step
-decreases-take_step l = 4 * length l.definitions.now + 2
+abbrev pub decreases-take_operation : goal.decreases-take_operation
+decreases-take_operation l = 4 * length l.definitions.now + 2
 
 abbrev pub decreases-run : goal.decreases-run
 decreases-run l = 4 * length l.definitions.now + 3

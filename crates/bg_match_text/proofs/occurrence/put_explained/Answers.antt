@@ -1,5 +1,5 @@
 use Rattle.std.proofs.Common.{◌++◌}
-use Rattle.bg_match_text.specs.MatchText.{map_line, decomposition_text, explained}
+use Rattle.bg_match_text.specs.MatchText.{occurrence_line, decomposition_text, explained}
 use Rattle.bg_match_text.proofs.Writing.{behind}
 use Rattle.bg_match_text.proofs.occurrence.put_explained.Goals as goal
 
@@ -12,7 +12,7 @@ put_decomposition-requires-clause-parameter_fits c = c.in_ok-parts.ensures.param
 pub returns : goal.returns
 returns c =
     let parts = c.in_ok-parts.parts in
-    let first = map_line c.args.map.now in
+    let first = occurrence_line c.args.map.now in
     let second = decomposition_text c.args.signature.now parts.context parts.images parts.parameter in
     record {
       text = first ++ second;
