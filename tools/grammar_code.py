@@ -92,9 +92,9 @@ def write_numbers():
     lines = ['use Rattle.std.specs.Prelude.{ℕ}', 'use Rattle.bg_text.specs.declared.token.TokenKind.{TokenKind}',
              'use Rattle.bg_text.specs.declared.token.TokenKind.TheVariants as kinds',
              'use Rattle.bg_syntax.specs.declared.symbol.Symbol.{Symbol}', 'use Rattle.bg_syntax.specs.declared.symbol.Symbol.TheVariants as symbols', '',
-             'abbrev pub kind_number : TokenKind → ℕ']
+             '-- the number of a kind of token', 'abbrev pub kind_number : TokenKind → ℕ']
     lines += [f'kind_number kinds.{v} = {n}' for v, n in KIND_NUMBER.items()]
-    lines += ['', 'abbrev pub symbol_number : Symbol → ℕ']
+    lines += ['', '-- the number of a symbol', 'abbrev pub symbol_number : Symbol → ℕ']
     lines += [f'symbol_number symbols.{s} = {n}' for s, n in SYMBOL_NUMBER.items()]
     antt('specs/Numbers.antt', 'The numbers of the kinds of tokens and of the symbols.', '\n'.join(lines))
 
@@ -113,8 +113,8 @@ def write_grammar():
              'use Rattle.bg_text.specs.declared.token.TokenKind.TheVariants as kinds',
              'use Rattle.bg_syntax.specs.declared.symbol.Symbol.{Symbol}', 'use Rattle.bg_syntax.specs.declared.symbol.Symbol.TheVariants as symbols',
              'use Rattle.bg_grammar.specs.Grammar.{Part, kind, symbol, Grammar}', 'use Rattle.bg_syntax.specs.Numbers.{kind_number, symbol_number}', '',
-             '-- a kind of token as a part, and a symbol', 'abbrev pub k : TokenKind → Part', 'k x = kind (kind_number x)', '',
-             'abbrev pub s : Symbol → Part', 's x = symbol (symbol_number x)', '',
+             '-- a kind of token as a part', 'abbrev pub k : TokenKind → Part', 'k x = kind (kind_number x)', '',
+             '-- a symbol as a part', 'abbrev pub s : Symbol → Part', 's x = symbol (symbol_number x)', '',
              '-- the alternatives of each symbol, in the order of the symbols', 'unfoldable pub model_ways : List (List (List Part))', 'model_ways =']
     for s in SYMBOLS:
         ways = chain(['(' + chain([part_term(p) for p in w]) + ')' if w else '[]' for w in WAYS[s]])
@@ -355,12 +355,13 @@ def write_steps():
 
 
 def list_steps(s, name):
-    return ['', f'unfoldable pub {steps_name(s)} : List {name} → Steps',
+    return ['', f'-- the steps of the items of {s} in turn, and the step that ends the list', f'unfoldable pub {steps_name(s)} : List {name} → Steps',
             f'{steps_name(s)} items = in_turn (opens symbols.{s} {len(WAYS[s]) - 1}) (map {item_name(s)} items)']
 
 
-def cycle_folds(first, uses, results, layer, word, kind, equation):
-    """The layers of the types of a cycle, and the folds that they make; `equation` gives what stands behind a layer's case."""
+def cycle_folds(first, uses, results, layer, word, kind, equation, what):
+    """The layers of the types of a cycle, and the folds that they make, each of which gives `what`; `equation` gives what stands
+    behind a layer's case."""
     types = cycle_types(first)
     module = module_of(first)
     layers = ' '.join(layer(t) for _, t, _ in types)
@@ -373,7 +374,7 @@ def cycle_folds(first, uses, results, layer, word, kind, equation):
     for name, t, single in types:
         uses.add(type_module(t)[0], name)
         uses.add(f'{module}.TheFolds', f'fold-{name}')
-        lines += ['', f'unfoldable pub {word(t)} : {name} → {kind(t)}', f'{word(t)} = fold-{name} {results} {layers}']
+        lines += ['', f'-- {what} of {"an item of " if is_list(t) else "a tree of "}{t}', f'unfoldable pub {word(t)} : {name} → {kind(t)}', f'{word(t)} = fold-{name} {results} {layers}']
     return lines
 
 
@@ -389,7 +390,7 @@ def cycle_steps(first, uses, read):
         return f'd = {steps_term(t, i, way, names, part)}'
 
     lines = ['', '-- the types of this cycle are read by folds; a layer has the steps of its parts in place of the parts']
-    lines += cycle_folds(first, uses, ' '.join(['Steps'] * len(types)), layer_name, item_name, lambda t: 'Steps', equation)
+    lines += cycle_folds(first, uses, ' '.join(['Steps'] * len(types)), layer_name, item_name, lambda t: 'Steps', equation, 'the steps')
     for name, t, single in types:
         if is_list(t):
             lines += list_steps(t, name)
@@ -432,8 +433,8 @@ def reaches_deep(s):
 BELOW_K = ['N', 'N1', 'A', 'Ref']
 
 
-def read_head(s, name, result, contract, about=None):
-    lines = [f'    // {about or rule(s)}']
+def read_head(s, name, result, contract, about=None, item=False):
+    lines = [f'    // {about}' if about else f'    /// Reads {"an item of " if item else ""}`{rule(s)}`.']
     if s in CYCLE:
         lines.append(f'    #[cycle({cycle_name(s)})]')
     lines += [f'    {"" if about else "pub "}fn {name}(&self, at: &mut usize, depth: u32) -> Result<{result}, SyntaxFault>',
@@ -500,7 +501,7 @@ def read_symbol(s):
 def read_list(s):
     end = f'(opens symbols.{s} {len(WAYS[s]) - 1} ∷ [])'
     contract = f'ReadsItem (λ x. {item_name(s)} x depth) self.now.tokens.now at.old depth symbols.{s} {end} at.new result'
-    lines = read_head(s, f'{snake(s)}_item', f'Option<Syn{s}Item>', contract)
+    lines = read_head(s, f'{snake(s)}_item', f'Option<Syn{s}Item>', contract, item=True)
     lines.append(f'        let way = self.choose(*at, Symbol::{s})?;')
     ways = [w[:-1] for w in WAYS[s]]
     lines += read_arms(s, f'Syn{s}Item', ways, lambda v: f'Ok(Some({v}))' if v else 'Ok(None)') + ['    }', '']

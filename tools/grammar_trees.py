@@ -68,7 +68,7 @@ def write_trees():
 
 
 def list_tree(s, name):
-    return ['', f'unfoldable pub {tree_name(s)} : List {name} → Growth',
+    return ['', f'-- the derivation tree of the items of {s}', f'unfoldable pub {tree_name(s)} : List {name} → Growth',
             f'{tree_name(s)} items = nested symbols.{s} {len(WAYS[s]) - 1} (map {item_tree(s)} items)']
 
 
@@ -86,7 +86,7 @@ def cycle_trees(first, uses, read):
         return f'{arguments(t)} = {tree_term(t, i, way, names, part)}'
 
     lines = ['', '-- the types of this cycle are read by folds; a layer has the trees of its parts in place of the parts']
-    lines += cycle_folds(first, uses, cycle_results(first), tree_layer, item_tree, growth, equation)
+    lines += cycle_folds(first, uses, cycle_results(first), tree_layer, item_tree, growth, equation, 'the derivation tree')
     for name, t, single in cycle_types(first):
         if is_list(t):
             lines += list_tree(t, name)

@@ -4,6 +4,7 @@ use Rattle.bg_answers.specs.declared.reply.Reply.{Reply}
 use Rattle.bg_answers.specs.declared.status.Status.{Status}
 use Rattle.bg_answers.specs.declared.status.Status.TheVariants.{Done, Refused, WrongWords, TooMany, NoRun, TooLong, Unsorted}
 
+-- what a command answers
 pub record Answer : Type 0 where
   pub status : Status
   pub text : List ℕ

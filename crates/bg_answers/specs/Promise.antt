@@ -8,6 +8,7 @@ use Rattle.bg_answers.specs.declared.refusal.Refusal.{Refusal}
 use Rattle.bg_answers.specs.declared.reply.Reply.{Reply}
 use Rattle.bg_answers.specs.declared.status.Status.TheVariants.{Refused, WrongWords, TooLong}
 
+-- which inputs a command takes, which it refuses and how, and what it makes of an input
 pub record Promise : Type 1 where
   -- the input is one that the command takes
   pub accepts : List ℕ → Type 0

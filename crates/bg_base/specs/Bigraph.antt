@@ -75,6 +75,7 @@ pub record IsValid (big : Big) : Type 0 where
   pub inner_links_there : All (λ (row : InnerRow). IsTrue (has_link big row.link)) big.inner
   pub rooted : All (λ (row : NodeRow). IsTrue (is_rooted big row.id)) big.nodes
 
+-- the kind is atomic
 abbrev pub is_atomic_kind : Kind → Bool
 is_atomic_kind Normal = false
 is_atomic_kind Atomic = true

@@ -30,11 +30,12 @@ pub record SupportsApart (g f : Big) : Type 0 where
   pub nodes_apart : All (λ (row : NodeRow). IsNone (row_of g.nodes row.id)) f.nodes
   pub edges_apart : All (λ (edge : ℕ). IsNone (edge_of g.edges edge)) f.edges
 
--- the tests of these two facts
+-- the test that F's outer face is G's inner face
 abbrev pub faces_agree : Big → Big → Bool
 faces_agree g f =
     (f.regions == length g.sites) && pointwise (λ (x y : Name). is_eq (name_cmp x y)) f.outer (inner_names g.inner)
 
+-- the test that no node and no edge is in both
 abbrev pub supports_apart : Big → Big → Bool
 supports_apart g f =
     list_all (λ (row : NodeRow). not (is_some (row_of g.nodes row.id))) f.nodes
@@ -56,6 +57,7 @@ abbrev pub row_through : Big → NodeRow → NodeRow
 row_through g row =
     record row { parent = place_through g row.parent; links = map (link_through g) row.links }
 
+-- an inner row of F, in the composition
 abbrev pub inner_through : Big → InnerRow → InnerRow
 inner_through g row = record row { link = link_through g row.link }
 

@@ -72,18 +72,23 @@ abbrev pub or_else : Part → Option (ℕ × ℕ) → Option (Part × ℕ × ℕ
 or_else part None later = later
 or_else part (Some fault) later = Some (part, fault.0, fault.1)
 
+-- the position and the code of the first site that breaks a rule
 unfoldable pub sites_fault : List Control → Big → Option (ℕ × ℕ)
 sites_fault signature big = first_fault (map (site_code signature big) big.sites)
 
+-- the position and the code of the first inner name that breaks a rule
 unfoldable pub inner_fault : Big → Option (ℕ × ℕ)
 inner_fault big = first_fault (codes_from (λ (row : InnerRow). row.name) (inner_code big) None big.inner)
 
+-- the position and the code of the first outer name that breaks a rule
 unfoldable pub outer_fault : Big → Option (ℕ × ℕ)
 outer_fault big = first_fault (codes_from (λ (name : Name). name) outer_code None big.outer)
 
+-- the position and the code of the first edge that breaks a rule
 unfoldable pub edges_fault : Big → Option (ℕ × ℕ)
 edges_fault big = first_fault (codes_from (λ (edge : ℕ). edge) edge_code None big.edges)
 
+-- the position and the code of the first node that breaks a rule
 unfoldable pub nodes_fault : List Control → Big → Option (ℕ × ℕ)
 nodes_fault signature big =
     first_fault (codes_from (λ (row : NodeRow). row.id) (node_code signature big) None big.nodes)

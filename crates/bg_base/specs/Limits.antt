@@ -45,11 +45,14 @@ most_rules = 4096
 
 -- ---- evaluated expressions
 
--- the most terms of one evaluation
+-- the most terms of a statement, or of one use of a definition in the block: each symbol A of the grammar counts one, as often
+-- as it is evaluated, those of the definitions to which references lead among them; those of a rule's sides and conditions are
+-- counted together
 abbrev pub most_terms : ℕ
 most_terms = 1048576
 
--- the most references that are followed one inside another
+-- the most symbols K of the grammar that are open at once while an expression is evaluated: one in the expression, and one
+-- more behind each `/x`, behind each dot, inside each bracket, and inside each definition to which a reference leads
 abbrev pub most_depth : ℕ
 most_depth = 1024
 

@@ -33,6 +33,7 @@ abbrev pub place_beside : ℕ → Place → Place
 place_beside width (Node node) = Node node
 place_beside width (Region region) = Region (width + region)
 
+-- the row of a node of G, where F stands before it with so many regions
 abbrev pub row_beside : ℕ → NodeRow → NodeRow
 row_beside width row = record row { parent = place_beside width row.parent }
 
@@ -58,10 +59,12 @@ parallel f g = beside f g (set_of name_cmp (f.outer ++ g.outer))
 
 -- ---- in one region
 
+-- the place, where every region is made region 0
 abbrev pub place_in_one : Place → Place
 place_in_one (Node node) = Node node
 place_in_one (Region region) = Region 0
 
+-- the row of a node, where every region is made region 0
 abbrev pub row_in_one : NodeRow → NodeRow
 row_in_one row = record row { parent = place_in_one row.parent }
 
@@ -86,9 +89,11 @@ abbrev pub link_closed : Name → ℕ → Link → Link
 link_closed name edge (Edge other) = Edge other
 link_closed name edge (Outer other) = if is_eq (name_cmp other name) then Edge edge else Outer other
 
+-- the row of a node, where the outer name becomes the edge
 abbrev pub row_closed : Name → ℕ → NodeRow → NodeRow
 row_closed name edge row = record row { links = map (link_closed name edge) row.links }
 
+-- an inner row, where the outer name becomes the edge
 abbrev pub inner_closed : Name → ℕ → InnerRow → InnerRow
 inner_closed name edge row = record row { link = link_closed name edge row.link }
 
@@ -102,6 +107,7 @@ close f name edge =
       outer = filter (λ (other : Name). not (is_eq (name_cmp other name))) f.outer;
     }
 
+-- both are one link
 abbrev pub same_link : Link → Link → Bool
 same_link (Edge d) (Edge e) = d == e
 same_link (Edge d) (Outer y) = false

@@ -2,12 +2,15 @@
 use Rattle.std.specs.Prelude.{ℕ, Bool, false, ◌&&◌, ◌||◌, not, nat_le, ◌==◌, List, [], ◌∷◌}
 use Rattle.std.specs.List.{list_all}
 
+-- an ASCII letter from `A` to `Z`
 abbrev pub is_upper_case : ℕ → Bool
 is_upper_case byte = nat_le 65 byte && nat_le byte 90
 
+-- an ASCII letter from `a` to `z`
 abbrev pub is_lower_case : ℕ → Bool
 is_lower_case byte = nat_le 97 byte && nat_le byte 122
 
+-- an ASCII digit
 abbrev pub is_digit : ℕ → Bool
 is_digit byte = nat_le 48 byte && nat_le byte 57
 

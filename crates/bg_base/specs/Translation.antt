@@ -18,17 +18,21 @@ number_renamed [] new old = old
 number_renamed (x ∷ xs) [] old = old
 number_renamed (x ∷ xs) (y ∷ ys) old = if x == old then y else number_renamed xs ys old
 
+-- the numbers of the nodes, in the order of the rows
 abbrev pub node_numbers : List NodeRow → List ℕ
 node_numbers rows = map (λ (row : NodeRow). row.id) rows
 
+-- the place, where the nodes have these new numbers
 abbrev pub place_renamed : Big → List ℕ → Place → Place
 place_renamed big nodes (Node node) = Node (number_renamed (node_numbers big.nodes) nodes node)
 place_renamed big nodes (Region region) = Region region
 
+-- the link, where the edges have these new numbers
 abbrev pub link_renamed : Big → List ℕ → Link → Link
 link_renamed big edges (Edge edge) = Edge (number_renamed big.edges edges edge)
 link_renamed big edges (Outer name) = Outer name
 
+-- the row of a node, where the nodes and the edges have these new numbers
 abbrev pub row_renamed : Big → List ℕ → List ℕ → NodeRow → NodeRow
 row_renamed big nodes edges row =
     record {
@@ -38,6 +42,7 @@ row_renamed big nodes edges row =
       links = map (link_renamed big edges) row.links;
     }
 
+-- an inner row, where the edges have these new numbers
 abbrev pub inner_renamed : Big → List ℕ → InnerRow → InnerRow
 inner_renamed big edges row = record row { link = link_renamed big edges row.link }
 

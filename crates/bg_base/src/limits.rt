@@ -27,10 +27,13 @@ pub const MOST_VALUES: usize = 4096;
 /// The most rules of a system, and its most predicates.
 pub const MOST_RULES: usize = 4096;
 
-/// The most terms of one evaluation.
+/// The most terms of a statement, or of one use of a definition in the block: each symbol `A` of the grammar counts one, as often
+/// as it is evaluated, those of the definitions to which references lead among them. Those of a rule's sides and conditions are
+/// counted together.
 pub const MOST_TERMS: u32 = 1_048_576;
 
-/// The most references that are followed one inside another.
+/// The most symbols `K` of the grammar that are open at once while an expression is evaluated: one in the expression, and one
+/// more behind each `/x`, behind each dot, inside each bracket, and inside each definition to which a reference leads.
 pub const MOST_DEPTH: u32 = 1024;
 
 /// The most nodes of what an expression comes to.

@@ -17,22 +17,24 @@ use Rattle.bg_rules.specs.Instantiation.{is_among}
 
 -- ---- links
 
--- the edges, and the outer names, among the links
+-- the edges among the links
 abbrev pub edges_in : List Link → List ℕ
 edges_in [] = []
 edges_in (Edge edge ∷ links) = edge ∷ edges_in links
 edges_in (Outer name ∷ links) = edges_in links
 
+-- the outer names among the links
 abbrev pub names_in : List Link → List Name
 names_in [] = []
 names_in (Edge edge ∷ links) = names_in links
 names_in (Outer name ∷ links) = name ∷ names_in links
 
--- the edges, and the outer names, that ports of the rows have, for each port
+-- the edges that ports of the rows have, for each port
 abbrev pub tied_edges : List NodeRow → List ℕ
 tied_edges [] = []
 tied_edges (row ∷ rows) = edges_in row.links ++ tied_edges rows
 
+-- the outer names that ports of the rows have, for each port
 abbrev pub tied_names : List NodeRow → List Name
 tied_names [] = []
 tied_names (row ∷ rows) = names_in row.links ++ tied_names rows

@@ -28,8 +28,8 @@ pub fn judge(alloc: Global, host: &Host, system: &System, step: &Step) -> Mem<Ve
     Ok(verdict)
 }
 
-/// The same at any host that answers a search, which is not indexed anew: costs what [`judge_alone`] costs; and where that does
-/// not tell, the search for the first legal step ([`steps_in`]).
+/// The verdict of [`judge`] at any host that answers a search, which is not indexed anew: costs what [`judge_alone`] costs; and
+/// where that does not tell, the search for the first legal step ([`steps_in`]).
 pub fn judge_in<H: NumberedHost>(
     alloc: Global,
     host: &H,

@@ -41,7 +41,8 @@ pub fn steps(alloc: Global, host: &Host, system: &System, most: u32) -> Mem<Vec<
     Ok(steps)
 }
 
-/// The same of any host that answers a search, which is not indexed anew: costs what [`steps`] costs but for the index.
+/// The first `most` legal steps, by rule and then by map, at any host that answers a search, which is not indexed anew: costs
+/// what [`steps`] costs but for the index.
 pub fn steps_in<H: NumberedHost>(
     alloc: Global,
     host: &H,

@@ -36,9 +36,9 @@ pub fn join(alloc: Global, parts: &Decomposition, pattern: &Pattern) -> Mem<Big>
     Ok(whole)
 }
 
-/// The same with any valid bigraph in the pattern's place, such as the reactum of a rule: the context, with the middle at
-/// these nodes and edges in it, with the parameter in the middle. It refuses only for want of memory. Costs time n log n
-/// in the size of the three, and memory in proportion to it.
+/// The context, with the middle at these nodes and edges in it, with the parameter in the middle: as [`join`] does it with
+/// a pattern, with any valid bigraph in its place, such as the reactum of a rule. It refuses only for want of memory. Costs time
+/// n log n in the size of the three, and memory in proportion to it.
 pub fn recompose(
     alloc: Global,
     context: &Big,

@@ -38,14 +38,17 @@ AreBelow count rules = (l : Listed) → Mem l rules → l.class < count
 
 -- ---- the trees in the order of the text
 
+-- the references of a list
 abbrev pub trees_of_refs : SynRefs → List SynRef
 trees_of_refs (refs_ways.Way1 first more) = first ∷ map (λ (item : SynMoreRefItem). item.part2) more.items
 trees_of_refs refs_ways.Way2 = []
 
+-- the references of a class
 abbrev pub refs_of_class : SynClass → List SynRef
 refs_of_class (class_ways.Way1 bracket refs close) = trees_of_refs refs
 refs_of_class (class_ways.Way2 bracket refs close) = trees_of_refs refs
 
+-- the classes of a list
 abbrev pub trees_of_classes : SynClasses → List SynClass
 trees_of_classes (classes_ways.Way1 first more) = first ∷ map (λ (item : SynMoreClItem). item.part2) more.items
 trees_of_classes classes_ways.Way2 = []
@@ -55,6 +58,7 @@ abbrev pub class_count : SynClasses → ℕ
 class_count (classes_ways.Way1 first more) = length more.items + 1
 class_count classes_ways.Way2 = 0
 
+-- the references behind `preds`
 abbrev pub refs_of_preds : SynPreds → List SynRef
 refs_of_preds (preds_ways.Way1 word equals bracket refs close end) = trees_of_refs refs
 refs_of_preds preds_ways.Way2 = []
@@ -79,6 +83,7 @@ classes_read text spaces tree = in_turn (with_class text spaces) (trees_of_class
 abbrev pub with_pred : ScopeParts → NameSpacesParts → SynRef → List Reference → Result (List Reference) Refusal
 with_pred text spaces tree done = reference_read text spaces.parameters spaces.bigraphs tree >>= λ r. Ok (done ++ r ∷ [])
 
+-- the references of the predicates
 abbrev pub preds_read : ScopeParts → NameSpacesParts → SynPreds → Result (List Reference) Refusal
 preds_read text spaces tree = in_turn (with_pred text spaces) (refs_of_preds tree) []
 

@@ -27,6 +27,7 @@ abbrev pub start_or : ℕ → Option Token → ℕ
 start_or end (Some token) = token.start
 start_or end None = end
 
+-- where the token of that number begins; the end of the text, where there is none
 abbrev pub offset_of : ScopeParts → ℕ → ℕ
 offset_of text token = start_or (length text.bytes) (slice_get text.tokens token)
 

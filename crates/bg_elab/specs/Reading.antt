@@ -18,11 +18,12 @@ use Rattle.bg_text.specs.Tokens.{AreTokens}
 use Rattle.bg_values.specs.declared.refusal.Refusal.{Refusal}
 use Rattle.bg_values.specs.Scopes.{ScopeParts}
 
--- the faults of tokens and of the grammar, as faults of models
+-- a fault of tokens, as a fault of a model
 abbrev pub of_lexical : LexFault → ModelFault
 of_lexical (lexical.Bad code offset) = faults.Bad code details.Nothing offset
 of_lexical lexical.OutOfMemory = faults.OutOfMemory
 
+-- a fault of the grammar, as a fault of a model
 abbrev pub of_syntax : ScopeParts → SyntaxFault → ModelFault
 of_syntax text (syntax.Unexpected token) = faults.Bad 31 details.Nothing (offset_of text token)
 of_syntax text (syntax.TooDeep token) = faults.Bad 32 details.Nothing (offset_of text token)

@@ -52,11 +52,13 @@ with_rules d l = in_turn (with_rule d l) (choices l.reference.lists)
 
 -- ---- predicates
 
+-- these predicates and the one that the reference is for a choice; its number is judged before anything is evaluated
 abbrev pub with_predicate : Defined → Reference → List Value → List Predicate × List Control → Result (List Predicate × List Control) Refusal
 with_predicate d r choice made =
     room_at Preds r.at (length made.0) >>= λ room. label_with r choice >>= λ label.
     predicate_used d r.at r.number label made.1 >>= λ v. Ok (made.0 ++ v.0 ∷ [], v.1)
 
+-- these predicates and those that the reference stands for, one for each choice of values
 abbrev pub with_predicates : Defined → Reference → List Predicate × List Control → Result (List Predicate × List Control) Refusal
 with_predicates d r = in_turn (with_predicate d r) (choices r.lists)
 

@@ -24,6 +24,7 @@ pub data GrammarStep : Type 0 where
   -- a token of this kind is taken, so deep, which is the token of this number, from 0
   taken : ℕ → ℕ → ℕ → GrammarStep
 
+-- the part, still to be derived, at that depth
 abbrev pub expect : ℕ → Part → Expected
 expect depth part = record { depth = depth; part = part }
 

@@ -39,7 +39,8 @@ pub fn counters_after(
     counters_with(host, rule, gone, late)
 }
 
-/// The same, where the late copies have so many nodes.
+/// The counters after the reaction by the rule, where the late copies have so many nodes; none where the nodes after it, or a
+/// counter, pass their limit.
 fn counters_with(host: &IndexedHost, rule: &Rule, gone: &[u32], late: u32) -> Option<Counters>
     requires is_host { IsHost host.now }
     ensures { MatchOption result

@@ -43,7 +43,7 @@ pub fn moves_of(
     Ok(moves)
 }
 
-/// The same in the order of the entries. Costs what `tops_of` costs for each entry that is not late.
+/// The moves of [`moves_of`], in the order of the entries. Costs what `tops_of` costs for each entry that is not late.
 fn collected(
     alloc: Global,
     host: &IndexedHost,

@@ -55,7 +55,7 @@ pub fn plan_of(
     Ok(plan)
 }
 
-/// The same, where that was read.
+/// What the rule is to leave of the host, at the nodes of the map, by what was read there.
 fn plan_at(
     alloc: Global,
     host: &IndexedHost,

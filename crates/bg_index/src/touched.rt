@@ -57,7 +57,7 @@ fn changed_of(alloc: Global, host: &IndexedHost, plan: &Plan) -> Mem<Vec<u32>>
     Ok(number_set(nodes))
 }
 
-/// The same, one after the other, some of them more than once.
+/// The nodes that a plan makes, moves, gives other children or other points of a link, some of them more than once.
 fn noted_of(alloc: Global, host: &IndexedHost, plan: &Plan) -> Mem<Vec<u32>>
     requires gone_ascends { IsStrictlySortedBy nat_cmp plan.now.gone.items }
     requires named { (at : ℕ) → Member at (names_bundled plan.now.bundles.items) → at < length host.now.big.outer }

@@ -5,6 +5,7 @@ use Rattle.std.specs.Prelude.{ℕ, zero, suc, Bool, List, [], ◌∷◌, ◌++�
 use Rattle.std.specs.List.{prefix_len}
 
 infixl 10 ◌>>=◌
+-- goes on with the value; a refusal is the first one
 abbrev pub ◌>>=◌ : {A B E : Type 0} → Result A E → (A → Result B E) → Result B E
 (Ok a) >>= f = f a
 (Err e) >>= f = Err e
@@ -72,5 +73,6 @@ unfoldable pub chain_within : {A : Type 0} → ℕ → ℕ → (List ℕ → Res
 chain_within closing separator read zero bytes = Err tt
 chain_within closing separator read (suc most) bytes = next closing separator read bytes >>= λ n. further n.0 n.1 (chain_within closing separator read most n.1)
 
+-- as many as there are up to the closing byte, each behind a separator
 abbrev pub chain : {A : Type 0} → ℕ → ℕ → (List ℕ → Result (A × List ℕ) (Unit {0})) → List ℕ → Result (List A × List ℕ) (Unit {0})
 chain closing separator read bytes = chain_within closing separator read (length bytes) bytes

@@ -28,9 +28,11 @@ greatest_number = 2147483647
 abbrev pub greatest_int : ℕ
 greatest_int = 9223372036854775807
 
+-- a number that a listing spells
 abbrev pub IsNumber : ℕ → Type 0
 IsNumber number = number ≤ greatest_number
 
+-- a place that a listing spells
 abbrev pub IsPlace : Place → Type 0
 IsPlace (Node node) = IsNumber node
 IsPlace (Region region) = IsNumber region
@@ -44,15 +46,18 @@ begins test (b ∷ bytes) = test b
 abbrev pub IsWord : (ℕ → Bool) → List ℕ → Type 0
 IsWord first word = IsTrue (list_all is_word_byte word) × IsTrue (begins first word)
 
+-- a name that a listing spells; a plain one begins with a lower-case letter
 abbrev pub IsName : Name → Type 0
 IsName (Plain word) = IsWord is_lower_case word
 IsName (Port node index) = IsNumber node × IsNumber index
 IsName (Opened edge) = IsNumber edge
 
+-- a link that a listing spells
 abbrev pub IsLink : Link → Type 0
 IsLink (Edge edge) = IsNumber edge
 IsLink (Outer name) = IsName name
 
+-- an inner row that a listing spells
 abbrev pub IsInner : InnerRow → Type 0
 IsInner row = IsName row.name × IsLink row.link
 
@@ -61,10 +66,12 @@ abbrev pub IsInt : ℤ → Type 0
 IsInt (pos n) = n ≤ greatest_int
 IsInt (negsuc n) = n ≤ greatest_int
 
+-- a value that a listing spells: a whole number of 64 bits with sign, or a text of printable bytes other than `"`
 abbrev pub IsValue : Value → Type 0
 IsValue (Int number) = IsInt number
 IsValue (Words text) = IsTrue (list_all is_text_byte text)
 
+-- a label that a listing spells; its word begins with an upper-case letter
 abbrev pub IsLabel : Label → Type 0
 IsLabel label = IsWord is_upper_case label.name × AllByRecursion IsValue label.args
 
@@ -80,6 +87,7 @@ pub record IsControl (control : Control) : Type 0 where
   pub label : IsLabel control.label
   pub arity : control.arity ≤ most_ports
 
+-- the row of a node that a listing under the signature spells
 pub record IsNode (signature : List Control) (row : NodeRow) : Type 0 where
   pub id : IsNumber row.id
   pub label : IsLabel (label_of signature row.control)

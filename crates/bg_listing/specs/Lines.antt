@@ -28,6 +28,7 @@ bad_line bytes = record { code = 1; left = length bytes }
 abbrev pub too_many : List ℕ → Bad
 too_many bytes = record { code = 2; left = length bytes }
 
+-- what was read, or else the refusal of a line that is not of its form
 abbrev pub or_bad_line : {A : Type 0} → Result (A × List ℕ) (Unit {0}) → List ℕ → Result (A × List ℕ) Bad
 or_bad_line (Ok a) bytes = Ok a
 or_bad_line (Err e) bytes = Err (bad_line bytes)
@@ -46,15 +47,19 @@ section_at most word read bytes = count_at most word bytes >>= λ n. each read n
 
 -- ---- the rows
 
+-- the line of an edge
 unfoldable pub edge_row : List ℕ → Result (ℕ × List ℕ) Bad
 edge_row bytes = row (line (number_at greatest_number)) bytes
 
+-- the line of a place
 unfoldable pub place_row : List ℕ → Result (Place × List ℕ) Bad
 place_row bytes = row (line place_at) bytes
 
+-- the line of a name
 unfoldable pub name_row : List ℕ → Result (Name × List ℕ) Bad
 name_row bytes = row (line name_at) bytes
 
+-- the line of an inner name and its link
 unfoldable pub inner_row : List ℕ → Result (InnerRow × List ℕ) Bad
 inner_row bytes = row (line inner_at) bytes
 
@@ -70,21 +75,26 @@ control_of signature label = unwrap_or (control_number signature label) (length 
 abbrev pub NodeParts : Type 0
 NodeParts = ℕ × (Label × (Place × List Link))
 
+-- the row of a node with these parts, whose label stands for its control
 abbrev pub row_from_parts : List Control → NodeParts → NodeRow
 row_from_parts signature parts = record { id = parts.0; control = control_of signature parts.1.0; parent = parts.1.1.0; links = parts.1.1.1 }
 
+-- the links of a node, each behind a space, and the line feed
 unfoldable pub links_at : List ℕ → Result (List Link × List ℕ) (Unit {0})
 links_at bytes = chain line_feed space link_at bytes
 
+-- what the line of a node says: its number, its label, its place, its links
 unfoldable pub node_at : List Control → List ℕ → Result (NodeRow × List ℕ) (Unit {0})
 node_at signature bytes =
     mapped (row_from_parts signature) (both (number_at greatest_number) (behind (codes " ") (both label_at (behind (codes " ") (both place_at links_at)))) bytes)
 
+-- the line of a node
 unfoldable pub node_row : List Control → List ℕ → Result (NodeRow × List ℕ) Bad
 node_row signature bytes = row (node_at signature) bytes
 
 -- ---- listings, as the first pass reads them
 
+-- the listing of a signature, whose labels may still repeat
 unfoldable pub signature_at : List ℕ → Result (List Control × List ℕ) Bad
 signature_at bytes = section_at most_controls (codes "signature ") control_row bytes
 
@@ -92,9 +102,11 @@ signature_at bytes = section_at most_controls (codes "signature ") control_row b
 abbrev pub Sections : Type 0 → Type 0
 Sections Node = ℕ × (List Place × (List InnerRow × (List Name × (List ℕ × List Node))))
 
+-- the bigraph with these parts
 abbrev pub big_of : Sections NodeRow → Big
 big_of parts = record { nodes = parts.1.1.1.1.1; edges = parts.1.1.1.1.0; sites = parts.1.0; inner = parts.1.1.0; regions = parts.0; outer = parts.1.1.1.0 }
 
+-- the listing of a bigraph, which may still break a rule
 unfoldable pub big_at : List Control → List ℕ → Result (Big × List ℕ) Bad
 big_at signature bytes =
     mapped big_of (both (count_at most_rows (codes "bigraph ")) (both (section_at most_rows (codes "sites ") place_row)

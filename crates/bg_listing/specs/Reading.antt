@@ -28,6 +28,7 @@ not_there bytes = tt
 abbrev pub is_numeral : List ℕ → Bool
 is_numeral digits = nat_lt 0 (length digits) && (not (slice_index digits 0 == 48) || (length digits == 1))
 
+-- a numeral of that value at most
 abbrev pub is_numeral_up_to : ℕ → List ℕ → Bool
 is_numeral_up_to most digits = is_numeral digits && nat_le (digits_value 10 digits) most
 
@@ -35,6 +36,7 @@ is_numeral_up_to most digits = is_numeral digits && nat_le (digits_value 10 digi
 unfoldable pub number_at : ℕ → List ℕ → Result (ℕ × List ℕ) (Unit {0})
 number_at most bytes = mapped (digits_value 10) (only_if not_there (is_numeral_up_to most) (run is_ascii_digit) bytes)
 
+-- `n` and a node, or `r` and a region
 unfoldable pub place_at : List ℕ → Result (Place × List ℕ) (Unit {0})
 place_at [] = Err tt
 place_at (b ∷ bytes) = if b == 110 then mapped Node (number_at greatest_number bytes) else (if b == 114 then mapped Region (number_at greatest_number bytes) else Err tt)
@@ -43,19 +45,23 @@ place_at (b ∷ bytes) = if b == 110 then mapped Node (number_at greatest_number
 unfoldable pub word_at : (ℕ → Bool) → List ℕ → Result (List ℕ × List ℕ) (Unit {0})
 word_at first bytes = only_if not_there (begins first) (run is_word_byte) bytes
 
+-- what stands behind the `@` of a port: its node and its index
 abbrev pub port_at : List ℕ → Result ((ℕ × ℕ) × List ℕ) (Unit {0})
 port_at bytes = both (number_at greatest_number) (behind (codes ".") (number_at greatest_number)) bytes
 
+-- `@` and a port, `~` and an opened edge, or a word with a lower-case letter in front
 unfoldable pub name_at : List ℕ → Result (Name × List ℕ) (Unit {0})
 name_at [] = Err tt
 name_at (b ∷ bytes) =
     if b == 64 then mapped (λ p. Port p.0 p.1) (port_at bytes)
     else (if b == 126 then mapped Opened (number_at greatest_number bytes) else mapped Plain (word_at is_lower_case (b ∷ bytes)))
 
+-- `#` and an edge, or `=` and an outer name
 unfoldable pub link_at : List ℕ → Result (Link × List ℕ) (Unit {0})
 link_at [] = Err tt
 link_at (b ∷ bytes) = if b == 35 then mapped Edge (number_at greatest_number bytes) else (if b == 61 then mapped Outer (name_at bytes) else Err tt)
 
+-- an inner name, a space, and its link
 unfoldable pub inner_at : List ℕ → Result (InnerRow × List ℕ) (Unit {0})
 inner_at bytes = mapped (λ p. record { name = p.0; link = p.1 }) (both name_at (behind (codes " ") link_at) bytes)
 
@@ -69,6 +75,7 @@ negative_at bytes = mapped (λ n. n - 1) (only_if not_there (λ n. not (n == 0))
 unfoldable pub quoted_at : List ℕ → Result (List ℕ × List ℕ) (Unit {0})
 quoted_at bytes = ended (codes "\"") (run is_text_byte) bytes
 
+-- a text in quotes, or a whole number of 64 bits with sign
 unfoldable pub value_at : List ℕ → Result (Value × List ℕ) (Unit {0})
 value_at [] = Err tt
 value_at (b ∷ bytes) =
@@ -84,6 +91,7 @@ abbrev pub args_or_none : Result (List Value × List ℕ) (Unit {0}) → List �
 args_or_none (Ok args) bytes = args
 args_or_none (Err e) bytes = ([], bytes)
 
+-- the arguments with their brackets; none where they do not stand there
 abbrev pub optional_args_at : List ℕ → Result (List Value × List ℕ) (Unit {0})
 optional_args_at bytes = Ok (args_or_none (args_at bytes) bytes)
 
@@ -93,8 +101,10 @@ label_at bytes = mapped (λ p. record { name = p.0; args = p.1 }) (both (word_at
 
 -- ---- rows of a signature
 
+-- `normal` or `atomic`
 unfoldable pub kind_at : List ℕ → Result (Kind × List ℕ) (Unit {0})
 kind_at bytes = or_else (after (codes "normal") bytes >>= λ rest. Ok (Normal, rest)) (after (codes "atomic") bytes >>= λ rest. Ok (Atomic, rest))
 
+-- the label of a control, its arity and its kind
 unfoldable pub control_at : List ℕ → Result (Control × List ℕ) (Unit {0})
 control_at bytes = mapped (λ p. record { label = p.0; arity = p.1.0; kind = p.1.1 }) (both label_at (behind (codes " ") (both (number_at greatest_number) (behind (codes " ") kind_at))) bytes)

@@ -19,16 +19,19 @@ use Rattle.bg_base.specs.declared.big.InnerRow.{InnerRow}
 use Rattle.bg_base.specs.declared.big.NodeRow.{NodeRow}
 use Rattle.bg_base.specs.declared.big.Big.{Big}
 
--- the bytes between the fields and at the end of a line, and those of a list of arguments
+-- the byte between the fields of a line
 abbrev pub space : ℕ
 space = 32
 
+-- the byte at the end of a line
 abbrev pub line_feed : ℕ
 line_feed = 10
 
+-- the byte between two arguments
 abbrev pub comma : ℕ
 comma = 44
 
+-- the byte at the end of a list of arguments
 abbrev pub closing_bracket : ℕ
 closing_bracket = 41
 
@@ -69,27 +72,34 @@ abbrev pub args_text : List Value → List ℕ
 args_text [] = []
 args_text (value ∷ values) = codes "(" ++ (value_text value ++ chain_text closing_bracket comma value_text values)
 
+-- the word of the label, and its arguments
 abbrev pub label_text : Label → List ℕ
 label_text label = label.name ++ args_text label.args
 
+-- `normal` or `atomic`
 abbrev pub kind_text : Kind → List ℕ
 kind_text Normal = codes "normal"
 kind_text Atomic = codes "atomic"
 
 -- ---- lines
 
+-- the line of an edge
 abbrev pub edge_line : ℕ → List ℕ
 edge_line edge = decimal edge ++ codes "\n"
 
+-- the line of a place
 abbrev pub place_line : Place → List ℕ
 place_line place = place_text place ++ codes "\n"
 
+-- the line of a name
 abbrev pub name_line : Name → List ℕ
 name_line name = name_text name ++ codes "\n"
 
+-- the line of an inner name: the name, and its link
 abbrev pub inner_line : InnerRow → List ℕ
 inner_line row = (name_text row.name ++ (codes " " ++ link_text row.link)) ++ codes "\n"
 
+-- the line of a control: its label, its arity, and its kind
 abbrev pub control_line : Control → List ℕ
 control_line control = (label_text control.label ++ (codes " " ++ (decimal control.arity ++ (codes " " ++ kind_text control.kind)))) ++ codes "\n"
 

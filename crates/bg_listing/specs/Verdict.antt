@@ -19,6 +19,7 @@ use Rattle.bg_listing.specs.Limits.{IsLabel, AreCounted, IsControl}
 use Rattle.bg_listing.specs.Lines as lines
 use Rattle.bg_listing.specs.Lines.{signature_at, big_at}
 
+-- how many of the bytes are line feeds
 abbrev pub line_feeds : List ℕ → ℕ
 line_feeds bytes = count_by (λ b. b == 10) bytes
 
@@ -63,6 +64,7 @@ repeat_among before [] = None
 repeat_among before (control ∷ controls) =
     if is_some (control_number before control.label) then Some 0 else option_map suc (repeat_among (before ++ control ∷ []) controls)
 
+-- the first of the controls, counted from 0, whose label stands before among them
 abbrev pub first_repeat : List Control → Option ℕ
 first_repeat controls = repeat_among [] controls
 
@@ -71,6 +73,7 @@ abbrev pub without_repeat : {A : Type 0} → Option ℕ → ℕ → A → Result
 without_repeat None first_line found = Ok found
 without_repeat (Some row) first_line found = Err (9, first_line + row)
 
+-- the signature that is listed at the cursor, and the bytes behind it; or the code and the line of the refusal
 unfoldable pub signature_verdict : List ℕ → Cursor → Result (List Control × List ℕ) ListingRefusal
 signature_verdict bytes at = judged bytes (signature_at (drop at.offset bytes)) (λ found. without_repeat (first_repeat found.0) (at.line + 1) found)
 
@@ -93,6 +96,7 @@ abbrev pub without_fault : {A : Type 0} → Option (Part × ℕ × ℕ) → ℕ 
 without_fault None line big found = Ok found
 without_fault (Some fault) line big found = Err (fault.2, line + lines_before fault.0 big + fault.1)
 
+-- the bigraph that is listed at the cursor, and the bytes behind it; or the code and the line of the refusal
 unfoldable pub big_verdict : List Control → List ℕ → Cursor → Result (Big × List ℕ) ListingRefusal
 big_verdict signature bytes at =
     judged bytes (big_at signature (drop at.offset bytes)) (λ found. without_fault (fault_of signature found.0) at.line found.0 found)

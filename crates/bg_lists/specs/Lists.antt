@@ -15,11 +15,12 @@ pub data At {X : Type 0} (x : X) : ℕ → List X → Type 0 where
 pub record Disjoint {X : Type 0} (xs ys : List X) : Type 0 where
   pub apart : (x : X) → Mem x xs → Mem x ys → ⊥
 
--- the members in order: each goes in front of the first that it is to stand before
+-- the members and one more, in front of the first that it is to stand before
 unfoldable pub put : {X : Type 0} → (X → X → Bool) → X → List X → List X
 put before x [] = x ∷ []
 put before x (y ∷ ys) = if before x y then x ∷ y ∷ ys else y ∷ put before x ys
 
+-- the members in order
 unfoldable pub sort : {X : Type 0} → (X → X → Bool) → List X → List X
 sort before [] = []
 sort before (x ∷ xs) = put before x (sort before xs)

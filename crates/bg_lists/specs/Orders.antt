@@ -23,12 +23,13 @@ pub data Ascending {X : Type 0} (Below : X → X → Type 0) : List X → Type 0
   asc_nil : Ascending Below []
   asc_cons : {x : X} {xs : List X} → ((y : X) → Mem y xs → Below x y) → Ascending Below xs → Ascending Below (x ∷ xs)
 
--- the members in order, each once: of those that the comparison ties, one
+-- the members, which ascend, and one more in its place where the comparison ties it to none of them
 unfoldable pub put_once : {X : Type 0} → (X → X → Ordering) → X → List X → List X
 put_once cmp x [] = x ∷ []
 put_once cmp x (y ∷ ys) =
     if is_lt (cmp x y) then x ∷ y ∷ ys else (if is_eq (cmp x y) then y ∷ ys else y ∷ put_once cmp x ys)
 
+-- the members in order, each once: of those that the comparison ties, one
 unfoldable pub set_of : {X : Type 0} → (X → X → Ordering) → List X → List X
 set_of cmp [] = []
 set_of cmp (x ∷ xs) = put_once cmp x (set_of cmp xs)

@@ -32,6 +32,7 @@ parent_in rows node = option_map (λ (row : ParentRow). row.parent) (row_of rows
 abbrev pub parent_of : Places → ℕ → Option Place
 parent_of places node = parent_in places.parents node
 
+-- both are one place
 abbrev pub same_place : Place → Place → Bool
 same_place (Node m) (Node n) = m == n
 same_place (Node m) (Region n) = false

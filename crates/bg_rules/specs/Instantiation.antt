@@ -40,10 +40,12 @@ number_in_copy parameter entries next at region node =
     then next + late_nodes parameter [] (take at entries) + position_or_len (λ other. other == node) (node_numbers (part parameter region))
     else node
 
+-- a place of the part, in the copy of entry `at`, whose region is region `at`
 abbrev pub place_in_copy : Big → List ℕ → ℕ → ℕ → ℕ → Place → Place
 place_in_copy parameter entries next at region (Node node) = Node (number_in_copy parameter entries next at region node)
 place_in_copy parameter entries next at region (Region other) = Region at
 
+-- the row of a node of the part, in the copy of entry `at`
 abbrev pub row_in_copy : Big → List ℕ → ℕ → ℕ → ℕ → NodeRow → NodeRow
 row_in_copy parameter entries next at region row =
     record {

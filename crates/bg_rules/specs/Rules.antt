@@ -52,11 +52,13 @@ pub record IsRule (rule : RuleParts) : Type 0 where
 
 -- ---- the tests of the sides and of the map
 
+-- the test that the sides have as many regions and one list of outer names, and the reactum no inner names
 abbrev pub sides_agree : Big → Big → Bool
 sides_agree redex reactum =
     (redex.regions == reactum.regions)
     && (pointwise (λ (x y : Name). is_eq (name_cmp x y)) redex.outer reactum.outer && (length reactum.inner == 0))
 
+-- the test that the map has an entry for each site of the reactum, and each entry is a site of the redex
 abbrev pub map_fits : Big → Big → List ℕ → Bool
 map_fits redex reactum entries =
     (length entries == length reactum.sites) && list_all (λ entry. nat_lt entry (length redex.sites)) entries

@@ -54,6 +54,7 @@ abbrev pub solid_or : ℕ → Big → Option ℕ → Result Big Refusal
 solid_or at big None = Ok big
 solid_or at big (Some clause) = refused (NotSolid clause) at
 
+-- the bigraph, where it is solid
 abbrev pub solid_at : ℕ → Big → Result Big Refusal
 solid_at at big = solid_or at big (unsolid_clause big)
 

@@ -69,14 +69,17 @@ entries_read text lists.Way2 = Ok []
 
 -- ---- the conditions: `if !E in ctx, F in param`
 
+-- no `!` stands before the pattern
 abbrev pub is_positive : SynNot → Bool
 is_positive (nots.Way1 mark) = false
 is_positive nots.Way2 = true
 
+-- the side that the word names
 abbrev pub side_of : SynSide → Side
 side_of (sides.Way1 word) = Ctx
 side_of (sides.Way2 word) = Param
 
+-- a condition: its pattern, its side, and whether it wants the pattern or wants it not
 abbrev pub condition_read : Visible → SynTest → Result ConditionExpression Refusal
 condition_read visible tree =
     (e_read tree.part2).1 visible >>= λ e.
@@ -90,22 +93,27 @@ with_condition visible tree done = condition_read visible tree >>= λ condition.
 abbrev pub with_conditions : Visible → List SynTestsItem → List ConditionExpression → Result (List ConditionExpression) Refusal
 with_conditions visible = in_turn (λ (item : SynTestsItem). with_condition visible item.part2)
 
+-- the conditions behind `if`, in the order of the text
 abbrev pub conditions_read : Visible → SynCond → Result (List ConditionExpression) Refusal
 conditions_read visible tree = with_condition visible tree.part2 [] >>= with_conditions visible tree.part3.items
 
 -- ---- what stands behind the reactum: map and conditions, in either order
 
+-- the conditions behind a map; none where none stand there
 abbrev pub later_conditions : Visible → SynIfTail → Result (List ConditionExpression) Refusal
 later_conditions visible (if_tails.Way1 conditions) = conditions_read visible conditions
 later_conditions visible if_tails.Way2 = Ok []
 
+-- the entries of a map
 abbrev pub map_read : ScopeParts → SynEta → Result (Option (List ℕ)) Refusal
 map_read text tree = entries_read text tree.part3 >>= λ entries. Ok (Some entries)
 
+-- the map behind conditions, where one stands there
 abbrev pub later_map : ScopeParts → SynEtaTail → Result (Option (List ℕ)) Refusal
 later_map text (eta_tails.Way1 map) = map_read text map
 later_map text eta_tails.Way2 = Ok None
 
+-- the map, where one is written, and the conditions
 abbrev pub tail_read : Visible → SynTail → Result (Option (List ℕ) × List ConditionExpression) Refusal
 tail_read visible (tails.Way1 map rest) =
     map_read visible.scope map >>= λ entries. later_conditions visible rest >>= λ conditions. Ok (entries, conditions)

@@ -149,12 +149,14 @@ with_parameter text tree d =
 
 -- ---- any statement; `fun` has no effect of its own
 
+-- the definitions with what a statement behind `fun` defines
 abbrev pub with_after_fun : ScopeParts → SynAfterFun → Defined → Result Defined Refusal
 with_after_fun text (after_fun.Way1 word ctrl control) d = with_control text Atomic control d
 with_after_fun text (after_fun.Way2 ctrl control) d = with_control text Normal control d
 with_after_fun text (after_fun.Way3 big bigraph) d = with_bigraph text bigraph d
 with_after_fun text (after_fun.Way4 react rule) d = with_rule text rule d
 
+-- the definitions with what the statement defines
 abbrev pub with_statement : ScopeParts → SynStmt → Defined → Result Defined Refusal
 with_statement text (statements.Way1 word fun ctrl control) d = with_control text Atomic control d
 with_statement text (statements.Way2 fun rest) d = with_after_fun text rest d

@@ -33,6 +33,7 @@ pub record NameSpacesParts : Type 0 where
   pub rules : List (NamedValue ℕ)
   pub parameters : List (NamedValue (List Value))
 
+-- the names that these definitions leave to the block
 abbrev pub spaces_of : Defined → NameSpacesParts
 spaces_of d = record { bigraphs = d.bigraphs; rules = d.rules; parameters = d.parameters }
 
@@ -53,6 +54,7 @@ bigraph_used d at number values signature =
 abbrev pub is_ground : Big → Bool
 is_ground big = (length big.sites == 0) && (length big.inner == 0)
 
+-- the host of the bigraph, where that is ground
 abbrev pub ground_at : ℕ → Big → Result HostState Refusal
 ground_at at big = if is_ground big then Ok (fresh_host big) else refused NotGround at
 

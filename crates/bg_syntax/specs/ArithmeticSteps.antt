@@ -44,24 +44,31 @@ t_layer x d = opens symbols.T 0 ∷ (x.part1.value d ++ in_turn (opens symbols.T
 abbrev pub x_layer : SynX-F Steps Steps Steps Steps Steps → Steps
 x_layer x d = opens symbols.X 0 ∷ (x.part1.value d ++ in_turn (opens symbols.X1 2) x.part2.items d)
 
+-- the steps of an item of T1
 unfoldable pub t1_item_steps : SynT1Item → Steps
 t1_item_steps = fold-SynT1Item Steps Steps Steps Steps Steps t1_item_layer u_layer x1_item_layer t_layer x_layer
 
+-- the steps of a tree of U
 unfoldable pub u_steps : SynU → Steps
 u_steps = fold-SynU Steps Steps Steps Steps Steps t1_item_layer u_layer x1_item_layer t_layer x_layer
 
+-- the steps of an item of X1
 unfoldable pub x1_item_steps : SynX1Item → Steps
 x1_item_steps = fold-SynX1Item Steps Steps Steps Steps Steps t1_item_layer u_layer x1_item_layer t_layer x_layer
 
+-- the steps of a tree of T
 unfoldable pub t_steps : SynT → Steps
 t_steps = fold-SynT Steps Steps Steps Steps Steps t1_item_layer u_layer x1_item_layer t_layer x_layer
 
+-- the steps of a tree of X
 unfoldable pub x_steps : SynX → Steps
 x_steps = fold-SynX Steps Steps Steps Steps Steps t1_item_layer u_layer x1_item_layer t_layer x_layer
 
+-- the steps of the items of T1 in turn, and the step that ends the list
 unfoldable pub t1_steps : List SynT1Item → Steps
 t1_steps items = in_turn (opens symbols.T1 2) (map t1_item_steps items)
 
+-- the steps of the items of X1 in turn, and the step that ends the list
 unfoldable pub x1_steps : List SynX1Item → Steps
 x1_steps items = in_turn (opens symbols.X1 2) (map x1_item_steps items)
 
@@ -69,5 +76,6 @@ x1_steps items = in_turn (opens symbols.X1 2) (map x1_item_steps items)
 unfoldable pub more_x_item_steps : SynMoreXItem → Steps
 more_x_item_steps x d = opens symbols.MoreX 0 ∷ (takes kinds.Comma d x.part1 ∷ x_steps x.part2 d)
 
+-- the steps of the items of MoreX in turn, and the step that ends the list
 unfoldable pub more_x_steps : List SynMoreXItem → Steps
 more_x_steps items = in_turn (opens symbols.MoreX 1) (map more_x_item_steps items)

@@ -45,24 +45,31 @@ t_tree_layer x behind = node symbols.T 0 (x.part1.value (nested symbols.T1 2 x.p
 abbrev pub x_tree_layer : SynX-F ItemGrowth Growth ItemGrowth Growth Growth → Growth
 x_tree_layer x behind = node symbols.X 0 (x.part1.value (nested symbols.X1 2 x.part2.items no_tree)) behind
 
+-- the derivation tree of an item of T1
 unfoldable pub t1_item_tree : SynT1Item → ItemGrowth
 t1_item_tree = fold-SynT1Item ItemGrowth Growth ItemGrowth Growth Growth t1_item_tree_layer u_tree_layer x1_item_tree_layer t_tree_layer x_tree_layer
 
+-- the derivation tree of a tree of U
 unfoldable pub u_tree : SynU → Growth
 u_tree = fold-SynU ItemGrowth Growth ItemGrowth Growth Growth t1_item_tree_layer u_tree_layer x1_item_tree_layer t_tree_layer x_tree_layer
 
+-- the derivation tree of an item of X1
 unfoldable pub x1_item_tree : SynX1Item → ItemGrowth
 x1_item_tree = fold-SynX1Item ItemGrowth Growth ItemGrowth Growth Growth t1_item_tree_layer u_tree_layer x1_item_tree_layer t_tree_layer x_tree_layer
 
+-- the derivation tree of a tree of T
 unfoldable pub t_tree : SynT → Growth
 t_tree = fold-SynT ItemGrowth Growth ItemGrowth Growth Growth t1_item_tree_layer u_tree_layer x1_item_tree_layer t_tree_layer x_tree_layer
 
+-- the derivation tree of a tree of X
 unfoldable pub x_tree : SynX → Growth
 x_tree = fold-SynX ItemGrowth Growth ItemGrowth Growth Growth t1_item_tree_layer u_tree_layer x1_item_tree_layer t_tree_layer x_tree_layer
 
+-- the derivation tree of the items of T1
 unfoldable pub t1_tree : List SynT1Item → Growth
 t1_tree items = nested symbols.T1 2 (map t1_item_tree items)
 
+-- the derivation tree of the items of X1
 unfoldable pub x1_tree : List SynX1Item → Growth
 x1_tree items = nested symbols.X1 2 (map x1_item_tree items)
 
@@ -70,5 +77,6 @@ x1_tree items = nested symbols.X1 2 (map x1_item_tree items)
 unfoldable pub more_x_item_tree : SynMoreXItem → ItemGrowth
 more_x_item_tree x rest behind = node symbols.MoreX 0 (token kinds.Comma x.part1 (x_tree x.part2 rest)) behind
 
+-- the derivation tree of the items of MoreX
 unfoldable pub more_x_tree : List SynMoreXItem → Growth
 more_x_tree items = nested symbols.MoreX 1 (map more_x_item_tree items)

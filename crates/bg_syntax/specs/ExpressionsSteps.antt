@@ -109,50 +109,66 @@ p_layer x d = opens symbols.P 0 ∷ (x.part1.value d ++ in_turn (opens symbols.P
 abbrev pub p1_item_layer : SynP1Item-F Steps Steps Steps Steps Steps Steps Steps Steps Steps Steps Steps Steps → Steps
 p1_item_layer x d = opens symbols.P1 0 ∷ (takes kinds.BarBar d x.part1 ∷ x.part2.value d)
 
+-- the steps of a tree of A
 unfoldable pub a_steps : SynA → Steps
 a_steps = fold-SynA Steps Steps Steps Steps Steps Steps Steps Steps Steps Steps Steps Steps a_layer k_layer n1_layer c_layer c1_item_layer e_layer e1_item_layer m_layer m1_item_layer n_layer p_layer p1_item_layer
 
+-- the steps of a tree of K
 unfoldable pub k_steps : SynK → Steps
 k_steps = fold-SynK Steps Steps Steps Steps Steps Steps Steps Steps Steps Steps Steps Steps a_layer k_layer n1_layer c_layer c1_item_layer e_layer e1_item_layer m_layer m1_item_layer n_layer p_layer p1_item_layer
 
+-- the steps of a tree of N1
 unfoldable pub n1_steps : SynN1 → Steps
 n1_steps = fold-SynN1 Steps Steps Steps Steps Steps Steps Steps Steps Steps Steps Steps Steps a_layer k_layer n1_layer c_layer c1_item_layer e_layer e1_item_layer m_layer m1_item_layer n_layer p_layer p1_item_layer
 
+-- the steps of a tree of C
 unfoldable pub c_steps : SynC → Steps
 c_steps = fold-SynC Steps Steps Steps Steps Steps Steps Steps Steps Steps Steps Steps Steps a_layer k_layer n1_layer c_layer c1_item_layer e_layer e1_item_layer m_layer m1_item_layer n_layer p_layer p1_item_layer
 
+-- the steps of an item of C1
 unfoldable pub c1_item_steps : SynC1Item → Steps
 c1_item_steps = fold-SynC1Item Steps Steps Steps Steps Steps Steps Steps Steps Steps Steps Steps Steps a_layer k_layer n1_layer c_layer c1_item_layer e_layer e1_item_layer m_layer m1_item_layer n_layer p_layer p1_item_layer
 
+-- the steps of a tree of E
 unfoldable pub e_steps : SynE → Steps
 e_steps = fold-SynE Steps Steps Steps Steps Steps Steps Steps Steps Steps Steps Steps Steps a_layer k_layer n1_layer c_layer c1_item_layer e_layer e1_item_layer m_layer m1_item_layer n_layer p_layer p1_item_layer
 
+-- the steps of an item of E1
 unfoldable pub e1_item_steps : SynE1Item → Steps
 e1_item_steps = fold-SynE1Item Steps Steps Steps Steps Steps Steps Steps Steps Steps Steps Steps Steps a_layer k_layer n1_layer c_layer c1_item_layer e_layer e1_item_layer m_layer m1_item_layer n_layer p_layer p1_item_layer
 
+-- the steps of a tree of M
 unfoldable pub m_steps : SynM → Steps
 m_steps = fold-SynM Steps Steps Steps Steps Steps Steps Steps Steps Steps Steps Steps Steps a_layer k_layer n1_layer c_layer c1_item_layer e_layer e1_item_layer m_layer m1_item_layer n_layer p_layer p1_item_layer
 
+-- the steps of an item of M1
 unfoldable pub m1_item_steps : SynM1Item → Steps
 m1_item_steps = fold-SynM1Item Steps Steps Steps Steps Steps Steps Steps Steps Steps Steps Steps Steps a_layer k_layer n1_layer c_layer c1_item_layer e_layer e1_item_layer m_layer m1_item_layer n_layer p_layer p1_item_layer
 
+-- the steps of a tree of N
 unfoldable pub n_steps : SynN → Steps
 n_steps = fold-SynN Steps Steps Steps Steps Steps Steps Steps Steps Steps Steps Steps Steps a_layer k_layer n1_layer c_layer c1_item_layer e_layer e1_item_layer m_layer m1_item_layer n_layer p_layer p1_item_layer
 
+-- the steps of a tree of P
 unfoldable pub p_steps : SynP → Steps
 p_steps = fold-SynP Steps Steps Steps Steps Steps Steps Steps Steps Steps Steps Steps Steps a_layer k_layer n1_layer c_layer c1_item_layer e_layer e1_item_layer m_layer m1_item_layer n_layer p_layer p1_item_layer
 
+-- the steps of an item of P1
 unfoldable pub p1_item_steps : SynP1Item → Steps
 p1_item_steps = fold-SynP1Item Steps Steps Steps Steps Steps Steps Steps Steps Steps Steps Steps Steps a_layer k_layer n1_layer c_layer c1_item_layer e_layer e1_item_layer m_layer m1_item_layer n_layer p_layer p1_item_layer
 
+-- the steps of the items of C1 in turn, and the step that ends the list
 unfoldable pub c1_steps : List SynC1Item → Steps
 c1_steps items = in_turn (opens symbols.C1 1) (map c1_item_steps items)
 
+-- the steps of the items of E1 in turn, and the step that ends the list
 unfoldable pub e1_steps : List SynE1Item → Steps
 e1_steps items = in_turn (opens symbols.E1 1) (map e1_item_steps items)
 
+-- the steps of the items of M1 in turn, and the step that ends the list
 unfoldable pub m1_steps : List SynM1Item → Steps
 m1_steps items = in_turn (opens symbols.M1 1) (map m1_item_steps items)
 
+-- the steps of the items of P1 in turn, and the step that ends the list
 unfoldable pub p1_steps : List SynP1Item → Steps
 p1_steps items = in_turn (opens symbols.P1 1) (map p1_item_steps items)

@@ -110,50 +110,66 @@ p_tree_layer x behind = node symbols.P 0 (x.part1.value (nested symbols.P1 1 x.p
 abbrev pub p1_item_tree_layer : SynP1Item-F Growth Growth Growth Growth ItemGrowth Growth ItemGrowth Growth ItemGrowth Growth Growth ItemGrowth → ItemGrowth
 p1_item_tree_layer x rest behind = node symbols.P1 0 (token kinds.BarBar x.part1 (x.part2.value rest)) behind
 
+-- the derivation tree of a tree of A
 unfoldable pub a_tree : SynA → Growth
 a_tree = fold-SynA Growth Growth Growth Growth ItemGrowth Growth ItemGrowth Growth ItemGrowth Growth Growth ItemGrowth a_tree_layer k_tree_layer n1_tree_layer c_tree_layer c1_item_tree_layer e_tree_layer e1_item_tree_layer m_tree_layer m1_item_tree_layer n_tree_layer p_tree_layer p1_item_tree_layer
 
+-- the derivation tree of a tree of K
 unfoldable pub k_tree : SynK → Growth
 k_tree = fold-SynK Growth Growth Growth Growth ItemGrowth Growth ItemGrowth Growth ItemGrowth Growth Growth ItemGrowth a_tree_layer k_tree_layer n1_tree_layer c_tree_layer c1_item_tree_layer e_tree_layer e1_item_tree_layer m_tree_layer m1_item_tree_layer n_tree_layer p_tree_layer p1_item_tree_layer
 
+-- the derivation tree of a tree of N1
 unfoldable pub n1_tree : SynN1 → Growth
 n1_tree = fold-SynN1 Growth Growth Growth Growth ItemGrowth Growth ItemGrowth Growth ItemGrowth Growth Growth ItemGrowth a_tree_layer k_tree_layer n1_tree_layer c_tree_layer c1_item_tree_layer e_tree_layer e1_item_tree_layer m_tree_layer m1_item_tree_layer n_tree_layer p_tree_layer p1_item_tree_layer
 
+-- the derivation tree of a tree of C
 unfoldable pub c_tree : SynC → Growth
 c_tree = fold-SynC Growth Growth Growth Growth ItemGrowth Growth ItemGrowth Growth ItemGrowth Growth Growth ItemGrowth a_tree_layer k_tree_layer n1_tree_layer c_tree_layer c1_item_tree_layer e_tree_layer e1_item_tree_layer m_tree_layer m1_item_tree_layer n_tree_layer p_tree_layer p1_item_tree_layer
 
+-- the derivation tree of an item of C1
 unfoldable pub c1_item_tree : SynC1Item → ItemGrowth
 c1_item_tree = fold-SynC1Item Growth Growth Growth Growth ItemGrowth Growth ItemGrowth Growth ItemGrowth Growth Growth ItemGrowth a_tree_layer k_tree_layer n1_tree_layer c_tree_layer c1_item_tree_layer e_tree_layer e1_item_tree_layer m_tree_layer m1_item_tree_layer n_tree_layer p_tree_layer p1_item_tree_layer
 
+-- the derivation tree of a tree of E
 unfoldable pub e_tree : SynE → Growth
 e_tree = fold-SynE Growth Growth Growth Growth ItemGrowth Growth ItemGrowth Growth ItemGrowth Growth Growth ItemGrowth a_tree_layer k_tree_layer n1_tree_layer c_tree_layer c1_item_tree_layer e_tree_layer e1_item_tree_layer m_tree_layer m1_item_tree_layer n_tree_layer p_tree_layer p1_item_tree_layer
 
+-- the derivation tree of an item of E1
 unfoldable pub e1_item_tree : SynE1Item → ItemGrowth
 e1_item_tree = fold-SynE1Item Growth Growth Growth Growth ItemGrowth Growth ItemGrowth Growth ItemGrowth Growth Growth ItemGrowth a_tree_layer k_tree_layer n1_tree_layer c_tree_layer c1_item_tree_layer e_tree_layer e1_item_tree_layer m_tree_layer m1_item_tree_layer n_tree_layer p_tree_layer p1_item_tree_layer
 
+-- the derivation tree of a tree of M
 unfoldable pub m_tree : SynM → Growth
 m_tree = fold-SynM Growth Growth Growth Growth ItemGrowth Growth ItemGrowth Growth ItemGrowth Growth Growth ItemGrowth a_tree_layer k_tree_layer n1_tree_layer c_tree_layer c1_item_tree_layer e_tree_layer e1_item_tree_layer m_tree_layer m1_item_tree_layer n_tree_layer p_tree_layer p1_item_tree_layer
 
+-- the derivation tree of an item of M1
 unfoldable pub m1_item_tree : SynM1Item → ItemGrowth
 m1_item_tree = fold-SynM1Item Growth Growth Growth Growth ItemGrowth Growth ItemGrowth Growth ItemGrowth Growth Growth ItemGrowth a_tree_layer k_tree_layer n1_tree_layer c_tree_layer c1_item_tree_layer e_tree_layer e1_item_tree_layer m_tree_layer m1_item_tree_layer n_tree_layer p_tree_layer p1_item_tree_layer
 
+-- the derivation tree of a tree of N
 unfoldable pub n_tree : SynN → Growth
 n_tree = fold-SynN Growth Growth Growth Growth ItemGrowth Growth ItemGrowth Growth ItemGrowth Growth Growth ItemGrowth a_tree_layer k_tree_layer n1_tree_layer c_tree_layer c1_item_tree_layer e_tree_layer e1_item_tree_layer m_tree_layer m1_item_tree_layer n_tree_layer p_tree_layer p1_item_tree_layer
 
+-- the derivation tree of a tree of P
 unfoldable pub p_tree : SynP → Growth
 p_tree = fold-SynP Growth Growth Growth Growth ItemGrowth Growth ItemGrowth Growth ItemGrowth Growth Growth ItemGrowth a_tree_layer k_tree_layer n1_tree_layer c_tree_layer c1_item_tree_layer e_tree_layer e1_item_tree_layer m_tree_layer m1_item_tree_layer n_tree_layer p_tree_layer p1_item_tree_layer
 
+-- the derivation tree of an item of P1
 unfoldable pub p1_item_tree : SynP1Item → ItemGrowth
 p1_item_tree = fold-SynP1Item Growth Growth Growth Growth ItemGrowth Growth ItemGrowth Growth ItemGrowth Growth Growth ItemGrowth a_tree_layer k_tree_layer n1_tree_layer c_tree_layer c1_item_tree_layer e_tree_layer e1_item_tree_layer m_tree_layer m1_item_tree_layer n_tree_layer p_tree_layer p1_item_tree_layer
 
+-- the derivation tree of the items of C1
 unfoldable pub c1_tree : List SynC1Item → Growth
 c1_tree items = nested symbols.C1 1 (map c1_item_tree items)
 
+-- the derivation tree of the items of E1
 unfoldable pub e1_tree : List SynE1Item → Growth
 e1_tree items = nested symbols.E1 1 (map e1_item_tree items)
 
+-- the derivation tree of the items of M1
 unfoldable pub m1_tree : List SynM1Item → Growth
 m1_tree items = nested symbols.M1 1 (map m1_item_tree items)
 
+-- the derivation tree of the items of P1
 unfoldable pub p1_tree : List SynP1Item → Growth
 p1_tree items = nested symbols.P1 1 (map p1_item_tree items)

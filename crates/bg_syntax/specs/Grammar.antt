@@ -7,10 +7,11 @@ use Rattle.bg_syntax.specs.declared.symbol.Symbol.TheVariants as symbols
 use Rattle.bg_grammar.specs.Grammar.{Part, kind, symbol, Grammar}
 use Rattle.bg_syntax.specs.Numbers.{kind_number, symbol_number}
 
--- a kind of token as a part, and a symbol
+-- a kind of token as a part
 abbrev pub k : TokenKind → Part
 k x = kind (kind_number x)
 
+-- a symbol as a part
 abbrev pub s : Symbol → Part
 s x = symbol (symbol_number x)
 

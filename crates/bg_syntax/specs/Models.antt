@@ -14,6 +14,7 @@ use Rattle.bg_syntax.specs.ModelsSteps.{model_steps}
 use Rattle.bg_syntax.specs.ModelsTrees.{model_tree}
 use Rattle.bg_base.specs.Limits.{most_levels}
 
+-- the numbers of the tokens' kinds
 abbrev pub kinds : List Token → List ℕ
 kinds tokens = map (λ token. kind_number token.kind) tokens
 

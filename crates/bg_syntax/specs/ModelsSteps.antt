@@ -27,6 +27,7 @@ use Rattle.bg_trees.specs.declared.models.SynModel.{SynModel}
 unfoldable pub stmts_item_steps : SynStmtsItem → Steps
 stmts_item_steps x d = opens symbols.Stmts 0 ∷ stmt_steps x.part1 d
 
+-- the steps of the items of Stmts in turn, and the step that ends the list
 unfoldable pub stmts_steps : List SynStmtsItem → Steps
 stmts_steps items = in_turn (opens symbols.Stmts 1) (map stmts_item_steps items)
 
@@ -34,6 +35,7 @@ stmts_steps items = in_turn (opens symbols.Stmts 1) (map stmts_item_steps items)
 unfoldable pub params_item_steps : SynParamsItem → Steps
 params_item_steps x d = opens symbols.Params 0 ∷ param_steps x.part1 d
 
+-- the steps of the items of Params in turn, and the step that ends the list
 unfoldable pub params_steps : List SynParamsItem → Steps
 params_steps items = in_turn (opens symbols.Params 1) (map params_item_steps items)
 
@@ -41,6 +43,7 @@ params_steps items = in_turn (opens symbols.Params 1) (map params_item_steps ite
 unfoldable pub more_ref_item_steps : SynMoreRefItem → Steps
 more_ref_item_steps x d = opens symbols.MoreRef 0 ∷ (takes kinds.Comma d x.part1 ∷ reference_steps x.part2 d)
 
+-- the steps of the items of MoreRef in turn, and the step that ends the list
 unfoldable pub more_ref_steps : List SynMoreRefItem → Steps
 more_ref_steps items = in_turn (opens symbols.MoreRef 1) (map more_ref_item_steps items)
 
@@ -58,6 +61,7 @@ class_steps (class_ways.Way2 part1 part2 part3) d = opens symbols.Class 1 ∷ (t
 unfoldable pub more_cl_item_steps : SynMoreClItem → Steps
 more_cl_item_steps x d = opens symbols.MoreCl 0 ∷ (takes kinds.Comma d x.part1 ∷ class_steps x.part2 d)
 
+-- the steps of the items of MoreCl in turn, and the step that ends the list
 unfoldable pub more_cl_steps : List SynMoreClItem → Steps
 more_cl_steps items = in_turn (opens symbols.MoreCl 1) (map more_cl_item_steps items)
 

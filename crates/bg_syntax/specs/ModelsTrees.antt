@@ -26,6 +26,7 @@ use Rattle.bg_trees.specs.declared.models.SynModel.{SynModel}
 unfoldable pub stmts_item_tree : SynStmtsItem → ItemGrowth
 stmts_item_tree x rest behind = node symbols.Stmts 0 (stmt_tree x.part1 rest) behind
 
+-- the derivation tree of the items of Stmts
 unfoldable pub stmts_tree : List SynStmtsItem → Growth
 stmts_tree items = nested symbols.Stmts 1 (map stmts_item_tree items)
 
@@ -33,6 +34,7 @@ stmts_tree items = nested symbols.Stmts 1 (map stmts_item_tree items)
 unfoldable pub params_item_tree : SynParamsItem → ItemGrowth
 params_item_tree x rest behind = node symbols.Params 0 (param_tree x.part1 rest) behind
 
+-- the derivation tree of the items of Params
 unfoldable pub params_tree : List SynParamsItem → Growth
 params_tree items = nested symbols.Params 1 (map params_item_tree items)
 
@@ -40,6 +42,7 @@ params_tree items = nested symbols.Params 1 (map params_item_tree items)
 unfoldable pub more_ref_item_tree : SynMoreRefItem → ItemGrowth
 more_ref_item_tree x rest behind = node symbols.MoreRef 0 (token kinds.Comma x.part1 (reference_tree x.part2 rest)) behind
 
+-- the derivation tree of the items of MoreRef
 unfoldable pub more_ref_tree : List SynMoreRefItem → Growth
 more_ref_tree items = nested symbols.MoreRef 1 (map more_ref_item_tree items)
 
@@ -57,6 +60,7 @@ class_tree (class_ways.Way2 part1 part2 part3) behind = node symbols.Class 1 (to
 unfoldable pub more_cl_item_tree : SynMoreClItem → ItemGrowth
 more_cl_item_tree x rest behind = node symbols.MoreCl 0 (token kinds.Comma x.part1 (class_tree x.part2 rest)) behind
 
+-- the derivation tree of the items of MoreCl
 unfoldable pub more_cl_tree : List SynMoreClItem → Growth
 more_cl_tree items = nested symbols.MoreCl 1 (map more_cl_item_tree items)
 

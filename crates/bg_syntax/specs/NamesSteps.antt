@@ -23,6 +23,7 @@ number_steps (number_ways.Way3 part1) d = opens symbols.Number 2 ∷ (takes kind
 unfoldable pub more_low_item_steps : SynMoreLowItem → Steps
 more_low_item_steps x d = opens symbols.MoreLow 0 ∷ (takes kinds.Comma d x.part1 ∷ (takes kinds.Lower d x.part2 ∷ []))
 
+-- the steps of the items of MoreLow in turn, and the step that ends the list
 unfoldable pub more_low_steps : List SynMoreLowItem → Steps
 more_low_steps items = in_turn (opens symbols.MoreLow 1) (map more_low_item_steps items)
 

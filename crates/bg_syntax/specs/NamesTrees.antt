@@ -24,6 +24,7 @@ number_tree (number_ways.Way3 part1) behind = node symbols.Number 2 (token kinds
 unfoldable pub more_low_item_tree : SynMoreLowItem → ItemGrowth
 more_low_item_tree x rest behind = node symbols.MoreLow 0 (token kinds.Comma x.part1 (token kinds.Lower x.part2 rest)) behind
 
+-- the derivation tree of the items of MoreLow
 unfoldable pub more_low_tree : List SynMoreLowItem → Growth
 more_low_tree items = nested symbols.MoreLow 1 (map more_low_item_tree items)
 

@@ -5,6 +5,7 @@ use Rattle.bg_text.specs.declared.token.TokenKind.TheVariants as kinds
 use Rattle.bg_syntax.specs.declared.symbol.Symbol.{Symbol}
 use Rattle.bg_syntax.specs.declared.symbol.Symbol.TheVariants as symbols
 
+-- the number of a kind of token
 abbrev pub kind_number : TokenKind → ℕ
 kind_number kinds.Lower = 0
 kind_number kinds.Upper = 1
@@ -52,6 +53,7 @@ kind_number kinds.CloseSquare = 42
 kind_number kinds.At = 43
 kind_number kinds.Bang = 44
 
+-- the number of a symbol
 abbrev pub symbol_number : Symbol → ℕ
 symbol_number symbols.Model = 0
 symbol_number symbols.Stmts = 1

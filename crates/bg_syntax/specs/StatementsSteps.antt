@@ -57,6 +57,7 @@ bigraph_steps x d = opens symbols.Bigraph 0 ∷ (takes kinds.Lower d x.part1 ∷
 unfoldable pub more_num_item_steps : SynMoreNumItem → Steps
 more_num_item_steps x d = opens symbols.MoreNum 0 ∷ (takes kinds.Comma d x.part1 ∷ number_steps x.part2 d)
 
+-- the steps of the items of MoreNum in turn, and the step that ends the list
 unfoldable pub more_num_steps : List SynMoreNumItem → Steps
 more_num_steps items = in_turn (opens symbols.MoreNum 1) (map more_num_item_steps items)
 
@@ -87,6 +88,7 @@ test_steps x d = opens symbols.Test 0 ∷ (negation_steps x.part1 d ++ (e_steps 
 unfoldable pub tests_item_steps : SynTestsItem → Steps
 tests_item_steps x d = opens symbols.Tests 0 ∷ (takes kinds.Comma d x.part1 ∷ test_steps x.part2 d)
 
+-- the steps of the items of Tests in turn, and the step that ends the list
 unfoldable pub tests_steps : List SynTestsItem → Steps
 tests_steps items = in_turn (opens symbols.Tests 1) (map tests_item_steps items)
 
@@ -131,6 +133,7 @@ int_set_steps (int_set_ways.Way3 part1) d = opens symbols.IntSet 2 ∷ x_steps p
 unfoldable pub more_text_item_steps : SynMoreTextItem → Steps
 more_text_item_steps x d = opens symbols.MoreText 0 ∷ (takes kinds.Comma d x.part1 ∷ (takes kinds.Text d x.part2 ∷ []))
 
+-- the steps of the items of MoreText in turn, and the step that ends the list
 unfoldable pub more_text_steps : List SynMoreTextItem → Steps
 more_text_steps items = in_turn (opens symbols.MoreText 1) (map more_text_item_steps items)
 

@@ -58,6 +58,7 @@ bigraph_tree x behind = node symbols.Bigraph 0 (token kinds.Lower x.part1 (forma
 unfoldable pub more_num_item_tree : SynMoreNumItem → ItemGrowth
 more_num_item_tree x rest behind = node symbols.MoreNum 0 (token kinds.Comma x.part1 (number_tree x.part2 rest)) behind
 
+-- the derivation tree of the items of MoreNum
 unfoldable pub more_num_tree : List SynMoreNumItem → Growth
 more_num_tree items = nested symbols.MoreNum 1 (map more_num_item_tree items)
 
@@ -88,6 +89,7 @@ test_tree x behind = node symbols.Test 0 (negation_tree x.part1 (e_tree x.part2 
 unfoldable pub tests_item_tree : SynTestsItem → ItemGrowth
 tests_item_tree x rest behind = node symbols.Tests 0 (token kinds.Comma x.part1 (test_tree x.part2 rest)) behind
 
+-- the derivation tree of the items of Tests
 unfoldable pub tests_tree : List SynTestsItem → Growth
 tests_tree items = nested symbols.Tests 1 (map tests_item_tree items)
 
@@ -132,6 +134,7 @@ int_set_tree (int_set_ways.Way3 part1) behind = node symbols.IntSet 2 (x_tree pa
 unfoldable pub more_text_item_tree : SynMoreTextItem → ItemGrowth
 more_text_item_tree x rest behind = node symbols.MoreText 0 (token kinds.Comma x.part1 (token kinds.Text x.part2 rest)) behind
 
+-- the derivation tree of the items of MoreText
 unfoldable pub more_text_tree : List SynMoreTextItem → Growth
 more_text_tree items = nested symbols.MoreText 1 (map more_text_item_tree items)
 

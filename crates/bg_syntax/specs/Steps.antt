@@ -9,9 +9,11 @@ use Rattle.bg_syntax.specs.Numbers.{kind_number, symbol_number}
 abbrev pub Steps : Type 0
 Steps = ℕ → List GrammarStep
 
+-- the symbol gives way to its alternative of that number
 abbrev pub opens : Symbol → ℕ → GrammarStep
 opens head way = opened (symbol_number head) way
 
+-- a token of that kind is taken, so deep, which is the token of that number
 abbrev pub takes : TokenKind → ℕ → ℕ → GrammarStep
 takes class depth token = taken (kind_number class) depth token
 

@@ -215,91 +215,107 @@ items_read (item ∷ items) visible e = item visible e >>= items_read items visi
 abbrev pub binary_read : BinaryOperation → ℕ → Reading → Onward
 binary_read kind at right visible e = right.1 visible >>= λ d. Ok (binary kind at e d)
 
--- C = K C1, C1 = "*" K C1 | none
+-- C1 = "*" K C1 | none
 abbrev pub c1_item_layer : SynC1Item-F Form Reading Behind Reading Onward Reading Onward Reading Onward Reading Reading Onward → Onward
 c1_item_layer x = binary_read Composition x.part1 x.part2.value
 
+-- C = K C1
 abbrev pub c_layer : SynC-F Form Reading Behind Reading Onward Reading Onward Reading Onward Reading Reading Onward → Reading
 c_layer x = (x.part1.value.0, λ visible. x.part1.value.1 visible >>= items_read x.part2.items visible)
 
--- M = C M1, M1 = "|" C M1 | none
+-- M1 = "|" C M1 | none
 abbrev pub m1_item_layer : SynM1Item-F Form Reading Behind Reading Onward Reading Onward Reading Onward Reading Reading Onward → Onward
 m1_item_layer x = binary_read Merge x.part1 x.part2.value
 
+-- M = C M1
 abbrev pub m_layer : SynM-F Form Reading Behind Reading Onward Reading Onward Reading Onward Reading Reading Onward → Reading
 m_layer x = (x.part1.value.0, λ visible. x.part1.value.1 visible >>= items_read x.part2.items visible)
 
--- P = M P1, P1 = "||" M P1 | none
+-- P1 = "||" M P1 | none
 abbrev pub p1_item_layer : SynP1Item-F Form Reading Behind Reading Onward Reading Onward Reading Onward Reading Reading Onward → Onward
 p1_item_layer x = binary_read Parallel x.part1 x.part2.value
 
+-- P = M P1
 abbrev pub p_layer : SynP-F Form Reading Behind Reading Onward Reading Onward Reading Onward Reading Reading Onward → Reading
 p_layer x = (x.part1.value.0, λ visible. x.part1.value.1 visible >>= items_read x.part2.items visible)
 
--- E = P E1, E1 = "+" P E1 | none
+-- E1 = "+" P E1 | none
 abbrev pub e1_item_layer : SynE1Item-F Form Reading Behind Reading Onward Reading Onward Reading Onward Reading Reading Onward → Onward
 e1_item_layer x = binary_read Tensor x.part1 x.part2.value
 
+-- E = P E1
 abbrev pub e_layer : SynE-F Form Reading Behind Reading Onward Reading Onward Reading Onward Reading Reading Onward → Reading
 e_layer x = (x.part1.value.0, λ visible. x.part1.value.1 visible >>= items_read x.part2.items visible)
 
 -- what the trees say
 
+-- what a tree of A says
 unfoldable pub a_read : SynA → Form
 a_read =
     fold-SynA Form Reading Behind Reading Onward Reading Onward Reading Onward Reading Reading Onward
     a_layer k_layer n1_layer c_layer c1_item_layer e_layer e1_item_layer m_layer m1_item_layer n_layer p_layer p1_item_layer
 
+-- what a tree of K says
 unfoldable pub k_read : SynK → Reading
 k_read =
     fold-SynK Form Reading Behind Reading Onward Reading Onward Reading Onward Reading Reading Onward
     a_layer k_layer n1_layer c_layer c1_item_layer e_layer e1_item_layer m_layer m1_item_layer n_layer p_layer p1_item_layer
 
+-- what a tree of N1 says
 unfoldable pub n1_read : SynN1 → Behind
 n1_read =
     fold-SynN1 Form Reading Behind Reading Onward Reading Onward Reading Onward Reading Reading Onward
     a_layer k_layer n1_layer c_layer c1_item_layer e_layer e1_item_layer m_layer m1_item_layer n_layer p_layer p1_item_layer
 
+-- what a tree of N says
 unfoldable pub n_read : SynN → Reading
 n_read =
     fold-SynN Form Reading Behind Reading Onward Reading Onward Reading Onward Reading Reading Onward
     a_layer k_layer n1_layer c_layer c1_item_layer e_layer e1_item_layer m_layer m1_item_layer n_layer p_layer p1_item_layer
 
+-- what a tree of C says
 unfoldable pub c_read : SynC → Reading
 c_read =
     fold-SynC Form Reading Behind Reading Onward Reading Onward Reading Onward Reading Reading Onward
     a_layer k_layer n1_layer c_layer c1_item_layer e_layer e1_item_layer m_layer m1_item_layer n_layer p_layer p1_item_layer
 
+-- what an item of C1 says
 unfoldable pub c1_item_read : SynC1Item → Onward
 c1_item_read =
     fold-SynC1Item Form Reading Behind Reading Onward Reading Onward Reading Onward Reading Reading Onward
     a_layer k_layer n1_layer c_layer c1_item_layer e_layer e1_item_layer m_layer m1_item_layer n_layer p_layer p1_item_layer
 
+-- what a tree of M says
 unfoldable pub m_read : SynM → Reading
 m_read =
     fold-SynM Form Reading Behind Reading Onward Reading Onward Reading Onward Reading Reading Onward
     a_layer k_layer n1_layer c_layer c1_item_layer e_layer e1_item_layer m_layer m1_item_layer n_layer p_layer p1_item_layer
 
+-- what an item of M1 says
 unfoldable pub m1_item_read : SynM1Item → Onward
 m1_item_read =
     fold-SynM1Item Form Reading Behind Reading Onward Reading Onward Reading Onward Reading Reading Onward
     a_layer k_layer n1_layer c_layer c1_item_layer e_layer e1_item_layer m_layer m1_item_layer n_layer p_layer p1_item_layer
 
+-- what a tree of P says
 unfoldable pub p_read : SynP → Reading
 p_read =
     fold-SynP Form Reading Behind Reading Onward Reading Onward Reading Onward Reading Reading Onward
     a_layer k_layer n1_layer c_layer c1_item_layer e_layer e1_item_layer m_layer m1_item_layer n_layer p_layer p1_item_layer
 
+-- what an item of P1 says
 unfoldable pub p1_item_read : SynP1Item → Onward
 p1_item_read =
     fold-SynP1Item Form Reading Behind Reading Onward Reading Onward Reading Onward Reading Reading Onward
     a_layer k_layer n1_layer c_layer c1_item_layer e_layer e1_item_layer m_layer m1_item_layer n_layer p_layer p1_item_layer
 
+-- what a tree of E says
 unfoldable pub e_read : SynE → Reading
 e_read =
     fold-SynE Form Reading Behind Reading Onward Reading Onward Reading Onward Reading Reading Onward
     a_layer k_layer n1_layer c_layer c1_item_layer e_layer e1_item_layer m_layer m1_item_layer n_layer p_layer p1_item_layer
 
+-- what an item of E1 says
 unfoldable pub e1_item_read : SynE1Item → Onward
 e1_item_read =
     fold-SynE1Item Form Reading Behind Reading Onward Reading Onward Reading Onward Reading Reading Onward

@@ -17,6 +17,7 @@ is_text_byte byte = nat_le 32 byte && nat_le byte 126 && not (byte == 34)
 abbrev pub is_space : ℕ → Bool
 is_space byte = (byte == 32) || (byte == 9) || (byte == 13) || (byte == 10)
 
+-- both are one word
 abbrev pub same : List ℕ → List ℕ → Bool
 same [] [] = true
 same [] (b ∷ bs) = false
@@ -52,6 +53,7 @@ lower_kind word =
     if same word (codes "if") then KwIf else (
     later_kind word))))))))))
 
+-- the kind of a run of digits: `0` and `1` have their own
 abbrev pub number_kind : List ℕ → TokenKind
 number_kind (d ∷ []) = if d == 48 then Zero else (if d == 49 then One else Num)
 number_kind digits = Num

@@ -7,6 +7,7 @@ use Rattle.bg_text.specs.declared.token.TokenKind.{TokenKind}
 use Rattle.bg_text.specs.declared.token.Token.{Token}
 use Rattle.bg_text.specs.Spelling.{is_space, is_text_byte, kind_of}
 
+-- a byte other than a line feed
 abbrev pub is_not_line_feed : ℕ → Bool
 is_not_line_feed byte = not (byte == 10)
 
@@ -33,6 +34,7 @@ is_decimal behind = (slice_index behind 0 == 46) && is_ascii_digit (slice_index 
 abbrev pub greatest_int : ℕ
 greatest_int = 9223372036854775807
 
+-- the code of a run of digits and what follows: 24 of a decimal number, 23 of one that is too great; else 0
 abbrev pub fault_of_digits : List ℕ → List ℕ → ℕ
 fault_of_digits digits behind = if is_decimal behind then 24 else (if nat_lt greatest_int (digits_value 10 digits) then 23 else 0)
 

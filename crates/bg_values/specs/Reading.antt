@@ -53,16 +53,19 @@ text_at scope token = if is_text (between (spelling scope token)) then Ok (betwe
 abbrev pub name_at : ScopeParts → ℕ → Result ℕ Refusal
 name_at scope token = there_or UnknownName token (name_number (spelling scope token) scope.names)
 
--- the formulas of a number, of a text, of a name, and of a negation
+-- the formula of the number that a token spells
 abbrev pub whole_at : ScopeParts → ℕ → Result Formula Refusal
 whole_at scope token = number_at scope token >>= λ z. Ok (whole z)
 
+-- the formula of the text that a token spells
 abbrev pub words_at : ScopeParts → ℕ → Result Formula Refusal
 words_at scope token = text_at scope token >>= λ text. Ok (words text)
 
+-- the formula of the visible name that a token spells
 abbrev pub named_at : ScopeParts → ℕ → Result Formula Refusal
 named_at scope token = name_at scope token >>= λ number. Ok (name token number)
 
+-- the formula of a negation, at its minus sign
 abbrev pub negation_at : ℕ → Reading → ScopeParts → Result Formula Refusal
 negation_at at operand scope = operand.1 scope >>= λ f. Ok (negation at operand.0 f)
 
@@ -103,18 +106,22 @@ t_layer t = (t.part1.value.0, λ scope. t.part1.value.1 scope >>= items_read t.p
 abbrev pub x_layer : SynX-F Onward Reading Onward Reading Reading → Reading
 x_layer x = (x.part1.value.0, λ scope. x.part1.value.1 scope >>= items_read x.part2.items scope x.part1.value.0)
 
--- what each tree says
+-- what an item of T1 says
 abbrev pub t1_item_read : SynT1Item → Onward
 t1_item_read = fold-SynT1Item Onward Reading Onward Reading Reading t1_item_layer u_layer x1_item_layer t_layer x_layer
 
+-- what a tree of U says
 abbrev pub u_read : SynU → Reading
 u_read = fold-SynU Onward Reading Onward Reading Reading t1_item_layer u_layer x1_item_layer t_layer x_layer
 
+-- what an item of X1 says
 abbrev pub x1_item_read : SynX1Item → Onward
 x1_item_read = fold-SynX1Item Onward Reading Onward Reading Reading t1_item_layer u_layer x1_item_layer t_layer x_layer
 
+-- what a tree of T says
 abbrev pub t_read : SynT → Reading
 t_read = fold-SynT Onward Reading Onward Reading Reading t1_item_layer u_layer x1_item_layer t_layer x_layer
 
+-- what a tree of X says
 abbrev pub x_read : SynX → Reading
 x_read = fold-SynX Onward Reading Onward Reading Reading t1_item_layer u_layer x1_item_layer t_layer x_layer

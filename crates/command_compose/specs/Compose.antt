@@ -78,6 +78,7 @@ pub record IsComposable (input : List ℕ) : Type 0 where
   pub output : List ℕ
   pub composition : IsComposition input output
 
+-- `compose` lists the composition of the two bigraphs of the input
 abbrev pub compose_promise : Promise
 compose_promise =
     record {

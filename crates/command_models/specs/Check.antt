@@ -23,5 +23,6 @@ counts_text counts =
     codes "ok controls " ++ (decimal counts.controls ++ (codes " rules " ++ (decimal counts.rules ++ (codes " classes " ++ (decimal counts.classes
     ++ (codes " preds " ++ (decimal counts.preds ++ (codes " nodes " ++ (decimal counts.nodes ++ (codes " edges " ++ decimal counts.edges))))))))))
 
+-- the line that tells how much there is of everything in the system
 abbrev pub check_text : SystemParts → List ℕ
 check_text system = line (counts_text (counts_of system))

@@ -14,6 +14,7 @@ pub record IsTextOfSystem (text_of : SystemParts → List ℕ) (input text : Lis
   pub described : IsReading input (Ok system)
   pub text_is : text ≡ text_of system
 
+-- a command answers with that text of the system that its input describes
 abbrev pub text_promise : (SystemParts → List ℕ) → Promise
 text_promise text_of =
     record {

@@ -41,6 +41,7 @@ pub data IsReplayAnswer (input : List ℕ) : Answer → Type 0 where
   replayed : {entries : List Entry} {model : List ℕ} {system : SystemParts} (replay : Replay) → IsJournalAndModel input entries model
       → IsReading model (Ok system) → IsReplayOf system entries replay → IsReplayAnswer input (telling system.signature replay)
 
+-- `replay` tells whether the journal of the input is one of the system that the model behind it describes
 abbrev pub replay_promise : Promise
 replay_promise =
     record {

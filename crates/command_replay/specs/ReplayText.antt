@@ -44,10 +44,12 @@ bad_line_text line = codes "journal at " ++ (decimal line ++ codes "\n")
 
 -- ---- answers
 
+-- the status of a replay: whether the journal was taken to its end
 abbrev pub replay_status : Replay → Status
 replay_status (Legal host) = Done
 replay_status (Illegal step why) = NoRun
 
+-- the text of a replay: the last host, or the first entry that is not taken and why
 abbrev pub replay_text : List Control → Replay → List ℕ
 replay_text signature (Legal host) = legal_text signature host
 replay_text signature (Illegal step why) = illegal_line step why

@@ -20,6 +20,7 @@ use Rattle.command_run.specs.Counts.{AreNodeCounts}
 
 -- ---- the text
 
+-- `true` or `false`
 abbrev pub truth_text : Bool → List ℕ
 truth_text true = codes "true"
 truth_text false = codes "false"

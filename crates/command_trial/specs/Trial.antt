@@ -13,6 +13,7 @@ pub record IsTrialOf (size : ℕ) (model text : List ℕ) : Type 0 where
   pub described : IsReading model (Ok system)
   pub written : IsTrialText size system text
 
+-- `trial` answers with the text of a trial, at that size, of the system that the model describes
 abbrev pub trial_promise : ℕ → Promise
 trial_promise size =
     record {

@@ -50,21 +50,21 @@ fn text(alloc: Global) -> Result<Vec<u8>, Refusal> {
     Ok(text)
 }
 
-/// The same, under the signature.
+/// What is written, under the signature.
 fn text_under(alloc: Global, signature: &Signature) -> Result<Vec<u8>, Refusal> {
     let mut host = terms::host(alloc)?;
     let text = text_in(alloc, signature, &mut host)?;
     Ok(text)
 }
 
-/// The same of the host, which reacts.
+/// What is written of the host, which reacts.
 fn text_in(alloc: Global, signature: &Signature, host: &mut Host) -> Result<Vec<u8>, Refusal> {
     let rule = terms::rule(alloc)?;
     let text = text_of(alloc, signature, host, &rule)?;
     Ok(text)
 }
 
-/// The same of the host and the rule: the host, the occurrences of the redex, and the host after the reaction at the
+/// What is written of the host and the rule: the host, the occurrences of the redex, and the host after the reaction at the
 /// first. That a host is ground, which `list` asks for, each host keeps.
 fn text_of(
     alloc: Global,

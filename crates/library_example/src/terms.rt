@@ -70,7 +70,7 @@ fn inside(alloc: Global) -> Result<Big, AlgebraFault>
     merge(alloc, &rooms, &agent)
 }
 
-/// The same in the site of an ion, where both share the name: `Building{w}.(Room.1 | Room.1 | Agent{w})`.
+/// The building, with what is in it, where both share the name: `Building{w}.(Room.1 | Room.1 | Agent{w})`.
 fn wired(alloc: Global) -> Result<Big, AlgebraFault>
     ensures value { IfOk result (λ big. big ≡ term.wired) }
     ensures valid { IfOk result IsValid }
@@ -80,7 +80,7 @@ fn wired(alloc: Global) -> Result<Big, AlgebraFault>
     nest(alloc, &building, &inside)
 }
 
-/// The same with `w` closed, by edge 0: `/w Building{w}.(Room.1 | Room.1 | Agent{w})`.
+/// The building with what is in it and with `w` closed, by edge 0: `/w Building{w}.(Room.1 | Room.1 | Agent{w})`.
 fn building(alloc: Global) -> Result<Big, AlgebraFault>
     ensures value { IfOk result (λ big. big ≡ term.building) }
     ensures valid { IfOk result IsValid }

@@ -168,7 +168,7 @@ fn number_of(made: Result<Rule, RuleFault>) -> u8 {
     }
 }
 
-/// The same of a rule whose redex is a room, with that reactum and that map.
+/// The number of the refusal of a rule whose redex is a room, with that reactum and that map.
 fn refusal_with(alloc: Global, reactum: Mem<Big>, entries: &[u32]) -> Mem<u8>
     requires valid { IfOk reactum IsValid }
     requires numbered { IfOk reactum IsNumberedFromZero }

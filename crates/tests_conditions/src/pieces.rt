@@ -77,13 +77,13 @@ fn found_at(alloc: Global, host: &Host, rule: &Rule, nodes: &[u32]) -> Mem<(Coun
     Ok((parameter, context, enabled))
 }
 
-/// The same of the system's rule.
+/// What the pieces have at the occurrence of the system's rule, and whether that is enabled there.
 fn found(alloc: Global, system: &System, nodes: &[u32]) -> Mem<(Counts, Counts, bool)> {
     let rule = first_rule(system)?;
     found_at(alloc, system.init(), rule, nodes)
 }
 
-/// The same of the model's rule.
+/// What the pieces have at the occurrence of the model's rule, and whether that is enabled there.
 fn found_in(alloc: Global, model: &str, nodes: &[u32]) -> Mem<(Counts, Counts, bool)> {
     let system = system_of(alloc, model)?;
     found(alloc, &system, nodes)

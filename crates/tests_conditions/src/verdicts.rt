@@ -76,7 +76,7 @@ fn said_of(alloc: Global, system: &System, step: &Step) -> Mem<Said> {
     Ok(said_by(&verdict))
 }
 
-/// The same of the step of the rule at the nodes.
+/// What is said of the step of the rule at the nodes.
 fn said_at(alloc: Global, system: &System, rule: u32, nodes: &[u32]) -> Mem<Said> {
     let step = step_of(alloc, rule, nodes)?;
     said_of(alloc, system, &step)
@@ -89,7 +89,7 @@ fn judged(alloc: Global, system: &System, rule: u32, nodes: &[u32]) -> Mem<(Said
     Ok((said, class))
 }
 
-/// The same in the model's system.
+/// What is said of the step in the model's system, and the first class.
 fn judged_in(alloc: Global, model: &str, rule: u32, nodes: &[u32]) -> Mem<(Said, Option<u32>)> {
     let system = system_of(alloc, model)?;
     judged(alloc, &system, rule, nodes)

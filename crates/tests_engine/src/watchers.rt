@@ -18,7 +18,7 @@ const STEPS: &str =
 
 const LAST: &str = "host 6 0\nbigraph 1\nsites 0\ninner 0\nouter 0\nedges 0\nnodes 1\n5 K(5) r0\n";
 
-/// The same where no step is made.
+/// What stands before the lines of the watchers where no step is made, and behind them.
 const NO_STEP: &str = "journal 1\nend\nlimit\n";
 
 const FIRST: &str = "host 1 0\nbigraph 1\nsites 0\ninner 0\nouter 0\nedges 0\nnodes 1\n0 K(0) r0\n";

@@ -47,7 +47,7 @@ fn react_here(
     indexed.react_in_place(alloc, rule, map)
 }
 
-/// The same that tells its causes.
+/// The reaction in place that tells its causes, where the redex occurs there.
 fn react_and_tell(
     alloc: Global,
     indexed: &mut IndexedHost,

@@ -50,8 +50,8 @@ impl IndexedHost {
         Ok(touched)
     }
 
-    /// The same reaction, with the same refusals, that tells why nodes are touched in place of which. The nodes that have a
-    /// port on a link whose points are others are not listed, and the points that stay are not looked at: of a link that loses
+    /// The reaction of `react_in_place`, with its refusals, that tells why nodes are touched in place of which. The nodes that have
+    /// a port on a link whose points are others are not listed, and the points that stay are not looked at: of a link that loses
     /// or gets points those that go are searched and taken out, what stands behind moves up, and those that come are put behind.
     /// For the rest it costs as `react_in_place`.
     pub fn react_telling_causes(

@@ -12,7 +12,7 @@ use bg_text::TokenKind;
 use bg_trees::arithmetic::{SynMoreXItem, SynT, SynT1Item, SynU, SynX, SynX1Item};
 
 impl Reader<'_> {
-    // MoreX = "," X MoreX | none
+    /// Reads an item of `MoreX = "," X MoreX | none`.
     pub fn more_x_item(
         &self,
         at: &mut usize,
@@ -33,7 +33,7 @@ impl Reader<'_> {
         }
     }
 
-    // MoreX = "," X MoreX | none
+    /// Reads `MoreX = "," X MoreX | none`.
     pub fn more_x(&self, at: &mut usize, depth: u32) -> Result<Vec<SynMoreXItem>, SyntaxFault>
         requires inside { at.old ≤ length self.now.tokens.now }
         requires shallow { depth ≤ at.old }
@@ -46,7 +46,7 @@ impl Reader<'_> {
         Ok(items)
     }
 
-    // X = T X1
+    /// Reads `X = T X1`.
     #[cycle(arithmetic)]
     pub fn x(&self, at: &mut usize, depth: u32) -> Result<SynX, SyntaxFault>
         requires inside { at.old ≤ length self.now.tokens.now }
@@ -60,7 +60,7 @@ impl Reader<'_> {
         Ok(SynX { part1: box1, part2 })
     }
 
-    // X1 = "+" T X1 | "-" T X1 | none
+    /// Reads an item of `X1 = "+" T X1 | "-" T X1 | none`.
     #[cycle(arithmetic)]
     pub fn x1_item(&self, at: &mut usize, depth: u32) -> Result<Option<SynX1Item>, SyntaxFault>
         requires inside { at.old ≤ length self.now.tokens.now }
@@ -85,7 +85,7 @@ impl Reader<'_> {
         }
     }
 
-    // X1 = "+" T X1 | "-" T X1 | none
+    /// Reads `X1 = "+" T X1 | "-" T X1 | none`.
     #[cycle(arithmetic)]
     pub fn x1(&self, at: &mut usize, depth: u32) -> Result<Vec<SynX1Item>, SyntaxFault>
         requires inside { at.old ≤ length self.now.tokens.now }
@@ -99,7 +99,7 @@ impl Reader<'_> {
         Ok(items)
     }
 
-    // T = U T1
+    /// Reads `T = U T1`.
     #[cycle(arithmetic)]
     pub fn t(&self, at: &mut usize, depth: u32) -> Result<SynT, SyntaxFault>
         requires inside { at.old ≤ length self.now.tokens.now }
@@ -113,7 +113,7 @@ impl Reader<'_> {
         Ok(SynT { part1: box1, part2 })
     }
 
-    // T1 = "*" U T1 | "/" U T1 | none
+    /// Reads an item of `T1 = "*" U T1 | "/" U T1 | none`.
     #[cycle(arithmetic)]
     pub fn t1_item(&self, at: &mut usize, depth: u32) -> Result<Option<SynT1Item>, SyntaxFault>
         requires inside { at.old ≤ length self.now.tokens.now }
@@ -138,7 +138,7 @@ impl Reader<'_> {
         }
     }
 
-    // T1 = "*" U T1 | "/" U T1 | none
+    /// Reads `T1 = "*" U T1 | "/" U T1 | none`.
     #[cycle(arithmetic)]
     pub fn t1(&self, at: &mut usize, depth: u32) -> Result<Vec<SynT1Item>, SyntaxFault>
         requires inside { at.old ≤ length self.now.tokens.now }
@@ -152,7 +152,7 @@ impl Reader<'_> {
         Ok(items)
     }
 
-    // U = Number | text | lower | "-" U | "(" X ")"
+    /// Reads `U = Number | text | lower | "-" U | "(" X ")"`.
     #[cycle(arithmetic)]
     pub fn u(&self, at: &mut usize, depth: u32) -> Result<SynU, SyntaxFault>
         requires inside { at.old ≤ length self.now.tokens.now }

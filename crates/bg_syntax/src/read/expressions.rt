@@ -15,7 +15,7 @@ use bg_trees::expressions::{
 };
 
 impl Reader<'_> {
-    // Ref = lower Args
+    /// Reads `Ref = lower Args`.
     pub fn reference(&self, at: &mut usize, depth: u32) -> Result<SynRef, SyntaxFault>
         requires inside { at.old ≤ length self.now.tokens.now }
         requires shallow { depth ≤ at.old + 1 }
@@ -27,7 +27,7 @@ impl Reader<'_> {
         Ok(SynRef { part1, part2 })
     }
 
-    // Args = "(" X MoreX ")" | none
+    /// Reads `Args = "(" X MoreX ")" | none`.
     pub fn args(&self, at: &mut usize, depth: u32) -> Result<SynArgs, SyntaxFault>
         requires inside { at.old ≤ length self.now.tokens.now }
         requires shallow { depth ≤ at.old }
@@ -46,7 +46,7 @@ impl Reader<'_> {
         }
     }
 
-    // E = P E1
+    /// Reads `E = P E1`.
     #[cycle(expressions)]
     pub fn e(&self, at: &mut usize, depth: u32) -> Result<SynE, SyntaxFault>
         requires inside { at.old ≤ length self.now.tokens.now }
@@ -60,7 +60,7 @@ impl Reader<'_> {
         Ok(SynE { part1: box1, part2 })
     }
 
-    // E1 = "+" P E1 | none
+    /// Reads an item of `E1 = "+" P E1 | none`.
     #[cycle(expressions)]
     pub fn e1_item(&self, at: &mut usize, depth: u32) -> Result<Option<SynE1Item>, SyntaxFault>
         requires inside { at.old ≤ length self.now.tokens.now }
@@ -79,7 +79,7 @@ impl Reader<'_> {
         }
     }
 
-    // E1 = "+" P E1 | none
+    /// Reads `E1 = "+" P E1 | none`.
     #[cycle(expressions)]
     pub fn e1(&self, at: &mut usize, depth: u32) -> Result<Vec<SynE1Item>, SyntaxFault>
         requires inside { at.old ≤ length self.now.tokens.now }
@@ -93,7 +93,7 @@ impl Reader<'_> {
         Ok(items)
     }
 
-    // P = M P1
+    /// Reads `P = M P1`.
     #[cycle(expressions)]
     pub fn p(&self, at: &mut usize, depth: u32) -> Result<SynP, SyntaxFault>
         requires inside { at.old ≤ length self.now.tokens.now }
@@ -107,7 +107,7 @@ impl Reader<'_> {
         Ok(SynP { part1: box1, part2 })
     }
 
-    // P1 = "||" M P1 | none
+    /// Reads an item of `P1 = "||" M P1 | none`.
     #[cycle(expressions)]
     pub fn p1_item(&self, at: &mut usize, depth: u32) -> Result<Option<SynP1Item>, SyntaxFault>
         requires inside { at.old ≤ length self.now.tokens.now }
@@ -126,7 +126,7 @@ impl Reader<'_> {
         }
     }
 
-    // P1 = "||" M P1 | none
+    /// Reads `P1 = "||" M P1 | none`.
     #[cycle(expressions)]
     pub fn p1(&self, at: &mut usize, depth: u32) -> Result<Vec<SynP1Item>, SyntaxFault>
         requires inside { at.old ≤ length self.now.tokens.now }
@@ -140,7 +140,7 @@ impl Reader<'_> {
         Ok(items)
     }
 
-    // M = C M1
+    /// Reads `M = C M1`.
     #[cycle(expressions)]
     pub fn m(&self, at: &mut usize, depth: u32) -> Result<SynM, SyntaxFault>
         requires inside { at.old ≤ length self.now.tokens.now }
@@ -154,7 +154,7 @@ impl Reader<'_> {
         Ok(SynM { part1: box1, part2 })
     }
 
-    // M1 = "|" C M1 | none
+    /// Reads an item of `M1 = "|" C M1 | none`.
     #[cycle(expressions)]
     pub fn m1_item(&self, at: &mut usize, depth: u32) -> Result<Option<SynM1Item>, SyntaxFault>
         requires inside { at.old ≤ length self.now.tokens.now }
@@ -173,7 +173,7 @@ impl Reader<'_> {
         }
     }
 
-    // M1 = "|" C M1 | none
+    /// Reads `M1 = "|" C M1 | none`.
     #[cycle(expressions)]
     pub fn m1(&self, at: &mut usize, depth: u32) -> Result<Vec<SynM1Item>, SyntaxFault>
         requires inside { at.old ≤ length self.now.tokens.now }
@@ -187,7 +187,7 @@ impl Reader<'_> {
         Ok(items)
     }
 
-    // C = K C1
+    /// Reads `C = K C1`.
     #[cycle(expressions)]
     pub fn c(&self, at: &mut usize, depth: u32) -> Result<SynC, SyntaxFault>
         requires inside { at.old ≤ length self.now.tokens.now }
@@ -201,7 +201,7 @@ impl Reader<'_> {
         Ok(SynC { part1: box1, part2 })
     }
 
-    // C1 = "*" K C1 | none
+    /// Reads an item of `C1 = "*" K C1 | none`.
     #[cycle(expressions)]
     pub fn c1_item(&self, at: &mut usize, depth: u32) -> Result<Option<SynC1Item>, SyntaxFault>
         requires inside { at.old ≤ length self.now.tokens.now }
@@ -220,7 +220,7 @@ impl Reader<'_> {
         }
     }
 
-    // C1 = "*" K C1 | none
+    /// Reads `C1 = "*" K C1 | none`.
     #[cycle(expressions)]
     pub fn c1(&self, at: &mut usize, depth: u32) -> Result<Vec<SynC1Item>, SyntaxFault>
         requires inside { at.old ≤ length self.now.tokens.now }
@@ -234,7 +234,7 @@ impl Reader<'_> {
         Ok(items)
     }
 
-    // K = "/" lower K | N
+    /// Reads `K = "/" lower K | N`.
     #[cycle(expressions)]
     pub fn k(&self, at: &mut usize, depth: u32) -> Result<SynK, SyntaxFault>
         requires inside { at.old ≤ length self.now.tokens.now }
@@ -259,7 +259,7 @@ impl Reader<'_> {
         }
     }
 
-    // N = A N1
+    /// Reads `N = A N1`.
     #[cycle(expressions)]
     pub fn n(&self, at: &mut usize, depth: u32) -> Result<SynN, SyntaxFault>
         requires inside { at.old ≤ length self.now.tokens.now }
@@ -277,7 +277,7 @@ impl Reader<'_> {
         })
     }
 
-    // N1 = "." K | none
+    /// Reads `N1 = "." K | none`.
     #[cycle(expressions)]
     pub fn n1(&self, at: &mut usize, depth: u32) -> Result<SynN1, SyntaxFault>
         requires inside { at.old ≤ length self.now.tokens.now }
@@ -296,7 +296,7 @@ impl Reader<'_> {
         }
     }
 
-    // A = upper Args Names | Ref | "{" NameList "}" | id IdTail | merge "(" Number ")" | zero | one | "(" E ")"
+    /// Reads `A = upper Args Names | Ref | "{" NameList "}" | id IdTail | merge "(" Number ")" | zero | one | "(" E ")"`.
     #[cycle(expressions)]
     pub fn a(&self, at: &mut usize, depth: u32) -> Result<SynA, SyntaxFault>
         requires inside { at.old ≤ length self.now.tokens.now }
@@ -351,7 +351,7 @@ impl Reader<'_> {
         }
     }
 
-    // IdTail = "(" Number IdNames ")" | "{" NameList "}" | none
+    /// Reads `IdTail = "(" Number IdNames ")" | "{" NameList "}" | none`.
     pub fn id_tail(&self, at: &mut usize, depth: u32) -> Result<SynIdTail, SyntaxFault>
         requires inside { at.old ≤ length self.now.tokens.now }
         ensures { ReadsSymbol (λ x. id_tail_steps x depth) self.now.tokens.now at.old (wants depth symbols.IdTail) at.new result }
@@ -375,7 +375,7 @@ impl Reader<'_> {
         }
     }
 
-    // IdNames = "," "{" NameList "}" | none
+    /// Reads `IdNames = "," "{" NameList "}" | none`.
     pub fn id_names(&self, at: &mut usize, depth: u32) -> Result<SynIdNames, SyntaxFault>
         requires inside { at.old ≤ length self.now.tokens.now }
         ensures { ReadsSymbol (λ x. id_names_steps x depth) self.now.tokens.now at.old (wants depth symbols.IdNames) at.new result }

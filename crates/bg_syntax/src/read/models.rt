@@ -36,7 +36,7 @@ struct BlockBehind10 {
 }
 
 impl Reader<'_> {
-    // Model = Stmts Block
+    /// Reads `Model = Stmts Block`.
     pub fn model(&self, at: &mut usize, depth: u32) -> Result<SynModel, SyntaxFault>
         requires inside { at.old ≤ length self.now.tokens.now }
         requires shallow { depth ≤ at.old }
@@ -48,7 +48,7 @@ impl Reader<'_> {
         Ok(SynModel { part1, part2 })
     }
 
-    // Stmts = Stmt Stmts | none
+    /// Reads an item of `Stmts = Stmt Stmts | none`.
     pub fn stmts_item(
         &self,
         at: &mut usize,
@@ -68,7 +68,7 @@ impl Reader<'_> {
         }
     }
 
-    // Stmts = Stmt Stmts | none
+    /// Reads `Stmts = Stmt Stmts | none`.
     pub fn stmts(&self, at: &mut usize, depth: u32) -> Result<Vec<SynStmtsItem>, SyntaxFault>
         requires inside { at.old ≤ length self.now.tokens.now }
         requires shallow { depth ≤ at.old }
@@ -81,7 +81,7 @@ impl Reader<'_> {
         Ok(items)
     }
 
-    // Block = begin brs Params init Ref ";" rules "=" "[" Classes "]" ";" Preds end | none
+    /// Reads `Block = begin brs Params init Ref ";" rules "=" "[" Classes "]" ";" Preds end | none`.
     pub fn block(&self, at: &mut usize, depth: u32) -> Result<SynBlock, SyntaxFault>
         requires inside { at.old ≤ length self.now.tokens.now }
         requires shallow { depth ≤ at.old }
@@ -159,7 +159,7 @@ impl Reader<'_> {
         })
     }
 
-    // Params = Param Params | none
+    /// Reads an item of `Params = Param Params | none`.
     pub fn params_item(
         &self,
         at: &mut usize,
@@ -179,7 +179,7 @@ impl Reader<'_> {
         }
     }
 
-    // Params = Param Params | none
+    /// Reads `Params = Param Params | none`.
     pub fn params(&self, at: &mut usize, depth: u32) -> Result<Vec<SynParamsItem>, SyntaxFault>
         requires inside { at.old ≤ length self.now.tokens.now }
         requires shallow { depth ≤ at.old }
@@ -192,7 +192,7 @@ impl Reader<'_> {
         Ok(items)
     }
 
-    // Classes = Class MoreCl | none
+    /// Reads `Classes = Class MoreCl | none`.
     pub fn classes(&self, at: &mut usize, depth: u32) -> Result<SynClasses, SyntaxFault>
         requires inside { at.old ≤ length self.now.tokens.now }
         requires shallow { depth ≤ at.old }
@@ -209,7 +209,7 @@ impl Reader<'_> {
         }
     }
 
-    // MoreCl = "," Class MoreCl | none
+    /// Reads an item of `MoreCl = "," Class MoreCl | none`.
     pub fn more_cl_item(
         &self,
         at: &mut usize,
@@ -230,7 +230,7 @@ impl Reader<'_> {
         }
     }
 
-    // MoreCl = "," Class MoreCl | none
+    /// Reads `MoreCl = "," Class MoreCl | none`.
     pub fn more_cl(&self, at: &mut usize, depth: u32) -> Result<Vec<SynMoreClItem>, SyntaxFault>
         requires inside { at.old ≤ length self.now.tokens.now }
         requires shallow { depth ≤ at.old }
@@ -243,7 +243,7 @@ impl Reader<'_> {
         Ok(items)
     }
 
-    // Class = "{" Refs "}" | "(" Refs ")"
+    /// Reads `Class = "{" Refs "}" | "(" Refs ")"`.
     pub fn class(&self, at: &mut usize, depth: u32) -> Result<SynClass, SyntaxFault>
         requires inside { at.old ≤ length self.now.tokens.now }
         requires shallow { depth ≤ at.old }
@@ -266,7 +266,7 @@ impl Reader<'_> {
         }
     }
 
-    // Preds = preds "=" "{" Refs "}" ";" | none
+    /// Reads `Preds = preds "=" "{" Refs "}" ";" | none`.
     pub fn preds(&self, at: &mut usize, depth: u32) -> Result<SynPreds, SyntaxFault>
         requires inside { at.old ≤ length self.now.tokens.now }
         requires shallow { depth ≤ at.old }
@@ -287,7 +287,7 @@ impl Reader<'_> {
         }
     }
 
-    // Refs = Ref MoreRef | none
+    /// Reads `Refs = Ref MoreRef | none`.
     pub fn refs(&self, at: &mut usize, depth: u32) -> Result<SynRefs, SyntaxFault>
         requires inside { at.old ≤ length self.now.tokens.now }
         requires shallow { depth ≤ at.old }
@@ -304,7 +304,7 @@ impl Reader<'_> {
         }
     }
 
-    // MoreRef = "," Ref MoreRef | none
+    /// Reads an item of `MoreRef = "," Ref MoreRef | none`.
     pub fn more_ref_item(
         &self,
         at: &mut usize,
@@ -325,7 +325,7 @@ impl Reader<'_> {
         }
     }
 
-    // MoreRef = "," Ref MoreRef | none
+    /// Reads `MoreRef = "," Ref MoreRef | none`.
     pub fn more_ref(&self, at: &mut usize, depth: u32) -> Result<Vec<SynMoreRefItem>, SyntaxFault>
         requires inside { at.old ≤ length self.now.tokens.now }
         requires shallow { depth ≤ at.old }

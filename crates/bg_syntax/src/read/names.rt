@@ -12,7 +12,7 @@ use bg_text::TokenKind;
 use bg_trees::names::{SynFormals, SynMoreLowItem, SynNameList, SynNames, SynNumber};
 
 impl Reader<'_> {
-    // Number = zero | one | num
+    /// Reads `Number = zero | one | num`.
     pub fn number(&self, at: &mut usize, depth: u32) -> Result<SynNumber, SyntaxFault>
         requires inside { at.old ≤ length self.now.tokens.now }
         ensures { ReadsSymbol (λ x. number_steps x depth) self.now.tokens.now at.old (wants depth symbols.Number) at.new result }
@@ -34,7 +34,7 @@ impl Reader<'_> {
         }
     }
 
-    // Formals = "(" lower MoreLow ")" | none
+    /// Reads `Formals = "(" lower MoreLow ")" | none`.
     pub fn formals(&self, at: &mut usize, depth: u32) -> Result<SynFormals, SyntaxFault>
         requires inside { at.old ≤ length self.now.tokens.now }
         ensures { ReadsSymbol (λ x. formals_steps x depth) self.now.tokens.now at.old (wants depth symbols.Formals) at.new result }
@@ -52,7 +52,7 @@ impl Reader<'_> {
         }
     }
 
-    // MoreLow = "," lower MoreLow | none
+    /// Reads an item of `MoreLow = "," lower MoreLow | none`.
     pub fn more_low_item(
         &self,
         at: &mut usize,
@@ -72,7 +72,7 @@ impl Reader<'_> {
         }
     }
 
-    // MoreLow = "," lower MoreLow | none
+    /// Reads `MoreLow = "," lower MoreLow | none`.
     pub fn more_low(&self, at: &mut usize, depth: u32) -> Result<Vec<SynMoreLowItem>, SyntaxFault>
         requires inside { at.old ≤ length self.now.tokens.now }
         ensures { ReadsSymbol (λ x. more_low_steps x.items depth) self.now.tokens.now at.old (wants depth symbols.MoreLow) at.new result }
@@ -84,7 +84,7 @@ impl Reader<'_> {
         Ok(items)
     }
 
-    // Names = "{" NameList "}" | none
+    /// Reads `Names = "{" NameList "}" | none`.
     pub fn names(&self, at: &mut usize, depth: u32) -> Result<SynNames, SyntaxFault>
         requires inside { at.old ≤ length self.now.tokens.now }
         ensures { ReadsSymbol (λ x. names_steps x depth) self.now.tokens.now at.old (wants depth symbols.Names) at.new result }
@@ -101,7 +101,7 @@ impl Reader<'_> {
         }
     }
 
-    // NameList = lower MoreLow | none
+    /// Reads `NameList = lower MoreLow | none`.
     pub fn name_list(&self, at: &mut usize, depth: u32) -> Result<SynNameList, SyntaxFault>
         requires inside { at.old ≤ length self.now.tokens.now }
         ensures { ReadsSymbol (λ x. name_list_steps x depth) self.now.tokens.now at.old (wants depth symbols.NameList) at.new result }

@@ -16,7 +16,7 @@ use bg_trees::statements::{
 };
 
 impl Reader<'_> {
-    // Stmt = atomic Fun ctrl Control | fun AfterFun | ctrl Control | big Bigraph | react React | Param
+    /// Reads `Stmt = atomic Fun ctrl Control | fun AfterFun | ctrl Control | big Bigraph | react React | Param`.
     pub fn stmt(&self, at: &mut usize, depth: u32) -> Result<SynStmt, SyntaxFault>
         requires inside { at.old ≤ length self.now.tokens.now }
         requires shallow { depth ≤ at.old }
@@ -58,7 +58,7 @@ impl Reader<'_> {
         }
     }
 
-    // Fun = fun | none
+    /// Reads `Fun = fun | none`.
     pub fn fun(&self, at: &mut usize, depth: u32) -> Result<SynFun, SyntaxFault>
         requires inside { at.old ≤ length self.now.tokens.now }
         ensures { ReadsSymbol (λ x. fun_steps x depth) self.now.tokens.now at.old (wants depth symbols.Fun) at.new result }
@@ -73,7 +73,7 @@ impl Reader<'_> {
         }
     }
 
-    // AfterFun = atomic ctrl Control | ctrl Control | big Bigraph | react React
+    /// Reads `AfterFun = atomic ctrl Control | ctrl Control | big Bigraph | react React`.
     pub fn after_fun(&self, at: &mut usize, depth: u32) -> Result<SynAfterFun, SyntaxFault>
         requires inside { at.old ≤ length self.now.tokens.now }
         requires shallow { depth ≤ at.old }
@@ -105,7 +105,7 @@ impl Reader<'_> {
         }
     }
 
-    // Control = upper Formals "=" Number ";"
+    /// Reads `Control = upper Formals "=" Number ";"`.
     pub fn control(&self, at: &mut usize, depth: u32) -> Result<SynControl, SyntaxFault>
         requires inside { at.old ≤ length self.now.tokens.now }
         ensures { ReadsSymbol (λ x. control_steps x depth) self.now.tokens.now at.old (wants depth symbols.Control) at.new result }
@@ -125,7 +125,7 @@ impl Reader<'_> {
         })
     }
 
-    // Bigraph = lower Formals "=" E ";"
+    /// Reads `Bigraph = lower Formals "=" E ";"`.
     pub fn bigraph(&self, at: &mut usize, depth: u32) -> Result<SynBigraph, SyntaxFault>
         requires inside { at.old ≤ length self.now.tokens.now }
         requires shallow { depth ≤ at.old }
@@ -146,7 +146,7 @@ impl Reader<'_> {
         })
     }
 
-    // React = lower Formals "=" E "-->" E Tail ";"
+    /// Reads `React = lower Formals "=" E "-->" E Tail ";"`.
     pub fn react(&self, at: &mut usize, depth: u32) -> Result<SynReact, SyntaxFault>
         requires inside { at.old ≤ length self.now.tokens.now }
         requires shallow { depth ≤ at.old }
@@ -173,7 +173,7 @@ impl Reader<'_> {
         })
     }
 
-    // Tail = Eta IfTail | Cond EtaTail | none
+    /// Reads `Tail = Eta IfTail | Cond EtaTail | none`.
     pub fn tail(&self, at: &mut usize, depth: u32) -> Result<SynTail, SyntaxFault>
         requires inside { at.old ≤ length self.now.tokens.now }
         requires shallow { depth ≤ at.old }
@@ -195,7 +195,7 @@ impl Reader<'_> {
         }
     }
 
-    // IfTail = Cond | none
+    /// Reads `IfTail = Cond | none`.
     pub fn if_tail(&self, at: &mut usize, depth: u32) -> Result<SynIfTail, SyntaxFault>
         requires inside { at.old ≤ length self.now.tokens.now }
         requires shallow { depth ≤ at.old }
@@ -211,7 +211,7 @@ impl Reader<'_> {
         }
     }
 
-    // EtaTail = Eta | none
+    /// Reads `EtaTail = Eta | none`.
     pub fn eta_tail(&self, at: &mut usize, depth: u32) -> Result<SynEtaTail, SyntaxFault>
         requires inside { at.old ≤ length self.now.tokens.now }
         ensures { ReadsSymbol (λ x. eta_tail_steps x depth) self.now.tokens.now at.old (wants depth symbols.EtaTail) at.new result }
@@ -226,7 +226,7 @@ impl Reader<'_> {
         }
     }
 
-    // Eta = "@" "[" Numbers "]"
+    /// Reads `Eta = "@" "[" Numbers "]"`.
     pub fn eta(&self, at: &mut usize, depth: u32) -> Result<SynEta, SyntaxFault>
         requires inside { at.old ≤ length self.now.tokens.now }
         ensures { ReadsSymbol (λ x. eta_steps x depth) self.now.tokens.now at.old (wants depth symbols.Eta) at.new result }
@@ -244,7 +244,7 @@ impl Reader<'_> {
         })
     }
 
-    // Numbers = Number MoreNum | none
+    /// Reads `Numbers = Number MoreNum | none`.
     pub fn numbers(&self, at: &mut usize, depth: u32) -> Result<SynNumbers, SyntaxFault>
         requires inside { at.old ≤ length self.now.tokens.now }
         ensures { ReadsSymbol (λ x. numbers_steps x depth) self.now.tokens.now at.old (wants depth symbols.Numbers) at.new result }
@@ -260,7 +260,7 @@ impl Reader<'_> {
         }
     }
 
-    // MoreNum = "," Number MoreNum | none
+    /// Reads an item of `MoreNum = "," Number MoreNum | none`.
     pub fn more_num_item(
         &self,
         at: &mut usize,
@@ -280,7 +280,7 @@ impl Reader<'_> {
         }
     }
 
-    // MoreNum = "," Number MoreNum | none
+    /// Reads `MoreNum = "," Number MoreNum | none`.
     pub fn more_num(&self, at: &mut usize, depth: u32) -> Result<Vec<SynMoreNumItem>, SyntaxFault>
         requires inside { at.old ≤ length self.now.tokens.now }
         ensures { ReadsSymbol (λ x. more_num_steps x.items depth) self.now.tokens.now at.old (wants depth symbols.MoreNum) at.new result }
@@ -292,7 +292,7 @@ impl Reader<'_> {
         Ok(items)
     }
 
-    // Cond = if Test Tests
+    /// Reads `Cond = if Test Tests`.
     pub fn cond(&self, at: &mut usize, depth: u32) -> Result<SynCond, SyntaxFault>
         requires inside { at.old ≤ length self.now.tokens.now }
         requires shallow { depth ≤ at.old }
@@ -309,7 +309,7 @@ impl Reader<'_> {
         })
     }
 
-    // Tests = "," Test Tests | none
+    /// Reads an item of `Tests = "," Test Tests | none`.
     pub fn tests_item(
         &self,
         at: &mut usize,
@@ -330,7 +330,7 @@ impl Reader<'_> {
         }
     }
 
-    // Tests = "," Test Tests | none
+    /// Reads `Tests = "," Test Tests | none`.
     pub fn tests(&self, at: &mut usize, depth: u32) -> Result<Vec<SynTestsItem>, SyntaxFault>
         requires inside { at.old ≤ length self.now.tokens.now }
         requires shallow { depth ≤ at.old }
@@ -343,7 +343,7 @@ impl Reader<'_> {
         Ok(items)
     }
 
-    // Test = Not E in Side
+    /// Reads `Test = Not E in Side`.
     pub fn test(&self, at: &mut usize, depth: u32) -> Result<SynTest, SyntaxFault>
         requires inside { at.old ≤ length self.now.tokens.now }
         requires shallow { depth ≤ at.old }
@@ -362,7 +362,7 @@ impl Reader<'_> {
         })
     }
 
-    // Not = "!" | none
+    /// Reads `Not = "!" | none`.
     pub fn negation(&self, at: &mut usize, depth: u32) -> Result<SynNot, SyntaxFault>
         requires inside { at.old ≤ length self.now.tokens.now }
         ensures { ReadsSymbol (λ x. negation_steps x depth) self.now.tokens.now at.old (wants depth symbols.Not) at.new result }
@@ -377,7 +377,7 @@ impl Reader<'_> {
         }
     }
 
-    // Side = ctx | param
+    /// Reads `Side = ctx | param`.
     pub fn side(&self, at: &mut usize, depth: u32) -> Result<SynSide, SyntaxFault>
         requires inside { at.old ≤ length self.now.tokens.now }
         ensures { ReadsSymbol (λ x. side_steps x depth) self.now.tokens.now at.old (wants depth symbols.Side) at.new result }
@@ -395,7 +395,7 @@ impl Reader<'_> {
         }
     }
 
-    // Param = int lower "=" IntSet ";" | string lower "=" TextSet ";"
+    /// Reads `Param = int lower "=" IntSet ";" | string lower "=" TextSet ";"`.
     pub fn param(&self, at: &mut usize, depth: u32) -> Result<SynParam, SyntaxFault>
         requires inside { at.old ≤ length self.now.tokens.now }
         requires shallow { depth ≤ at.old }
@@ -422,7 +422,7 @@ impl Reader<'_> {
         }
     }
 
-    // IntSet = "{" X MoreX "}" | "[" X ":" X ":" X "]" | X
+    /// Reads `IntSet = "{" X MoreX "}" | "[" X ":" X ":" X "]" | X`.
     pub fn int_set(&self, at: &mut usize, depth: u32) -> Result<SynIntSet, SyntaxFault>
         requires inside { at.old ≤ length self.now.tokens.now }
         requires shallow { depth ≤ at.old }
@@ -454,7 +454,7 @@ impl Reader<'_> {
         }
     }
 
-    // TextSet = "{" text MoreText "}" | text
+    /// Reads `TextSet = "{" text MoreText "}" | text`.
     pub fn text_set(&self, at: &mut usize, depth: u32) -> Result<SynTextSet, SyntaxFault>
         requires inside { at.old ≤ length self.now.tokens.now }
         ensures { ReadsSymbol (λ x. text_set_steps x depth) self.now.tokens.now at.old (wants depth symbols.TextSet) at.new result }
@@ -475,7 +475,7 @@ impl Reader<'_> {
         }
     }
 
-    // MoreText = "," text MoreText | none
+    /// Reads an item of `MoreText = "," text MoreText | none`.
     pub fn more_text_item(
         &self,
         at: &mut usize,
@@ -495,7 +495,7 @@ impl Reader<'_> {
         }
     }
 
-    // MoreText = "," text MoreText | none
+    /// Reads `MoreText = "," text MoreText | none`.
     pub fn more_text(&self, at: &mut usize, depth: u32) -> Result<Vec<SynMoreTextItem>, SyntaxFault>
         requires inside { at.old ≤ length self.now.tokens.now }
         ensures { ReadsSymbol (λ x. more_text_steps x.items depth) self.now.tokens.now at.old (wants depth symbols.MoreText) at.new result }
