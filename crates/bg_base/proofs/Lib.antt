@@ -16,4 +16,5 @@ pub mod ComposedValid
 pub mod CompositionTests
 pub mod Counted
 pub mod ProductLaws
+pub mod Reaches
 pub mod ValueLaws

@@ -1,11 +1,11 @@
 -- Laws of look-up: a node, an edge or a name is found exactly where a member has its number or is that name.
-use Rattle.std.proofs.Common.{◌≡◌, ℕ, ◌<◌, ◌==◌, true, false, List, nat_cmp, is_eq, is_some, Some, None, unwrap_or, option_map, refl, sym, ap, ◌∙◌, eqb-true, eq-eqb, ltb-true, lt-ltb}
+use Rattle.std.proofs.Common.{◌≡◌, ℕ, ◌<◌, ◌≤◌, ◌+◌, ◌-◌, Option, take, drop, ◌==◌, true, false, List, nat_cmp, is_eq, is_some, Some, None, unwrap_or, option_map, refl, sym, ap, ◌∙◌, eqb-true, eq-eqb, ltb-true, lt-ltb}
 use Rattle.std.specs.Cmp.{IsTotalOrder}
 use Rattle.std.specs.List.Sorted.{IsStrictlySortedBy}
 use Rattle.std.proofs.lemmas.Cmp.{on_total, nat_cmp_total}
 use Rattle.std.proofs.lemmas.Bool.{false_from_ne_true}
 use Rattle.bg_lists.specs.Lists.{Mem}
-use Rattle.std.proofs.Common.{length, get_or, Result, is_ok, MatchResult}
+use Rattle.std.proofs.Common.{length, get_or, slice_get, arith, Result, is_ok, MatchResult}
 use Rattle.std.specs.List.Sorted.{IsSearchInRange, IsBinarySearchResult}
 use Rattle.bg_lists.proofs.Searches.{find-search, is_some_find-search}
 use Rattle.bg_lists.proofs.Comparisons.{eqb-nat_cmp}
@@ -21,7 +21,9 @@ use Rattle.bg_base.specs.declared.signature.Control.{Control}
 use Rattle.bg_base.specs.Order.{name_cmp}
 use Rattle.bg_base.specs.OrderLaws.{name_cmp_total}
 use Rattle.bg_base.specs.Bigraph.{node_cmp, inner_cmp, row_of, edge_of, outer_of, inner_of, has_place, is_atomic, is_atomic_control}
+use Rattle.bg_base.specs.Lookup.{IsFirstRow}
 use Rattle.bg_base.proofs.NameLaws.{same_name_from_test, test_same_name}
+use Rattle.bg_base.proofs.Reaches.{from_part}
 
 pub node_cmp_total : IsTotalOrder node_cmp
 node_cmp_total = on_total (λ (row : NodeRow). row.id) nat_cmp_total
@@ -181,3 +183,12 @@ pub inner_of-search : (rows : List InnerRow) (name : Name) → IsStrictlySortedB
 inner_of-search rows name up r range answer =
     find-search name_cmp_total (λ (row : InnerRow). row.name) name (λ (row : InnerRow). is_eq (name_cmp row.name name))
     (λ row. refl) rows (Ascending-from_sorted rows up) r range answer
+
+-- ---- a part of the rows
+
+-- the row of the node, and its position, where it is found in a part of the rows in which it stands if anywhere
+pub first_row_in_part : (rows : List NodeRow) (node from to at : ℕ) (row : NodeRow)
+    → row_of (take (to - from) (drop from rows)) node ≡ row_of rows node → IsFirstRow (take (to - from) (drop from rows)) node at row
+    → IsFirstRow rows node (from + at) row
+first_row_in_part rows node from to at row same first =
+    record { there = from_part from (to - from) at rows first.there; first = sym same ∙ first.first }

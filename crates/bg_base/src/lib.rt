@@ -2,7 +2,7 @@
 //!
 //! - [`Ident`], [`Text`], [`Name`], [`Value`], [`Label`]: what things are called.
 //! - [`Place`], [`Link`], [`NodeRow`], [`InnerRow`], [`Big`]: a concrete bigraph, row by row.
-//! - [`find_node`], [`find_node_at`], [`has_edge`], [`find_inner`], [`has_outer`]: look-up in a valid bigraph, by
+//! - [`find_node`], [`find_node_at`], [`has_edge`], [`find_inner`], [`has_outer`], [`reach`]: look-up in a valid bigraph, by
 //!   number or by name.
 //! - [`Climbable`], [`AtFoothold`], [`marked_value`], [`no_marks`]: climbs that leave marks.
 //! - [`Signature`], [`Control`], [`Kind`]: the controls that nodes may have.
@@ -32,7 +32,7 @@ pub use laws::{
     equal_bigraphs_are_the_same, equal_signatures_are_the_same, named_rows_are_first_faults,
 };
 pub use links::PortLinks;
-pub use look_up::{find_inner, find_node, find_node_at, has_edge, has_outer};
+pub use look_up::{find_inner, find_node, find_node_at, has_edge, has_outer, reach};
 pub use names::{Link, Name, Place};
 pub use signature::{Control, Kind, Signature, SignatureFault};
 pub use text::{Ident, Text, is_ident, is_text, is_text_byte, is_word_byte};

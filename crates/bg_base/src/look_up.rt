@@ -1,5 +1,5 @@
 //! Look-up in the rows of a valid bigraph, by binary search.
-ghost use Rattle.std.specs.Prelude.{◌≡◌, None, MatchOption, is_some, option_copied};
+ghost use Rattle.std.specs.Prelude.{◌≡◌, ◌≤◌, ◌<◌, ◌+◌, ◌-◌, ℕ, None, MatchOption, is_some, option_copied};
 ghost use Rattle.std.specs.List.Sorted.{IsStrictlySortedBy};
 ghost use Rattle.std.specs.Ordering.{nat_cmp};
 ghost use Rattle.bg_base.specs.Bigraph.{node_cmp, inner_cmp, row_of, edge_of, inner_of, outer_of};
@@ -21,8 +21,19 @@ pub fn find_node(rows: &[NodeRow], node: u32) -> Option<&NodeRow>
 }
 
 /// The row of the node and its position, in rows that ascend by number, or `None` where no row has that number.
-/// Takes no memory; logarithmic in the number of rows.
+/// Takes no memory; constant time where the numbers are in a row from 0, and never more than logarithmic in the number of rows.
 pub fn find_node_at(rows: &[NodeRow], node: u32) -> Option<(usize, &NodeRow)>
+    requires ascending { IsStrictlySortedBy node_cmp rows.now }
+    ensures { MatchOption result (row_of rows.now node ≡ None) (λ found. IsFirstRow rows.now node found.0 found.1.now) }
+{
+    let last = rows.last()?;
+    let (from, to) = reach(rows.len(), last.id, node);
+    let (at, row) = find_within(&rows[from..to], node)?;
+    Some((from + at, row))
+}
+
+/// The row of the node and its position, in rows that ascend by number, each of which is looked at alike.
+fn find_within(rows: &[NodeRow], node: u32) -> Option<(usize, &NodeRow)>
     requires ascending { IsStrictlySortedBy node_cmp rows.now }
     ensures { MatchOption result (row_of rows.now node ≡ None) (λ found. IsFirstRow rows.now node found.0 found.1.now) }
 {
@@ -30,6 +41,29 @@ pub fn find_node_at(rows: &[NodeRow], node: u32) -> Option<(usize, &NodeRow)>
         Ok(at) => Some((at, &rows[at])),
         Err(_) => None,
     }
+}
+
+/// Between which positions the item of a number can stand, of so many items that ascend by numbers, the last of which is
+/// known: from the first of both to before the second. A number is no less than the position of its item, and from an item to
+/// the last one the numbers rise by as much as the positions, or more. Where they are in a row from 0 it is one position.
+/// Takes constant time and no memory.
+pub fn reach(count: usize, last: u32, number: u32) -> (usize, usize)
+    ensures ordered { result.0 ≤ result.1 }
+    ensures within { result.1 ≤ count }
+    ensures inside { (at : ℕ) → at < count → at ≤ number → number + (count - (at + 1)) ≤ last → (result.0 ≤ at) × (at < result.1) }
+{
+    if last < number {
+        return (0, 0);
+    }
+    let behind = (last - number) as usize;
+    let at_most = number as usize;
+    let from = if behind < count {
+        count - 1 - behind
+    } else {
+        0
+    };
+    let to = if at_most < count { at_most + 1 } else { count };
+    if from < to { (from, to) } else { (0, 0) }
 }
 
 /// Whether the edge is there, in edges that ascend. Takes no memory; logarithmic in the number of edges.

@@ -11,7 +11,7 @@ ghost use Rattle.bg_index.specs.declared.entries.ControlEntry.{ControlEntry as C
 ghost use Rattle.bg_index.specs.Indexed.{slot_cmp, edge_cmp, control_cmp};
 
 use crate::tied_points::TiedPoints;
-use bg_base::{Name, NodeRow};
+use bg_base::{Name, NodeRow, reach};
 use bg_lists::Rows;
 use slab::Slab;
 
@@ -86,8 +86,19 @@ impl Drop for Index {
     }
 }
 
-/// The slot of the node, in slots that ascend by node.
+/// The slot of the node, in slots that ascend by node. Takes constant time where the numbers of the nodes are in a row from 0,
+/// and never more than logarithmic in the number of slots.
 pub fn find_slot(slots: &[Slot], node: u32) -> Option<Slot>
+    requires ascending { IsStrictlySortedBy slot_cmp slots.now }
+    ensures { result ≡ find (λ (slot : SlotValue). slot.node == node) slots.now }
+{
+    let last = slots.last()?;
+    let (from, to) = reach(slots.len(), last.node, node);
+    slot_within(&slots[from..to], node)
+}
+
+/// The slot of the node, in slots that ascend by node, each of which is looked at alike.
+fn slot_within(slots: &[Slot], node: u32) -> Option<Slot>
     requires ascending { IsStrictlySortedBy slot_cmp slots.now }
     ensures { result ≡ find (λ (slot : SlotValue). slot.node == node) slots.now }
 {

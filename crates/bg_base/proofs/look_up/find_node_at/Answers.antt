@@ -1,19 +1,33 @@
-use Rattle.std.proofs.Common.{rules, Some, Ok, Err, ap, sym, ◌∙◌}
-use Rattle.std.proofs.lemmas.List.Sorted.{answers_always}
-use Rattle.std.proofs.lemmas.Option.{slice_get-get_or}
+use Rattle.std.proofs.Common.{rules, ◌≡◌, ◌+◌, ◌-◌, None, sym, subst, ◌∙◌}
+use Rattle.std.specs.Option.{MatchOption}
+use Rattle.std.proofs.lemmas.Option.{slice_get_within}
 use Rattle.bg_base.specs.declared.big.NodeRow.{NodeRow}
-use Rattle.bg_base.proofs.LookUps.{row_of-search}
+use Rattle.bg_base.specs.Bigraph.{node_cmp, row_of}
+use Rattle.bg_base.specs.Lookup.{IsFirstRow}
+use Rattle.bg_base.proofs.LookUps.{first_row_in_part}
+use Rattle.bg_base.proofs.Reaches.{sorted-part, find-in_part}
 use Rattle.bg_base.proofs.look_up.find_node_at.Goals as goal
 
-pub returns-in-Ok : goal.returns-in-Ok
-returns-in-Ok c =
-    let row = c.index-rows-at.result in
-    let is = sym (ap Some c.index-rows-at.is) in
-    let found = row_of-search c.args.rows.now c.args.node c.requires.ascending (Ok c.in-Ok.at) c.in-Ok.ensures.bound
-    (c.in-Ok.ensures.position (λ (row : NodeRow). row.id) (answers_always _ _ _ (λ f a r g called. search rules))) row in
-    record { there = slice_get-get_or c.args.rows.now c.in-Ok.at row c.in-Ok.ensures.bound ∙ is; first = found ∙ is }
+pub find_within-requires : goal.find_within-requires
+find_within-requires c =
+    record { ascending = sorted-part node_cmp c.reach-from.result.0 (c.reach-from.result.1 - c.reach-from.result.0) c.args.rows.now c.requires.ascending }
 
-pub returns-in-Err : goal.returns-in-Err
-returns-in-Err c =
-    row_of-search c.args.rows.now c.args.node c.requires.ascending (Err c.in-Err.field-0) c.in-Err.ensures.bound
-    (c.in-Err.ensures.position (λ (row : NodeRow). row.id) (answers_always _ _ _ (λ f a r g called. search rules)))
+pub returns-in_err-at : goal.returns-in_err-at
+returns-in_err-at c =
+    let same = find-in_part (λ (row : NodeRow). row.id) c.args.rows.now c.args.node c.reach-from.result.0 c.reach-from.result.1 c.in_ok-last.last.now
+    c.requires.ascending (search rules) c.reach-from.ensures.inside in
+    subst (λ r. MatchOption r (row_of c.args.rows.now c.args.node ≡ None) (λ found. IsFirstRow c.args.rows.now c.args.node found.0 found.1.now))
+    (sym c.from_residual-in_err-at.ensures) (sym same ∙ c.in_err-at.ensures)
+
+first_row : (c : goal.In_ok-at) → IsFirstRow c.args.rows.now c.args.node (c.reach-from.result.0 + c.in_ok-at.at) c.in_ok-at.row.now
+first_row c =
+    first_row_in_part c.args.rows.now c.args.node c.reach-from.result.0 c.reach-from.result.1 c.in_ok-at.at c.in_ok-at.row.now
+    (find-in_part (λ (row : NodeRow). row.id) c.args.rows.now c.args.node c.reach-from.result.0 c.reach-from.result.1 c.in_ok-last.last.now
+    c.requires.ascending (search rules) c.reach-from.ensures.inside) c.in_ok-at.ensures
+
+pub overflow_add-result : goal.overflow_add-result
+overflow_add-result c =
+    let below = slice_get_within c.args.rows.now (c.reach-from.result.0 + c.in_ok-at.at) c.in_ok-at.row.now (first_row c).there in search rules
+
+pub returns : goal.returns
+returns c = first_row c

@@ -1,15 +1,15 @@
-use Rattle.std.proofs.Common.{rules, Ok, Err, sym}
-use Rattle.std.proofs.lemmas.List.Sorted.{answers_always}
+use Rattle.std.proofs.Common.{rules, ◌-◌, ◌∙◌}
+use Rattle.bg_base.proofs.Reaches.{sorted-part, find-in_part}
 use Rattle.bg_index.specs.declared.entries.Slot.{Slot}
-use Rattle.bg_index.proofs.IndexLaws.{slot-search}
+use Rattle.bg_index.specs.Indexed.{slot_cmp}
 use Rattle.bg_index.proofs.entries.find_slot.Goals as goal
 
-pub returns-in-Ok : goal.returns-in-Ok
-returns-in-Ok c =
-    sym (slot-search c.args.slots.now c.args.node c.requires.ascending (Ok c.in-Ok.at) c.in-Ok.ensures.bound
-    (c.in-Ok.ensures.position (λ (slot : Slot). slot.node) (answers_always _ _ _ (λ f a r g called. search rules))) (record { node = 0; at = 0 }))
+pub slot_within-requires : goal.slot_within-requires
+slot_within-requires c =
+    record { ascending = sorted-part slot_cmp c.reach-from.result.0 (c.reach-from.result.1 - c.reach-from.result.0) c.args.slots.now c.requires.ascending }
 
-pub returns-in-Err : goal.returns-in-Err
-returns-in-Err c =
-    sym (slot-search c.args.slots.now c.args.node c.requires.ascending (Err c.in-Err.field-0) c.in-Err.ensures.bound
-    (c.in-Err.ensures.position (λ (slot : Slot). slot.node) (answers_always _ _ _ (λ f a r g called. search rules))))
+pub returns : goal.returns
+returns c =
+    c.slot_within.ensures
+    ∙ find-in_part (λ (slot : Slot). slot.node) c.args.slots.now c.args.node c.reach-from.result.0 c.reach-from.result.1 c.in_ok-last.last.now
+    c.requires.ascending (search rules) c.reach-from.ensures.inside
