@@ -42,7 +42,7 @@ pub record IsEnabledSomewhere (host : HostState) (rule : RuleParts) : Type 0 whe
   pub nodes : List ℕ
   pub enabled : IsEnabled host rule nodes
 
--- the bigraph is the parameter piece, or the context piece, at an occurrence of the redex
+-- the bigraph is the piece of the host on the side of the parameter, at an occurrence of the redex at these nodes
 pub record IsParameterPiece (host : HostState) (redex : Big) (nodes : List ℕ) (big : Big) : Type 0 where
   pub context : Big
   pub edges : List ℕ
@@ -50,6 +50,7 @@ pub record IsParameterPiece (host : HostState) (redex : Big) (nodes : List ℕ) 
   pub decomposes : Decomposes host.big redex nodes context edges parameter
   pub made : big ≡ parameter_piece host.big parameter
 
+-- the bigraph is the piece of the host on the side of the context, at an occurrence of the redex at these nodes
 pub record IsContextPiece (host : HostState) (redex : Big) (nodes : List ℕ) (big : Big) : Type 0 where
   pub context : Big
   pub edges : List ℕ

@@ -19,7 +19,7 @@ pub data IsHigherOf (host : HostState) (rule : RuleParts) (old : Option ℕ) : O
 
 -- ---- the steps of a class
 
--- the step of a rule below that number
+-- an enabled step of the class, of a rule whose number is below that one
 pub record IsEnabledBelow (host : HostState) (rules : List RuleParts) (class number : ℕ) (step : Step) : Type 0 where
   pub enabled : IsEnabledStep host rules class step
   pub below : step.rule < number

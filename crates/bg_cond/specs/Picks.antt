@@ -4,7 +4,8 @@ use Rattle.rand_core.specs.Pcg32Seed.{pcg32_seed}
 use Rattle.rand_pcg.specs.Lcg.{Lcg}
 use Rattle.rand_pcg.specs.Pcg.{pcg32, pcg32_of_seed}
 
--- the state of the generator of that worker: it is seeded by the sum, which wraps at 64 bits
+-- the state of the generator of that worker: it is seeded by the sum of the seed and the number of the worker, which wraps at 64
+-- bits
 unfoldable pub seeded : ℕ → ℕ → Lcg
 seeded seed worker = pcg32_of_seed (pcg32_seed 16 ((seed + worker) % 2 ^ 64))
 

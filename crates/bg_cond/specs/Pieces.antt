@@ -29,12 +29,12 @@ names_in [] = []
 names_in (Edge edge ∷ links) = names_in links
 names_in (Outer name ∷ links) = name ∷ names_in links
 
--- the edges that ports of the rows have, for each port
+-- the edges to which ports of the rows are tied: one for each such port, in order
 abbrev pub tied_edges : List NodeRow → List ℕ
 tied_edges [] = []
 tied_edges (row ∷ rows) = edges_in row.links ++ tied_edges rows
 
--- the outer names that ports of the rows have, for each port
+-- the outer names to which ports of the rows are tied: one for each such port, in order
 abbrev pub tied_names : List NodeRow → List Name
 tied_names [] = []
 tied_names (row ∷ rows) = names_in row.links ++ tied_names rows

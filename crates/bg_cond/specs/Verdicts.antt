@@ -53,7 +53,7 @@ IsJudged host rules step (HigherClass other) = IsHigher host rules step other
 abbrev pub IsEnabledThere : HostState → List RuleParts → Step → Type 0
 IsEnabledThere host rules step = (class : ℕ) × IsEnabledStep host rules class step
 
--- the step is enabled, and its class is not the first of all
+-- the step is enabled, and its class is not that of number 0
 pub record IsEnabledLater (host : HostState) (rules : List RuleParts) (step : Step) : Type 0 where
   pub class : ℕ
   pub enabled : IsEnabledStep host rules class step

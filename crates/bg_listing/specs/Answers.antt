@@ -7,7 +7,7 @@ use Rattle.bg_listing.specs.declared.fault.LineFault.{LineFault}
 use Rattle.bg_listing.specs.declared.fault.LineFault.TheVariants as lines
 use Rattle.bg_listing.specs.Lines.{Bad}
 
--- the refusal of a part of a line, or want of memory
+-- a part of a line is refused; of want of memory nothing is said
 abbrev pub Fails : {Y : Type 0} → PartFault → Result Y (Unit {0}) → Type 0
 Fails part.OutOfMemory read = Unit {0}
 Fails part.NotThere read = read ≡ Err tt
@@ -33,7 +33,7 @@ pub record IsFrontRun (test : ℕ → Bool) (bytes front rest : List ℕ) : Type
   pub rest_is : rest ≡ drop (prefix_len test bytes) bytes
   pub pass : IsTrue (list_all test front)
 
--- the refusal of lines, or want of memory
+-- lines are refused, with that code and so many bytes left; of want of memory nothing is said
 abbrev pub FailsLines : {Y : Type 0} → LineFault → Result Y Bad → Type 0
 FailsLines lines.OutOfMemory read = Unit {0}
 FailsLines (lines.Bad code left) read = read ≡ Err (record { code = code; left = left })

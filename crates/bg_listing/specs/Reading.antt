@@ -95,7 +95,7 @@ args_or_none (Err e) bytes = ([], bytes)
 abbrev pub optional_args_at : List ℕ → Result (List Value × List ℕ) (Unit {0})
 optional_args_at bytes = Ok (args_or_none (args_at bytes) bytes)
 
--- the longest label
+-- a word with an upper-case letter in front, and its arguments where they stand behind it
 unfoldable pub label_at : List ℕ → Result (Label × List ℕ) (Unit {0})
 label_at bytes = mapped (λ p. record { name = p.0; args = p.1 }) (both (word_at is_upper_case) optional_args_at bytes)
 

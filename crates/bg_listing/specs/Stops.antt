@@ -13,7 +13,7 @@ abbrev pub first_line : List ℕ → List ℕ
 first_line [] = []
 first_line (b ∷ bytes) = b ∷ (if b == line_feed then [] else first_line bytes)
 
--- whether a line feed stands last, or there is none and `ended` is true
+-- whether the last byte is a line feed; of no bytes, `ended`
 abbrev pub ends_line : Bool → List ℕ → Bool
 ends_line ended [] = ended
 ends_line ended (b ∷ bytes) = ends_line (b == line_feed) bytes
@@ -36,13 +36,13 @@ pub record HasText {A : Type 0} (text : A → List ℕ) (Fits : A → Type 0) (b
   pub fits : Fits value
   pub there : bytes ≡ text value ++ rest
 
--- no text of a value that fits begins with the lines and the line behind them, whatever follows it
+-- whatever bytes stand behind the lines, if their first line is that of `behind`, no text of a value that fits stands in front
 abbrev pub NoneBegins : {A : Type 0} → (A → List ℕ) → (A → Type 0) → List ℕ → List ℕ → Type 0
 NoneBegins {A} text Fits lines behind =
     (others : List ℕ) → first_line others ≡ first_line behind → (value : A) (rest : List ℕ) → Fits value → ¬ (lines ++ others ≡ text value ++ rest)
 
--- the text of a value that fits begins with some of the lines, and with none more: the lines begin such a text, and
--- wherever the line behind them stands behind them, whatever follows it, no such text stands
+-- the bytes are whole lines and what stands behind them; the text of some value that fits begins with the lines; and whatever
+-- bytes stand behind the lines, if their first line is that of `behind`, no such text stands in front
 pub record StopsAt {A : Type 0} (text : A → List ℕ) (Fits : A → Type 0) (bytes lines behind : List ℕ) : Type 0 where
   pub there : bytes ≡ lines ++ behind
   pub whole : AreLines lines
@@ -56,7 +56,8 @@ pub record StopsAtLine {A : Type 0} (text : A → List ℕ) (Fits : A → Type 0
   pub line_is : line ≡ at.line + line_feeds lines
   pub stops : StopsAt text Fits (drop at.offset bytes) lines behind
 
--- no text of a value that fits begins with the lines from the cursor up to and with the line of that number
+-- behind the cursor stand whole lines up to before the line of that number; whatever bytes stand behind them, if their first
+-- line is that line, no text of a value that fits stands in front
 pub record NoneFromLine {A : Type 0} (text : A → List ℕ) (Fits : A → Type 0) (bytes : List ℕ) (at : Cursor) (line : ℕ) : Type 0 where
   pub lines : List ℕ
   pub behind : List ℕ
@@ -65,8 +66,8 @@ pub record NoneFromLine {A : Type 0} (text : A → List ℕ) (Fits : A → Type 
   pub line_is : line ≡ at.line + line_feeds lines
   pub none : NoneBegins text Fits lines behind
 
--- the codes of rules that a row breaks whatever the rows behind it are: rows that do not ascend, links that are no
--- ports, a label that stood before
+-- the codes of rules that a row breaks whatever the rows behind it are: rows that do not ascend, more
+-- or fewer links than the control has ports, a label that stood before
 abbrev pub is_settled : ℕ → Bool
 is_settled code = (code == 3) || (code == 5) || (code == 9)
 

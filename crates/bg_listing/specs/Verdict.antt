@@ -41,12 +41,12 @@ ListingRefusal = ℕ × ℕ
 abbrev pub line_number : List ℕ → ℕ → ℕ
 line_number bytes left = 1 + line_feeds (take (length bytes - left) bytes)
 
--- what the second pass makes of what the first one gives
+-- what the second pass makes of what the first one gives, or the first one's refusal, with the line that it tells
 abbrev pub judged : {A : Type 0} → List ℕ → Result A lines.Bad → (A → Result A ListingRefusal) → Result A ListingRefusal
 judged bytes (Ok found) second = second found
 judged bytes (Err bad) second = Err (bad.code, line_number bytes bad.left)
 
--- behind so many lines there is room left, and what is left is the end of the bytes
+-- the cursor's line, so many lines, and the bytes that are left are together at most the number of bytes; what is left is their end
 pub record LeavesRoom (bytes : List ℕ) (at : Cursor) (rest : List ℕ) (lines : ℕ) : Type 0 where
   pub room : at.line + lines + length rest ≤ length bytes
   pub behind : drop (length bytes - length rest) bytes ≡ rest

@@ -21,15 +21,19 @@ use Rattle.bg_values.specs.Outcome.{◌>>=◌, Goes, Stops}
 
 -- ---- rules as code
 
+-- a condition, its expression as code
 abbrev pub condition_code : ConditionExpression → ConditionCode
 condition_code c = record { positive = c.positive; side = c.side; at = c.at; pattern = code_of c.pattern }
 
+-- conditions in order, their expressions as code
 abbrev pub condition_codes : List ConditionExpression → List ConditionCode
 condition_codes = map condition_code
 
+-- the map behind a rule and its conditions, their expressions as code
 abbrev pub tail_code : Option (List ℕ) × List ConditionExpression → Option (List ℕ) × List ConditionCode
 tail_code tail = (tail.0, map condition_code tail.1)
 
+-- a rule, its expressions as code
 abbrev pub rule_code : RuleExpression → RuleCode
 rule_code rule =
     record {

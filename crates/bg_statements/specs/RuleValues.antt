@@ -82,7 +82,8 @@ abbrev pub map_or_identity : Option (List ℕ) → Big → List ℕ
 map_or_identity (Some entries) redex = entries
 map_or_identity None redex = counted 0 (length redex.sites)
 
--- the rule of these sides, this map and these conditions
+-- the rule of these sides, this map and these conditions, where they pass the tests of a rule: first those of the redex, then
+-- that of each condition
 abbrev pub rule_tested : ℕ → Big → Big → List ℕ → List ConditionValue → Result RuleValue Refusal
 rule_tested at redex reactum entries conditions =
     redex_tested at redex reactum entries >>= λ pattern. conditions_tested conditions >>= λ found.

@@ -20,8 +20,8 @@ pub record IsRuleRead (shapes : List Shape) (rule : RuleExpression) : Type 0 whe
   pub conditions : (condition : ConditionExpression) → Mem condition rule.conditions → IsRead shapes condition.pattern
 
 -- no word stands for two controls and no arity is above 16; there are as many expressions as names, of bigraphs and of rules;
--- each expression was read from a tree, under the first ones of the controls; and the signature is one, of these controls with
--- some arguments
+-- each expression was read from a tree, under the first ones of the controls; and the signature is a valid
+-- one, each control of which is one of these with some arguments
 pub record IsSound (d : Defined) : Type 0 where
   pub bigraphs_paired : length d.expressions ≡ length d.bigraphs
   pub rules_paired : length d.rule_expressions ≡ length d.rules

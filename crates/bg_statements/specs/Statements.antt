@@ -37,7 +37,7 @@ use Rattle.bg_values.specs.Parameters.{parameter_values, name_token}
 use Rattle.bg_values.specs.Reading.{number_at, number_token}
 use Rattle.bg_values.specs.Scopes.{ScopeParts, spelling}
 
--- the word that the token spells, which no name of the space is yet
+-- the word that the token spells, or 42 `DuplicateName` where a name of the space is that word already
 abbrev pub new_word : {T : Type 0} → ScopeParts → List (NamedValue T) → ℕ → Result (List ℕ) Refusal
 new_word text entries token =
     if is_some (name_number (spelling text token) entries) then refused DuplicateName token else Ok (spelling text token)
@@ -61,7 +61,7 @@ formals_read text formals_ways.Way2 = Ok []
 
 -- ---- `ctrl K(n) = 2;`
 
--- an arity is at most 16
+-- the arity that the token writes, or 52 `TooLarge` where that is above 16
 abbrev pub arity_at : ScopeParts → ℕ → Result ℕ Refusal
 arity_at text token = number_at text token >>= λ z. if nat_lt most_ports (nat_abs z) then refused (TooLarge Arity) token else Ok (nat_abs z)
 

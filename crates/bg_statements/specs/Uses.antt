@@ -73,7 +73,7 @@ predicate_used d at number label signature =
 
 -- ---- rules
 
--- a rule of that value
+-- the rule of that value, with its label and its class
 abbrev pub rule_parts : Label → ℕ → RuleValue → RuleParts
 rule_parts label class v =
     record { label = label; redex = v.redex; reactum = v.reactum; map = v.map; conditions = v.conditions; class = class }

@@ -32,7 +32,7 @@ StandsBehind part count (terms.binary kind at t u) =
     ⊎ (StandsBehind part count t ⊎ ((others : ℕ) × (count ≡ closures t + others) × StandsBehind part others u))
 
 -- the evaluation of a term, around which so many `K` are open, from what was reached before it, comes to the part: around
--- the part `inside` are open, and `there` was reached before it
+-- the part `inside` are open, and `there` was reached before it; the limit of depth is not tested here
 pub data Evaluates (part : Term) (inside : ℕ) (there : Reached) : ℕ → Term → Reached → Type 0 where
   at_part : Evaluates part inside there inside part there
   in_counted : {depth at : ℕ} {t : Term} {c d : Reached} → tallied at c ≡ Ok d → Evaluates part inside there depth t d

@@ -21,7 +21,7 @@ pub record IsRead (shapes : List Shape) (expression : Expression) : Type 0 where
   pub later : List Shape
   pub begins : shapes ≡ shapes_of visible.controls ++ later
 
--- the controls of a table: each is found by its word, no arity is above 16, and no word stands for two
+-- the controls of a table: each stands under its own word, no arity is above 16, and no word stands for two
 pub record AreControls (controls : List (NamedValue ControlEntry)) : Type 0 where
   pub named : (control : NamedValue ControlEntry) → Mem control controls → control.1.shape.word ≡ control.0
   pub small : (control : NamedValue ControlEntry) → Mem control controls → control.1.shape.arity ≤ most_ports

@@ -42,7 +42,7 @@ pub record IsOfShapes (shapes : List Shape) (control : Control) : Type 0 where
 abbrev pub AreOfShapes : List Shape → List Control → Type 0
 AreOfShapes shapes controls = (control : Control) → Mem control controls → IsOfShapes shapes control
 
--- the bigraph is valid under the signature, whose controls are the shapes with some arguments
+-- the bigraph is valid under the signature, which is one, each control of which is one of the shapes with some arguments
 pub record FitsShapes (shapes : List Shape) (signature : List Control) (big : Big) : Type 0 where
   pub valid : IsValidUnder signature big
   pub kept : IsSignature signature

@@ -206,7 +206,7 @@ abbrev pub n_layer : SynN-F Form Reading Behind Reading Onward Reading Onward Re
 n_layer n =
     (n.part1.value.0, λ visible. n.part1.value.1 visible >>= nested_read (n.part1.value.2 visible) n.part2.value visible)
 
--- the expression with the first item, and so on
+-- the expression on the left with each of the items in turn
 abbrev pub items_read : List Onward → Onward
 items_read [] visible e = Ok e
 items_read (item ∷ items) visible e = item visible e >>= items_read items visible
@@ -215,7 +215,7 @@ items_read (item ∷ items) visible e = item visible e >>= items_read items visi
 abbrev pub binary_read : BinaryOperation → ℕ → Reading → Onward
 binary_read kind at right visible e = right.1 visible >>= λ d. Ok (binary kind at e d)
 
--- C1 = "*" K C1 | none
+-- an item of C1: "*" K
 abbrev pub c1_item_layer : SynC1Item-F Form Reading Behind Reading Onward Reading Onward Reading Onward Reading Reading Onward → Onward
 c1_item_layer x = binary_read Composition x.part1 x.part2.value
 
@@ -223,7 +223,7 @@ c1_item_layer x = binary_read Composition x.part1 x.part2.value
 abbrev pub c_layer : SynC-F Form Reading Behind Reading Onward Reading Onward Reading Onward Reading Reading Onward → Reading
 c_layer x = (x.part1.value.0, λ visible. x.part1.value.1 visible >>= items_read x.part2.items visible)
 
--- M1 = "|" C M1 | none
+-- an item of M1: "|" C
 abbrev pub m1_item_layer : SynM1Item-F Form Reading Behind Reading Onward Reading Onward Reading Onward Reading Reading Onward → Onward
 m1_item_layer x = binary_read Merge x.part1 x.part2.value
 
@@ -231,7 +231,7 @@ m1_item_layer x = binary_read Merge x.part1 x.part2.value
 abbrev pub m_layer : SynM-F Form Reading Behind Reading Onward Reading Onward Reading Onward Reading Reading Onward → Reading
 m_layer x = (x.part1.value.0, λ visible. x.part1.value.1 visible >>= items_read x.part2.items visible)
 
--- P1 = "||" M P1 | none
+-- an item of P1: "||" M
 abbrev pub p1_item_layer : SynP1Item-F Form Reading Behind Reading Onward Reading Onward Reading Onward Reading Reading Onward → Onward
 p1_item_layer x = binary_read Parallel x.part1 x.part2.value
 
@@ -239,7 +239,7 @@ p1_item_layer x = binary_read Parallel x.part1 x.part2.value
 abbrev pub p_layer : SynP-F Form Reading Behind Reading Onward Reading Onward Reading Onward Reading Reading Onward → Reading
 p_layer x = (x.part1.value.0, λ visible. x.part1.value.1 visible >>= items_read x.part2.items visible)
 
--- E1 = "+" P E1 | none
+-- an item of E1: "+" P
 abbrev pub e1_item_layer : SynE1Item-F Form Reading Behind Reading Onward Reading Onward Reading Onward Reading Reading Onward → Onward
 e1_item_layer x = binary_read Tensor x.part1 x.part2.value
 

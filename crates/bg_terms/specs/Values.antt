@@ -66,7 +66,7 @@ limited at big =
 abbrev pub within : ℕ → Big → Reached → Come
 within at big c = limited at big >>= λ b. Ok (b, c)
 
--- a node with nothing in it, or with a site in it
+-- a node: of a control that is normal with a site in it, of one that is atomic with nothing
 abbrev pub single : Kind → ℕ → ℕ → List Name → Big
 single Normal control number names = ion control number names
 single Atomic control number names = atom control number names
