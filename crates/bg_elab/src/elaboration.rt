@@ -43,29 +43,6 @@ pub fn elaborate(
     }
 }
 
-/// What [`elaborate`] answers, of a tree that goes meanwhile, statement by statement, so that less is kept at a time.
-pub(crate) fn elaborate_taking(
-    alloc: Global,
-    bytes: &[u8],
-    tokens: &[Token],
-    tree: SynModel,
-) -> Result<System, ModelFault>
-    requires bytes { length bytes.now < 4294967295 }
-    requires tokens { length tokens.now < 4294967295 }
-    ensures { definition.Elaborates result bytes.now tokens.now tree }
-{
-    let names = NameTable::new(alloc);
-    let text = Scope {
-        bytes,
-        tokens,
-        names: &names,
-    };
-    match system_taking(alloc, &text, tree) {
-        Ok(system) => Ok(system),
-        Err(stop) => Err(fault_of(&text, stop)),
-    }
-}
-
 /// The system of the model, or its first refusal.
 fn system_of(alloc: Global, text: &Scope, tree: &SynModel) -> Result<System, Stop>
     requires { length text.now.tokens < 4294967295 }
@@ -74,58 +51,44 @@ fn system_of(alloc: Global, text: &Scope, tree: &SynModel) -> Result<System, Sto
     let statements = tree.part1.as_slice();
     match &tree.part2 {
         SynBlock::Way1(_, _, params, _, init, _, _, _, _, classes, _, _, preds, _) => {
-            let uses = Uses::of(alloc, text, statements, params.as_slice())?;
-            system_behind(alloc, text, &uses, init, classes, preds)
+            system_behind(
+                alloc,
+                text,
+                statements,
+                params.as_slice(),
+                init,
+                classes,
+                preds,
+            )
         }
-        SynBlock::Way2 => {
-            let _uses = Uses::of(alloc, text, statements, &[])?;
-            Err(no_block(text))
-        }
+        SynBlock::Way2 => no_system(alloc, text, statements),
     }
 }
 
-/// The system of the model, or its first refusal; each statement goes once it is looked at.
-fn system_taking(alloc: Global, text: &Scope, tree: SynModel) -> Result<System, Stop>
-    requires { length text.now.tokens < 4294967295 }
-    ensures { Gives result (elaborated text.now tree) }
-{
-    let SynModel {
-        part1: statements,
-        part2: block,
-    } = tree;
-    match &block {
-        SynBlock::Way1(_, _, params, _, init, _, _, _, _, classes, _, _, preds, _) => {
-            let uses = Uses::taking(alloc, text, statements, params.as_slice())?;
-            system_behind(alloc, text, &uses, init, classes, preds)
-        }
-        SynBlock::Way2 => {
-            let _uses = Uses::taking(alloc, text, statements, &[])?;
-            Err(no_block(text))
-        }
-    }
-}
-
-/// The system of a block behind the statements of which these are the uses, or its first refusal.
+/// The system of a block behind these statements, or the first refusal.
 fn system_behind(
     alloc: Global,
     text: &Scope,
-    uses: &Uses,
+    statements: &[SynStmtsItem],
+    params: &[SynParamsItem],
     init: &SynRef,
     classes: &SynClasses,
     preds: &SynPreds,
 ) -> Result<System, Stop>
-    ensures { (statements : List SynStmtsItemValue) (params : List SynParamsItemValue) → kept_after (defined_by text.now statements params) ≡ Ok uses.now → Gives result (system_behind text.now statements params init.now classes.now preds.now) }
+    ensures { Gives result (system_behind text.now statements.now params.now init.now classes.now preds.now) }
 {
+    let uses = Uses::of(alloc, text, statements, params)?;
     let block = block_of(alloc, text, &uses.spaces(), init, classes, preds)?;
-    system_of_block(alloc, uses, block)
+    system_of_block(alloc, &uses, block)
 }
 
-/// The refusal of a model without a block, at the end of input.
-fn no_block(text: &Scope) -> Stop
+/// The refusal of a model without a block: of a statement, or at the end of input.
+fn no_system(alloc: Global, text: &Scope, statements: &[SynStmtsItem]) -> Result<System, Stop>
     requires { length text.now.tokens < 4294967295 }
-    ensures { result ≡ Refused (record { cause = NoBlock; token = length text.now.tokens }) }
+    ensures { Gives result (no_system text.now statements.now) }
 {
-    Stop::refuse(Cause::NoBlock, end_of(text))
+    let _uses = Uses::of(alloc, text, statements, &[])?;
+    Err(Stop::refuse(Cause::NoBlock, end_of(text)))
 }
 
 /// The number of tokens, which stands for the end of input.

@@ -3,7 +3,7 @@ ghost use Rattle.std.specs.Prelude.{◌≡◌, ◌<◌, length};
 ghost use Rattle.bg_elab.specs.Elaboration.{text_of};
 ghost use Rattle.bg_elab.specs.Reading as definition;
 
-use crate::elaboration::elaborate_taking;
+use crate::elaboration::elaborate;
 use crate::fault::{Detail, ModelFault, offset_of};
 use bg_rules::System;
 use bg_syntax::{SyntaxFault, TOO_DEEP, UNEXPECTED, parse};
@@ -24,7 +24,7 @@ pub fn read(alloc: Global, bytes: &[u8]) -> Result<System, ModelFault>
         Ok(tree) => tree,
         Err(fault) => return Err(of_syntax(bytes, &found, fault)),
     };
-    elaborate_taking(alloc, bytes, &found, tree)
+    elaborate(alloc, bytes, &found, &tree)
 }
 
 /// The fault of a text whose tokens are no model, at the byte where the token begins.

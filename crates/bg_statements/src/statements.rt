@@ -25,21 +25,6 @@ impl Definitions {
         Ok(())
     }
 
-    /// Statements in the order of the text, as [`Definitions::add_statements`] adds them; each goes once it is added.
-    pub(crate) fn take_statements(
-        &mut self,
-        alloc: Global,
-        text: &Scope,
-        items: Vec<SynStmtsItem>,
-    ) -> Result<(), Stop>
-        ensures { Defines result self.old self.new (definition.with_statements text.now items.items) }
-    {
-        for item in items {
-            self.add_statement(alloc, text, &item.part1)?;
-        }
-        Ok(())
-    }
-
     /// A statement of any kind: what `add_control`, `add_bigraph`, `add_rule` or `add_parameter` does. `fun` has no
     /// effect of its own.
     pub(crate) fn add_statement(

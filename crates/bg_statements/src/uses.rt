@@ -81,22 +81,6 @@ impl Uses {
         Ok(Uses { definitions })
     }
 
-    /// What these statements define, and these parameters, as [`Uses::of`] has it. Each statement goes once it is looked at, so
-    /// that of a long text less is kept at a time.
-    pub fn taking(
-        alloc: Global,
-        text: &Scope,
-        statements: Vec<SynStmtsItem>,
-        parameters: &[SynParamsItem],
-    ) -> Result<Uses, Stop>
-        ensures { Gives result (kept_after (definition.defined_by text.now statements.items parameters.now)) }
-    {
-        let mut definitions = Definitions::new(alloc);
-        definitions.take_statements(alloc, text, statements)?;
-        definitions.add_parameters(alloc, text, parameters)?;
-        Ok(Uses { definitions })
-    }
-
     /// The names that the block may use.
     pub fn spaces(&self) -> NameSpaces<'_>
         ensures same { result ≡ record { bigraphs = self.now.bigraphs; rules = self.now.rules; parameters = self.now.parameters } }
