@@ -1,14 +1,19 @@
 -- The hosts of a run are made once more, and their nodes counted.
-use Rattle.std.proofs.Common.{◌≡◌, ℕ, suc, ◌+◌, ◌<◌, ◌≤◌, List, [], ◌∷◌, ◌++◌, length, drop, get_or, All, refl, sym, ap, subst, ◌∙◌}
+use Rattle.std.proofs.Common.{◌≡◌, ℕ, suc, ◌+◌, ◌<◌, ◌≤◌, List, [], ◌∷◌, ◌++◌, length, drop, get_or, slice_get, Some, All, refl, sym, ap, subst, ◌∙◌, arith}
 use Rattle.std.proofs.lemmas.List.{append_assoc, append-nil, drop_more, drop_all}
+use Rattle.bg_lists.specs.Lists.{At}
+use Rattle.bg_lists.proofs.Places.{At-one, At-slice_get, Mem-from_At}
+use Rattle.bg_lists.proofs.Words.{All-member}
 use Rattle.bg_base.specs.declared.history.Entry.{Entry}
+use Rattle.bg_base.specs.Elementary.{counted}
 use Rattle.bg_cond.proofs.DrawnRuns.{system_rules}
 use Rattle.bg_cond.proofs.Runs.{one_next, next_is_host, not_too_large}
 use Rattle.bg_cond.specs.Steps.{IsLegal, IsRun, stepped, IsTooLarge, LeadsTo, step_of}
 use Rattle.bg_rules.specs.Hosts.{IsHost}
-use Rattle.bg_rules.specs.Reaction.{HostState}
+use Rattle.bg_rules.specs.Reaction.{HostState, Reacts}
 use Rattle.bg_rules.specs.Rules.{RuleParts, IsRule}
 use Rattle.bg_rules.specs.Systems.{SystemParts, IsSystem}
+use Rattle.command_run.proofs.NodeCounts.{nodes_after_kept}
 use Rattle.command_run.specs.Counts.{AreNodeCounts, none_counted, each_counted}
 
 -- the first step of a run, and the run behind it
@@ -65,6 +70,20 @@ module _ (system : SystemParts) (is : IsSystem system) (entries : List Entry) (i
             subst (λ (ns : List ℕ). AreNodeCounts system.rules system.init entries ns)
             (sym (append_assoc counts (count ∷ []) more) ∙ ap (λ (ns : List ℕ). ns ++ more) (sym pushed)) (so_far.continues (count ∷ more) all);
       }
+
+  -- the number of nodes behind the next step, where its rule keeps the parameter
+  pub counted_by_rule : (count after : ℕ) (new : List ℕ) (rule : RuleParts) → count ≡ length host.big.nodes → slice_get system.rules entry.rule ≡ Some rule
+      → rule.map ≡ counted 0 (length rule.redex.sites) → after + length rule.redex.nodes ≡ count + length rule.reactum.nodes → new ≡ counts ++ after ∷ []
+      → (next : HostState) × AreCountedTo system.rules system.init entries (index + 1) next new last × (after ≡ length next.big.nodes)
+  counted_by_rule count after new rule here there in_order sum pushed =
+      let first = first_of in
+      let at : At rule entry.rule system.rules = At-slice_get entry.rule system.rules there in
+      let same : first.2.rule ≡ rule = At-one first.2.there at in
+      let is_rule : IsRule rule = All-member IsRule system.rules (system_rules system is) (Mem-from_At at) in
+      let reacts : Reacts host rule entry.map first.1 = subst (λ (r : RuleParts). Reacts host r entry.map first.1) same first.2.reacts in
+      let nodes = nodes_after_kept host rule entry.map first.1 so_far.is_host is_rule reacts in_order in
+      let is_count : after ≡ length first.1.big.nodes = omega (arith, nodes, sum, here) in
+      (first.1, counted_next first.1 new after first.2 is_count pushed, is_count)
 
 pub counted_whole : (system : SystemParts) (entries : List Entry) (index : ℕ) (host last : HostState) (counts : List ℕ) → length entries ≤ index
     → AreCountedTo system.rules system.init entries index host counts last → AreNodeCounts system.rules system.init entries counts

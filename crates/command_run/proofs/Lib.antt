@@ -1,5 +1,6 @@
 mod Answering
 mod Counted
+mod NodeCounts
 mod OneText
 pub mod Settled
 mod Telling

@@ -1,6 +1,6 @@
 use Rattle.bg_rules.specs.Reaction.{HostState}
 use Rattle.command_run.proofs.Counted.{AreCountedTo}
-use Rattle.command_run.proofs.counting.counts_of.Given as goal
+use Rattle.command_run.proofs.counting.counts_by_hosts.Given as goal
 
 -- the entries so far are counted
 abbrev pub invariant-loop-entry : goal.invariant-loop-entry

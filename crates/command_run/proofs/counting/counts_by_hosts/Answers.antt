@@ -1,6 +1,6 @@
 use Rattle.std.proofs.Common.{◌≤◌, length, arith, rules}
 use Rattle.command_run.proofs.Counted.{next_legal, next_within, counted_next, counted_whole}
-use Rattle.command_run.proofs.counting.counts_of.Goals as goal
+use Rattle.command_run.proofs.counting.counts_by_hosts.Goals as goal
 
 pub make_step-requires-clause-legal : goal.make_step-requires-clause-legal
 make_step-requires-clause-legal c =
