@@ -19,10 +19,10 @@ use std::thread::Threads;
 /// and the last host; or `Refused` (1) with the line of the refusal. With one worker it is the run that the seed draws. The
 /// watchers are told of each entry, with the number of nodes of the host after it; where the input is refused, or there is no
 /// memory, they are told of nothing. The gate is told of the moments of the workers. Costs what reading costs, and at each
-/// step a pick and a reaction in place for each worker and one more, or two where a rule of the run copies, drops or reorders parts
-/// of its parameter. Holds the journal and the text beside the host, and for each
-/// worker a host of its own, indexed, with the lists that it keeps. It may wait. (Milner, chapter 8; conditions and classes are those of
-/// docs/LANGUAGE.md, picks those of docs/FORMATS.md.)
+/// step a pick and a reaction in place for each worker and one more, or two where a rule of the run copies, drops or reorders
+/// parts of its parameter. Holds the journal and the text beside the host, and for each worker a host of its own, indexed, with the
+/// lists that it keeps. It may wait. (Milner, chapter 8; conditions and classes are those of docs/LANGUAGE.md, picks those of
+/// docs/FORMATS.md.)
 pub fn answer_run<G: Gate + Sync, R: Threads + Wait + Sync>(
     rt: &R,
     alloc: Global,
