@@ -43,7 +43,7 @@ pub(crate) fn summary_of<R: Threads + Sync>(
 
 /// The size, how large the host is at first, and the rules, behind what is there. After an error the bytes behind are of no
 /// use; so of the functions below.
-#[tactic(auto, unfolding(crate::specs::TrialText::front_text))]
+#[tactic(auto, unfolding(crate::specs::TrialText::trial_front_text))]
 fn put_front(
     alloc: Global,
     size: u32,
@@ -99,7 +99,7 @@ fn put_rules(alloc: Global, rules: &[Rule], counts: &[usize], out: &mut Vec<u8>)
 }
 
 /// The line of the rule.
-#[tactic(auto, unfolding(crate::specs::TrialText::rule_line))]
+#[tactic(auto, unfolding(crate::specs::TrialText::trial_rule_line))]
 fn put_rule(alloc: Global, number: usize, rule: &Rule, count: usize, out: &mut Vec<u8>) -> Mem<()>
     ensures { OnOk result (out.new.items ≡ out.old.items ++ definition.trial_rule_line number rule.now count) }
 {
