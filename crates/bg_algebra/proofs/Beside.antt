@@ -1,5 +1,6 @@
 -- Two bigraphs side by side: the rows of each are there, they ascend, and the whole is valid.
 use Rattle.std.proofs.Common.{◌≡◌, ℕ, true, false, ◌++◌, List, [], map, nat_cmp, is_eq, is_some, refl, sym, ap, subst, ◌∙◌, ◌⊎◌, inl, inr, arith}
+use Rattle.bg_lists.proofs.Comparisons.{apart_numbers}
 use Rattle.std.specs.Ordering.{eq_by_cmp}
 use Rattle.std.specs.List.{IsDistinct}
 use Rattle.std.specs.List.Sorted.{IsStrictlySortedBy}
@@ -27,7 +28,7 @@ use Rattle.bg_base.specs.Bigraph.{IsValid, IsValidUnder, node_cmp, inner_cmp, ha
 use Rattle.bg_base.specs.Composition.{SupportsApart}
 use Rattle.bg_base.specs.Products.{InnerApart, OuterApart, beside, place_beside, row_beside, tensor, parallel}
 use Rattle.bg_base.proofs.NameLaws.{same_name, same_name_from_test}
-use Rattle.bg_base.proofs.LookUps.{node_cmp_total, inner_cmp_total, apart_numbers, has_edge, has_outer, has_inner, has_region, member_from_has_edge, member_from_has_outer}
+use Rattle.bg_base.proofs.LookUps.{node_cmp_total, inner_cmp_total, has_edge, has_outer, has_inner, has_region, member_from_has_edge, member_from_has_outer}
 use Rattle.bg_base.proofs.Climbs.{at_region}
 use Rattle.bg_base.proofs.Composed.{nodes_apart, edges_apart}
 use Rattle.bg_algebra.proofs.Parts.{IsPart, IsSound, Fits, valid_from_rows, valid_under_from_rows, row_sound, site_there, inner_link_there, row_fits, site_fits}

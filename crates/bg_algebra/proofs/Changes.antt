@@ -1,5 +1,6 @@
 -- One region in place of all, a name closed, idle edges dropped: each of a valid bigraph is valid.
 use Rattle.std.proofs.Common.{◌≡◌, ℕ, true, false, Bool, ◌||◌, not, List, map, filter, All, IsTrue, is_eq, nat_cmp, refl, sym, subst, ◌∙◌, arith, eq-eqb, is_some, ap, ◌∷◌}
+use Rattle.bg_lists.proofs.Comparisons.{apart_numbers}
 use Rattle.std.specs.Ordering.{eq_by_cmp}
 use Rattle.std.specs.List.{list_any, IsDistinct}
 use Rattle.std.specs.List.Sorted.{IsStrictlySortedBy}
@@ -23,7 +24,7 @@ use Rattle.bg_base.specs.Order.{name_cmp}
 use Rattle.bg_base.specs.Bigraph.{IsValid, IsValidUnder, node_cmp, inner_cmp, has_place, has_link, is_atomic, edge_of}
 use Rattle.bg_base.specs.Products.{in_one_region, place_in_one, row_in_one, link_closed, row_closed, inner_closed, close, same_link, has_point, lean}
 use Rattle.bg_base.proofs.NameLaws.{test_same_name}
-use Rattle.bg_base.proofs.LookUps.{apart_numbers, has_edge, has_outer, has_region, member_from_has_edge, member_from_has_outer}
+use Rattle.bg_base.proofs.LookUps.{has_edge, has_outer, has_region, member_from_has_edge, member_from_has_outer}
 use Rattle.bg_base.proofs.Climbs.{at_region}
 use Rattle.bg_algebra.proofs.Parts.{IsPart, IsSound, Fits, valid_from_rows, valid_under_from_rows, row_sound, site_there, inner_link_there, row_fits, site_fits}
 

@@ -10,9 +10,8 @@ ghost use Rattle.bg_base.specs.Bigraph.{IsValid, IsValidUnder, edge_of, outer_of
 ghost use Rattle.bg_base.specs.Products as product;
 
 use crate::AlgebraFault;
-use bg_base::{Big, InnerRow, Link, Name, NodeRow, PortLinks, has_edge, has_outer};
+use bg_base::{Big, InnerRow, Link, LinkVec, Name, NodeRow, PortLinks, has_edge, has_outer};
 use bg_lists::{Duplicate, Mem, Rows};
-use smallvec::SmallVec;
 use std::alloc::Global;
 
 /// The bigraph with the outer name made the edge `edge` (Milner, chapter 3: closure). What was tied to the name is tied
@@ -77,10 +76,10 @@ fn is_name(other: &Name, name: &Name) -> bool
     other.cmp(name).is_eq()
 }
 
-fn closed_link_list(alloc: Global, links: &[Link], name: &Name, edge: u32) -> Mem<SmallVec<Link, 4>>
+fn closed_link_list(alloc: Global, links: &[Link], name: &Name, edge: u32) -> Mem<LinkVec>
     ensures { IfOk result (λ made. made.items ≡ map (product.link_closed name.now edge) links.now) }
 {
-    let mut made = SmallVec::new(alloc);
+    let mut made = LinkVec::new(alloc);
     for link in links {
         made.push(closed_link(alloc, link, name, edge)?)?;
     }

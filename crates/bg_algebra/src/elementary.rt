@@ -9,10 +9,9 @@ ghost use Rattle.bg_base.specs.Order.{name_cmp};
 ghost use Rattle.bg_base.specs.Bigraph.{IsValid, IsValidUnder, arity_of, is_atomic_control};
 ghost use Rattle.bg_base.specs.Elementary as elementary;
 
-use bg_base::{Big, InnerRow, Link, Name, NodeRow, Place, PortLinks};
+use bg_base::{Big, InnerRow, Link, LinkVec, Name, NodeRow, Place, PortLinks};
 use bg_link::name_set;
 use bg_lists::{Duplicate, Mem, Rows, copies};
-use smallvec::SmallVec;
 use std::alloc::Global;
 
 /// Nothing at all: the identity of the interface without places and names. Takes no memory.
@@ -195,10 +194,10 @@ fn lone_node(alloc: Global, control: u32, node: u32, names: &[Name], sites: Rows
 }
 
 /// The names as links.
-fn open_links(alloc: Global, names: &[Name]) -> Mem<SmallVec<Link, 4>>
+fn open_links(alloc: Global, names: &[Name]) -> Mem<LinkVec>
     ensures { IfOk result (λ made. made.items ≡ map Outer names.now) }
 {
-    let mut made = SmallVec::new(alloc);
+    let mut made = LinkVec::new(alloc);
     for name in names {
         made.push(Link::Outer(name.copy(alloc)?))?;
     }

@@ -9,9 +9,8 @@ ghost use Rattle.bg_base.specs.declared.signature.Control.{Control};
 ghost use Rattle.bg_base.specs.Bigraph.{IsValid, IsValidUnder, node_cmp};
 ghost use Rattle.bg_base.specs.Translation as translation;
 
-use bg_base::{Big, InnerRow, Link, NodeRow, Place, PortLinks};
+use bg_base::{Big, InnerRow, Link, LinkVec, NodeRow, Place, PortLinks};
 use bg_lists::{Duplicate, Mem, Rows};
-use smallvec::SmallVec;
 use std::alloc::Global;
 
 /// The bigraph with these numbers for its nodes and these for its edges, in the order of its rows (Milner, chapter 2:
@@ -83,12 +82,12 @@ fn renamed_link(alloc: Global, big: &Big, edges: &[u32], link: &Link) -> Mem<Lin
     }
 }
 
-fn renamed_links(alloc: Global, big: &Big, edges: &[u32], links: &[Link]) -> Mem<SmallVec<Link, 4>>
+fn renamed_links(alloc: Global, big: &Big, edges: &[u32], links: &[Link]) -> Mem<LinkVec>
     requires ascending { IsStrictlySortedBy nat_cmp big.now.edges }
     requires as_many { length big.now.edges ≡ length edges.now }
     ensures { IfOk result (λ made. made.items ≡ map (translation.link_renamed big.now edges.now) links.now) }
 {
-    let mut made = SmallVec::new(alloc);
+    let mut made = LinkVec::new(alloc);
     for link in links {
         made.push(renamed_link(alloc, big, edges, link)?)?;
     }

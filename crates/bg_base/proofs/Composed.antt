@@ -1,5 +1,6 @@
 -- Laws of composition by members: each row of the composition comes from one of the two, and each row of the two is there.
 use Rattle.std.proofs.Common.{◌≡◌, ℕ, ◌+◌, false, ◌++◌, map, length, nat_cmp, is_some, refl, sym, ap, ◌∙◌, ◌⊎◌, inl, inr}
+use Rattle.bg_lists.proofs.Comparisons.{apart_numbers}
 use Rattle.std.specs.Ordering.{eq_by_cmp}
 use Rattle.std.specs.List.{IsDistinct}
 use Rattle.std.specs.List.Sorted.{IsStrictlySortedBy}
@@ -16,7 +17,7 @@ use Rattle.bg_base.specs.declared.big.NodeRow.{NodeRow}
 use Rattle.bg_base.specs.declared.big.Big.{Big}
 use Rattle.bg_base.specs.Bigraph.{node_cmp, row_of, edge_of}
 use Rattle.bg_base.specs.Composition.{compose, row_through, inner_through, place_through, SupportsApart}
-use Rattle.bg_base.proofs.LookUps.{node_cmp_total, apart_numbers, has_row, has_edge, no_row, no_edge}
+use Rattle.bg_base.proofs.LookUps.{node_cmp_total, has_row, has_edge, no_row, no_edge}
 
 -- ---- supports that are apart
 

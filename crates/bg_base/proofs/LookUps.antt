@@ -1,14 +1,15 @@
 -- Laws of look-up: a node, an edge or a name is found exactly where a member has its number or is that name.
-use Rattle.std.proofs.Common.{◌≡◌, ℕ, ◌<◌, ◌≤◌, ◌+◌, ◌-◌, Option, take, drop, ◌==◌, true, false, List, nat_cmp, is_eq, is_some, Some, None, unwrap_or, option_map, refl, sym, ap, ◌∙◌, eqb-true, eq-eqb, ltb-true, lt-ltb}
+use Rattle.std.proofs.Common.{◌≡◌, ℕ, ◌<◌, ◌+◌, ◌-◌, take, drop, ◌==◌, true, false, List, nat_cmp, is_eq, is_some, Some, None, unwrap_or, option_map, refl, sym, ap, ◌∙◌, eqb-true, eq-eqb, ltb-true, lt-ltb}
 use Rattle.std.specs.Cmp.{IsTotalOrder}
 use Rattle.std.specs.List.Sorted.{IsStrictlySortedBy}
 use Rattle.std.proofs.lemmas.Cmp.{on_total, nat_cmp_total}
 use Rattle.std.proofs.lemmas.Bool.{false_from_ne_true}
 use Rattle.bg_lists.specs.Lists.{Mem}
-use Rattle.std.proofs.Common.{length, get_or, slice_get, arith, Result, is_ok, MatchResult}
+use Rattle.std.proofs.Common.{length, get_or, Result, is_ok, MatchResult}
 use Rattle.std.specs.List.Sorted.{IsSearchInRange, IsBinarySearchResult}
 use Rattle.bg_lists.proofs.Searches.{find-search, is_some_find-search}
-use Rattle.bg_lists.proofs.Comparisons.{eqb-nat_cmp}
+use Rattle.bg_lists.proofs.Comparisons.{eqb-nat_cmp, tied_numbers}
+use Rattle.bg_lists.proofs.Parts.{from_part}
 use Rattle.bg_lists.proofs.Members.{Mem-same}
 use Rattle.bg_lists.proofs.Ascents.{same_member, Ascending-from_sorted}
 use Rattle.bg_lists.proofs.Words.{member_from_find, is_some_find, found, find-only, find-none}
@@ -23,21 +24,12 @@ use Rattle.bg_base.specs.OrderLaws.{name_cmp_total}
 use Rattle.bg_base.specs.Bigraph.{node_cmp, inner_cmp, row_of, edge_of, outer_of, inner_of, has_place, is_atomic, is_atomic_control}
 use Rattle.bg_base.specs.Lookup.{IsFirstRow}
 use Rattle.bg_base.proofs.NameLaws.{same_name_from_test, test_same_name}
-use Rattle.bg_base.proofs.Reaches.{from_part}
 
 pub node_cmp_total : IsTotalOrder node_cmp
 node_cmp_total = on_total (λ (row : NodeRow). row.id) nat_cmp_total
 
 pub inner_cmp_total : IsTotalOrder inner_cmp
 inner_cmp_total = on_total (λ (row : InnerRow). row.name) name_cmp_total
-
--- two numbers that are equal, and two that differ
-pub tied_numbers : (m n : ℕ) → m ≡ n → is_eq (nat_cmp m n) ≡ true
-tied_numbers m n e = sym (eqb-nat_cmp m n) ∙ eq-eqb m n e
-
-pub apart_numbers : (m n : ℕ) → (m ≡ n → ⊥) → is_eq (nat_cmp m n) ≡ false
-apart_numbers m n differ =
-    false_from_ne_true (is_eq (nat_cmp m n)) (λ e. differ (eqb-true m n (eqb-nat_cmp m n ∙ e)))
 
 -- ---- nodes
 

@@ -31,7 +31,7 @@ pub use labels::{Label, Value};
 pub use laws::{
     equal_bigraphs_are_the_same, equal_signatures_are_the_same, named_rows_are_first_faults,
 };
-pub use links::PortLinks;
+pub use links::{LinkVec, PortLinks};
 pub use look_up::{find_inner, find_node, find_node_at, has_edge, has_outer, reach};
 pub use names::{Link, Name, Place};
 pub use signature::{Control, Kind, Signature, SignatureFault};

@@ -9,11 +9,14 @@ use std::fmt;
 use std::marker::Model;
 use std::ops::DerefSlice;
 
-/// The links of a node's ports, in the order of the ports; up to four lie in the value itself.
+/// Links in a row; up to two lie in the value itself.
+pub type LinkVec = SmallVec<Link, 2>;
+
+/// The links of a node's ports, in the order of the ports; up to two lie in the value itself.
 /// A contract sees the list of the links.
 #[derive(Drop)]
 pub struct PortLinks {
-    items: SmallVec<Link, 4>,
+    items: LinkVec,
 }
 
 impl Model for PortLinks {
@@ -29,7 +32,7 @@ impl Model for PortLinks {
 
 impl PortLinks {
     /// The list of these links, fewer than 4,294,967,295. Takes no memory.
-    pub fn from_small_vec(items: SmallVec<Link, 4>) -> PortLinks
+    pub fn from_small_vec(items: LinkVec) -> PortLinks
         requires { length items.items < 2 ^ 32 - 1 }
         ensures { result ≡ items.items }
     {
@@ -94,10 +97,10 @@ impl Duplicate for PortLinks {
 }
 
 /// Copies of all links, in their order.
-fn link_copies(alloc: Global, links: &[Link]) -> Mem<SmallVec<Link, 4>>
+fn link_copies(alloc: Global, links: &[Link]) -> Mem<LinkVec>
     ensures { IfOk result (λ made. made.items ≡ links.now) }
 {
-    let mut made = SmallVec::new(alloc);
+    let mut made = LinkVec::new(alloc);
     for link in links {
         made.push(link.copy(alloc)?)?;
     }

@@ -7,28 +7,28 @@ ghost use Rattle.std.specs.List.{list_all};
 ghost use Rattle.bg_base.specs.Spelling as spelling;
 
 use bg_lists::{Duplicate, Mem};
+use smallvec::SmallVec;
 use std::alloc::Global;
 use std::cmp::Ordering;
 use std::marker::Model;
 use std::{fmt, str};
 
-/// An identifier: an ASCII letter followed by ASCII letters, digits, `_` and `'`.
+/// An identifier: an ASCII letter followed by ASCII letters, digits, `_` and `'`; up to 16 bytes lie in the value itself.
 /// A contract sees its bytes.
 #[derive(Drop)]
 pub struct Ident {
-    text: String,
+    letters: SmallVec<u8, 16>,
 }
 
 impl Model for Ident {
     ghost use Rattle.std.specs.Prelude.{ℕ, List, IsTrue};
-    ghost use Rattle.std.specs.String.{string_bytes};
     ghost use Rattle.bg_base.specs.Spelling.{is_ident};
 
     ghost Value = { List ℕ };
 
-    ghost view = { λ word. string_bytes word.text };
+    ghost view = { λ word. word.letters.items };
 
-    ghost invariant = { λ word. IsTrue (is_ident (string_bytes word.text)) };
+    ghost invariant = { λ word. IsTrue (is_ident word.letters.items) };
 }
 
 impl Ident {
@@ -36,9 +36,9 @@ impl Ident {
     pub fn new(alloc: Global, text: &str) -> Mem<Option<Ident>>
         ensures { IfOk result (λ made. SomeIff made (IsTrue (spelling.is_ident text.now)) text.now) }
     {
-        if is_ident(text.as_bytes()) {
-            let text = String::from_str(alloc, text)?;
-            Ok(Some(Ident { text }))
+        let bytes = text.as_bytes();
+        if is_ident(bytes) {
+            Ok(Some(Ident::from_bytes(alloc, bytes)?))
         } else {
             Ok(None)
         }
@@ -49,8 +49,16 @@ impl Ident {
         requires { IsTrue (spelling.is_ident bytes.now) }
         ensures { IfOk result (λ made. made ≡ bytes.now) }
     {
-        let text = String::from_str(alloc, str::from_utf8(bytes).unwrap())?;
-        Ok(Ident { text })
+        let letters = SmallVec::from_slice(alloc, bytes)?;
+        Ok(Ident { letters })
+    }
+
+    /// The bytes of the identifier.
+    pub fn as_bytes(&self) -> &[u8]
+        ensures same { result.now ≡ self.now }
+        ensures spelled { IsTrue (spelling.is_ident self.now) }
+    {
+        self.letters.as_slice()
     }
 
     /// The text of the identifier.
@@ -58,14 +66,13 @@ impl Ident {
         ensures same { result.now ≡ self.now }
         ensures spelled { IsTrue (spelling.is_ident self.now) }
     {
-        self.text.as_str()
+        str::from_utf8(self.as_bytes()).unwrap()
     }
 }
 
 impl Duplicate for Ident {
-    fn copy(&self, _alloc: Global) -> Mem<Ident> {
-        let text = self.text.clone()?;
-        Ok(Ident { text })
+    fn copy(&self, alloc: Global) -> Mem<Ident> {
+        Ident::from_bytes(alloc, self.as_bytes())
     }
 }
 
@@ -175,7 +182,7 @@ impl PartialEq for Ident {
     ghost laws = { partial_equiv_from_equiv nat_list_eq_equiv };
 
     fn eq(&self, other: &Self) -> bool {
-        self.text == other.text
+        self.as_bytes() == other.as_bytes()
     }
 }
 
@@ -203,13 +210,13 @@ impl Ord for Ident {
     ghost matches_eq = { texts_ties };
 
     fn cmp(&self, other: &Self) -> Ordering {
-        self.text.cmp(&other.text)
+        self.as_bytes().cmp(&other.as_bytes())
     }
 }
 
 impl fmt::Debug for Ident {
     fn fmt<W: fmt::Write>(&self, f: &mut fmt::Formatter<W>) -> fmt::Result {
-        self.text.fmt(f)
+        self.as_str().fmt(f)
     }
 }
 

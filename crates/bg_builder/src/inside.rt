@@ -9,9 +9,8 @@ ghost use Rattle.bg_base.specs.Bigraph.{inner_cmp};
 ghost use Rattle.bg_base.specs.Products as product;
 ghost use Rattle.bg_builder.specs.Inside as inside;
 
-use bg_base::{InnerRow, Link, Name, NodeRow, Place, PortLinks, find_inner};
+use bg_base::{InnerRow, Link, LinkVec, Name, NodeRow, Place, PortLinks, find_inner};
 use bg_lists::{Duplicate, Mem};
-use smallvec::SmallVec;
 use std::alloc::Global;
 
 /// The place, in one region.
@@ -118,11 +117,11 @@ fn link_by(alloc: Global, inner: &[InnerRow], link: &Link) -> Mem<Link>
     }
 }
 
-fn links_by(alloc: Global, inner: &[InnerRow], links: &[Link]) -> Mem<SmallVec<Link, 4>>
+fn links_by(alloc: Global, inner: &[InnerRow], links: &[Link]) -> Mem<LinkVec>
     requires { IsStrictlySortedBy inner_cmp inner.now }
     ensures { IfOk result (λ made. made.items ≡ map (inside.link_by inner.now) links.now) }
 {
-    let mut made = SmallVec::new(alloc);
+    let mut made = LinkVec::new(alloc);
     for link in links {
         made.push(link_by(alloc, inner, link)?)?;
     }
@@ -197,10 +196,10 @@ fn closed(alloc: Global, link: &Link, name: &Name, edge: u32) -> Mem<Link>
     }
 }
 
-fn closed_links(alloc: Global, links: &[Link], name: &Name, edge: u32) -> Mem<SmallVec<Link, 4>>
+fn closed_links(alloc: Global, links: &[Link], name: &Name, edge: u32) -> Mem<LinkVec>
     ensures { IfOk result (λ made. made.items ≡ map (product.link_closed name.now edge) links.now) }
 {
-    let mut made = SmallVec::new(alloc);
+    let mut made = LinkVec::new(alloc);
     for link in links {
         made.push(closed(alloc, link, name, edge)?)?;
     }

@@ -11,9 +11,8 @@ ghost use Rattle.bg_lists.specs.Orders.{set_of};
 use crate::frames::{Frame, put_one};
 use crate::lists::Lists;
 use crate::tables::{inner_tree, name_tree, outer_tree};
-use bg_base::{Big, Link, Name, NodeRow, Place, PortLinks};
+use bg_base::{Big, Link, LinkVec, Name, NodeRow, Place, PortLinks};
 use bg_lists::{Duplicate, Mem, Rows};
-use smallvec::SmallVec;
 use std::alloc::Global;
 use std::collections::BTreeMap;
 
@@ -138,10 +137,10 @@ fn lay_node(
 }
 
 /// The names as links. Moves them.
-fn open_links(alloc: Global, names: Rows<Name>) -> Mem<SmallVec<Link, 4>>
+fn open_links(alloc: Global, names: Rows<Name>) -> Mem<LinkVec>
     ensures { IfOk result (λ links. links.items ≡ map Outer names) }
 {
-    let mut links = SmallVec::new(alloc);
+    let mut links = LinkVec::new(alloc);
     for name in names.into_vec() {
         links.push(Link::Outer(name))?;
     }

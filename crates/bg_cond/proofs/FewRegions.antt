@@ -1,5 +1,6 @@
 -- A redex that occurs in a host has at most as many regions as the host has nodes.
 use Rattle.std.proofs.Common.{◌≡◌, ℕ, zero, suc, ◌+◌, ◌<◌, ◌≤◌, ◌==◌, not, Bool, List, [], ◌∷◌, length, filter, nat_cmp, refl, sym, ap, ◌∙◌, arith, eqb-true, eq-eqb}
+use Rattle.bg_lists.proofs.Comparisons.{tied_numbers}
 use Rattle.std.specs.List.{IsDistinct}
 use Rattle.std.specs.Ordering.{eq_by_cmp}
 use Rattle.std.proofs.lemmas.Bool.{not_from_false, not_from_true, false≢true, false_from_ne_true}
@@ -12,7 +13,6 @@ use Rattle.bg_base.specs.declared.names.Place.TheVariants.{Region}
 use Rattle.bg_base.specs.declared.big.NodeRow.{NodeRow}
 use Rattle.bg_base.specs.declared.big.Big.{Big}
 use Rattle.bg_base.specs.Translation.{node_numbers}
-use Rattle.bg_base.proofs.LookUps.{tied_numbers}
 use Rattle.bg_place.specs.Places.{same_place}
 use Rattle.bg_place.proofs.RowLaws.{same_place_from_test, same_place-itself}
 use Rattle.bg_rules.specs.Hosts.{IsHost}

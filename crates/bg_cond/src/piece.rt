@@ -12,10 +12,9 @@ ghost use Rattle.bg_rules.specs.Instantiation.{is_among};
 ghost use Rattle.bg_cond.specs.Pieces as defined;
 
 use crate::sides::has;
-use bg_base::{Big, Link, Name, NodeRow, Place, PortLinks, find_node};
+use bg_base::{Big, Link, LinkVec, Name, NodeRow, Place, PortLinks, find_node};
 use bg_link::name_set;
 use bg_lists::{Duplicate, Mem, Rows};
-use smallvec::SmallVec;
 use std::alloc::Global;
 
 /// The control of a hole.
@@ -167,11 +166,11 @@ fn opened_edge(cut: &[u32], edge: u32) -> Link
     }
 }
 
-fn opened_links(alloc: Global, cut: &[u32], links: &[Link]) -> Mem<SmallVec<Link, 4>>
+fn opened_links(alloc: Global, cut: &[u32], links: &[Link]) -> Mem<LinkVec>
     requires sorted { IsSorted nat_cmp cut.now }
     ensures { IfOk result (λ made. made.items ≡ map (defined.link_opened cut.now) links.now) }
 {
-    let mut made = SmallVec::new(alloc);
+    let mut made = LinkVec::new(alloc);
     for link in links {
         made.push(opened(alloc, cut, link)?)?;
     }
@@ -189,7 +188,7 @@ fn links_in_piece(alloc: Global, rows: &[NodeRow], cut: &[u32], node: u32) -> Me
             let links = opened_links(alloc, cut, row.links.as_slice())?;
             Ok(PortLinks::from_small_vec(links))
         }
-        None => Ok(PortLinks::from_small_vec(SmallVec::new(alloc))),
+        None => Ok(PortLinks::from_small_vec(LinkVec::new(alloc))),
     }
 }
 
@@ -229,7 +228,7 @@ fn push_holes(alloc: Global, first: u32, places: &[Place], rows: &mut Vec<NodeRo
             id: first + at as u32,
             control: HOLE,
             parent: *place,
-            links: PortLinks::from_small_vec(SmallVec::new(alloc)),
+            links: PortLinks::from_small_vec(LinkVec::new(alloc)),
         })?;
     }
     Ok(())

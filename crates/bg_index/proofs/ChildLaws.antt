@@ -6,7 +6,7 @@ use Rattle.std.proofs.lemmas.Bool.{not-true, not_from_false}
 use Rattle.bg_lists.specs.Lists.{Mem}
 use Rattle.bg_lists.specs.Orders.{Ascending}
 use Rattle.bg_lists.proofs.Ascents.{Ascending-append, Ascending-from_sorted, Ascending-map, Ascending-unmap, same_member, sorted_from_Ascending}
-use Rattle.bg_lists.proofs.Comparisons.{nat_cmp-lt}
+use Rattle.bg_lists.proofs.Comparisons.{nat_cmp-lt, tied_numbers}
 use Rattle.bg_lists.proofs.Members.{Mem-cons_cases, Mem-same, Mem-map, Mem-unmap, Mem-filter, Mem-unfilter, Mem-append_left, Mem-append_right, Mem-append_cases}
 use Rattle.bg_lists.proofs.Places.{At-from_Mem}
 use Rattle.bg_lists.proofs.Words.{All-member, member_from_find, fails_from_find}
@@ -16,7 +16,6 @@ use Rattle.bg_base.specs.declared.big.NodeRow.{NodeRow}
 use Rattle.bg_base.specs.declared.big.Big.{Big}
 use Rattle.bg_base.specs.Bigraph.{IsValid}
 use Rattle.bg_base.proofs.Counted.{Mem-counted, counted_ascends}
-use Rattle.bg_base.proofs.LookUps.{tied_numbers}
 use Rattle.bg_place.specs.declared.graph.ParentRow.{ParentRow}
 use Rattle.bg_place.specs.Places.{parent_row, places_of, node_number, same_place, numbers_in, children_of}
 use Rattle.bg_place.specs.Rows.{parent_cmp, HasGroups}

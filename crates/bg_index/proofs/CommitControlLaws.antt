@@ -1,5 +1,6 @@
 -- The nodes of each control, as nodes are taken out and put behind.
 use Rattle.std.proofs.Common.{◌≡◌, ℕ, ◌≤◌, ◌+◌, ◌==◌, Less, Some, None, List, [], ◌∷◌, ◌++◌, inl, inr, length, map, filter, find, not, nat_cmp, vec_capacity, refl, sym, ap, subst, ◌∙◌, arith, eqb-true, eq-eqb, append_assoc, append-nil, length-append}
+use Rattle.bg_lists.proofs.Comparisons.{tied_numbers}
 use Rattle.std.specs.List.Sorted.{IsStrictlySortedBy}
 use Rattle.std.proofs.lemmas.Bool.{false≢true}
 use Rattle.std.proofs.lemmas.List.{map-append}
@@ -9,7 +10,6 @@ use Rattle.bg_lists.proofs.Ascents.{Ascending-from_sorted, sorted_from_Ascending
 use Rattle.bg_lists.proofs.Members.{Mem-cons_cases, Mem-append_cases, Mem-append_left, Mem-append_right, Mem-unmap, Mem-unfilter}
 use Rattle.bg_lists.proofs.Words.{fails_from_find, length-filter}
 use Rattle.bg_base.specs.declared.big.NodeRow.{NodeRow}
-use Rattle.bg_base.proofs.LookUps.{tied_numbers}
 use Rattle.bg_rules.specs.Lookups.{nodes_with}
 use Rattle.bg_rules.specs.Instantiation.{is_among}
 use Rattle.bg_rules.proofs.Upwards.{member_from_is_among}

@@ -7,14 +7,13 @@ use Rattle.slab.specs.Slab.{Slab, get, Updates}
 use Rattle.bg_lists.specs.Lists.{Mem, here, there, At, at_there}
 use Rattle.bg_lists.specs.Orders.{Ascending, asc_nil, asc_cons}
 use Rattle.bg_lists.proofs.Ascents.{Ascending-from_sorted, sorted_from_Ascending, Ascending-append, Ascending-filter, same_member}
-use Rattle.bg_lists.proofs.Comparisons.{nat_cmp-lt}
+use Rattle.bg_lists.proofs.Comparisons.{nat_cmp-lt, tied_numbers}
 use Rattle.bg_lists.proofs.Members.{Mem-cons_cases, Mem-append_left, Mem-append_right, Mem-append_cases, Mem-unfilter, filter_agree_on, filter-map, map_agree, map-map}
 use Rattle.bg_lists.proofs.Places.{not_At-nil, Mem-from_At, At-one, At-below, At-total}
 use Rattle.bg_lists.proofs.Words.{member_from_find, fails_from_find}
 use Rattle.bg_base.specs.declared.names.Place.{Place}
 use Rattle.bg_base.specs.declared.names.Place.TheVariants.{Node, Region}
 use Rattle.bg_base.specs.declared.big.NodeRow.{NodeRow}
-use Rattle.bg_base.proofs.LookUps.{tied_numbers}
 use Rattle.bg_rules.specs.Instantiation.{is_among}
 use Rattle.bg_index.specs.declared.entries.NodeEntry.{NodeEntry}
 use Rattle.bg_index.specs.declared.entries.RegionEntry.{RegionEntry}

@@ -7,13 +7,12 @@ use Rattle.std.proofs.lemmas.Cmp.{nat_cmp_total}
 use Rattle.bg_lists.specs.Lists.{Mem, here, there, At, at_here, at_there}
 use Rattle.bg_lists.specs.Orders.{Ascending, asc_cons}
 use Rattle.bg_lists.proofs.Ascents.{Ascending-from_sorted, sorted_from_Ascending, Ascending-filter, Ascending-map, Ascending-unmap, same_member, one_place}
-use Rattle.bg_lists.proofs.Comparisons.{Less-not_itself, eqb-nat_cmp}
+use Rattle.bg_lists.proofs.Comparisons.{Less-not_itself, eqb-nat_cmp, tied_numbers}
 use Rattle.bg_lists.proofs.Members.{Mem-cons_cases, Mem-map, Mem-unmap, Mem-unfilter, Mem-append_left, Mem-append_right, Mem-append_cases, filter_agree_on}
 use Rattle.bg_lists.proofs.Places.{not_At-nil, At-total, At-from_Mem, Mem-from_At, At-map, At-same, get_or-At}
 use Rattle.bg_lists.proofs.Searches.{find-search}
 use Rattle.bg_lists.proofs.Tests.{same_test}
 use Rattle.bg_lists.proofs.Words.{fails_from_find}
-use Rattle.bg_base.proofs.LookUps.{tied_numbers}
 use Rattle.bg_rules.specs.Instantiation.{is_among}
 use Rattle.bg_rules.proofs.Upwards.{is_among-member, member_from_is_among}
 use Rattle.bg_index.specs.Commits.{AreFrom, IsThinned}

@@ -1,5 +1,6 @@
 -- Room that is made, and what is seen stays.
 use Rattle.std.proofs.Common.{◌≡◌, ℕ, ◌<◌, ◌≤◌, ◌+◌, ◌-◌, ◌^◌, ◌==◌, true, false, is_lt, ltb, leb, nat_cmp, filter, map, Option, unwrap_or, option_map, List, [], ◌∷◌, ◌++◌, inl, inr, length, take, drop, slice_set, vec_len, vec_capacity, refl, sym, ap, subst, ◌∙◌, arith}
+use Rattle.bg_lists.proofs.Comparisons.{tied_numbers}
 use Rattle.std.specs.List.Sorted.{IsNonDecreasingBy, IsPartitionedBy, IsPartitionPoint, IsStableBy, IsStrictlySortedBy}
 use Rattle.std.proofs.lemmas.List.{length-map, map-id, take-append-drop}
 use Rattle.slab.specs.Slab.{get}
@@ -8,7 +9,6 @@ use Rattle.bg_lists.proofs.Members.{Mem-cons_cases, Mem-append_left, Mem-append_
 use Rattle.bg_lists.proofs.Groups.{group_found, stable_group}
 use Rattle.bg_lists.proofs.Ascents.{Ascending-from_sorted, same_member}
 use Rattle.bg_lists.proofs.Places.{At-below, At-total, Mem-from_At}
-use Rattle.bg_base.proofs.LookUps.{tied_numbers}
 use Rattle.bg_base.specs.declared.names.Link.TheVariants.{Edge}
 use Rattle.bg_link.specs.declared.graph.Point.{Point}
 use Rattle.bg_link.specs.Links.{links_of, points_of}

@@ -4,9 +4,8 @@ ghost use Rattle.std.specs.List.Sorted.{IsStrictlySortedBy};
 ghost use Rattle.bg_base.specs.Bigraph.{inner_cmp};
 ghost use Rattle.bg_base.specs.Composition as composition;
 
-use bg_base::{Big, InnerRow, Link, PortLinks, find_inner};
+use bg_base::{Big, InnerRow, Link, LinkVec, PortLinks, find_inner};
 use bg_lists::{Duplicate, Mem, Rows};
-use smallvec::SmallVec;
 use std::alloc::Global;
 
 /// What a link of the lower bigraph becomes in its composition with `g`: an outer name becomes the link of that inner
@@ -36,11 +35,11 @@ pub fn links_through(alloc: Global, g: &Big, links: &[Link]) -> Mem<PortLinks>
     Ok(PortLinks::from_small_vec(items))
 }
 
-fn link_list_through(alloc: Global, g: &Big, links: &[Link]) -> Mem<SmallVec<Link, 4>>
+fn link_list_through(alloc: Global, g: &Big, links: &[Link]) -> Mem<LinkVec>
     requires ascending { IsStrictlySortedBy inner_cmp g.now.inner }
     ensures { IfOk result (λ made. made.items ≡ map (composition.link_through g.now) links.now) }
 {
-    let mut made = SmallVec::new(alloc);
+    let mut made = LinkVec::new(alloc);
     for link in links {
         made.push(link_through(g, link).copy(alloc)?)?;
     }

@@ -54,7 +54,7 @@ pub(crate) fn put_name(alloc: Global, name: &Name, out: &mut Vec<u8>) -> Mem<()>
 {
     match name {
         Name::Plain(word) => {
-            out.extend_from_slice(word.as_str().as_bytes())?;
+            out.extend_from_slice(word.as_bytes())?;
             Ok(())
         }
         Name::Port(node, index) => {
@@ -88,7 +88,7 @@ pub(crate) fn put_link(alloc: Global, link: &Link, out: &mut Vec<u8>) -> Mem<()>
 pub(crate) fn put_label(alloc: Global, label: &Label, out: &mut Vec<u8>) -> Mem<()>
     ensures { OnOk result (out.new.items ≡ out.old.items ++ spelling.label_text label.now) }
 {
-    out.extend_from_slice(label.name.as_str().as_bytes())?;
+    out.extend_from_slice(label.name.as_bytes())?;
     put_args(alloc, label.args.as_slice(), out)
 }
 

@@ -1,8 +1,9 @@
 -- Laws of a total comparison, and of the test `before` that it gives.
-use Rattle.std.proofs.Common.{◌≡◌, ℕ, ◌<◌, ◌==◌, true, false, Ordering, Less, Equal, Greater, sym, ap, ◌∙◌, refl, arith, nat_cmp, is_lt, is_eq}
+use Rattle.std.proofs.Common.{◌≡◌, ℕ, ◌<◌, ◌==◌, true, false, Ordering, Less, Equal, Greater, sym, ap, ◌∙◌, refl, arith, nat_cmp, is_lt, is_eq, eqb-true, eq-eqb}
 use Rattle.std.specs.Ordering.{ordering_reverse, eq_by_cmp, ordering_then}
 use Rattle.std.specs.Cmp.{IsTotalOrder}
 use Rattle.std.proofs.lemmas.Cmp.{tied_itself}
+use Rattle.std.proofs.lemmas.Bool.{false_from_ne_true}
 use Rattle.std.proofs.lemmas.Bool.Decides.{nat_tests}
 use Rattle.bg_lists.specs.Orders.{before}
 
@@ -35,6 +36,14 @@ eq_flip o Greater e = ap is_eq e
 -- equality of numbers, as a test and by the comparison
 pub eqb-nat_cmp : (x y : ℕ) → (x == y) ≡ is_eq (nat_cmp x y)
 eqb-nat_cmp x y = grind (arith, nat_tests)
+
+-- two numbers that are equal, and two that differ
+pub tied_numbers : (m n : ℕ) → m ≡ n → is_eq (nat_cmp m n) ≡ true
+tied_numbers m n e = sym (eqb-nat_cmp m n) ∙ eq-eqb m n e
+
+pub apart_numbers : (m n : ℕ) → (m ≡ n → ⊥) → is_eq (nat_cmp m n) ≡ false
+apart_numbers m n differ =
+    false_from_ne_true (is_eq (nat_cmp m n)) (λ e. differ (eqb-true m n (eqb-nat_cmp m n ∙ e)))
 
 pub lt-from_nat_cmp : (x y : ℕ) → nat_cmp x y ≡ Less → x < y
 lt-from_nat_cmp x y e = grind (arith, nat_tests)

@@ -2,6 +2,7 @@ pub mod Comparisons
 pub mod Members
 pub mod Places
 pub mod Ascents
+pub mod Parts
 pub mod Sorting
 pub mod Words
 pub mod Sorts

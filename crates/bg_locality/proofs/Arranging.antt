@@ -7,13 +7,12 @@ use Rattle.std.proofs.lemmas.List.{length-map}
 use Rattle.bg_lists.specs.Lists.{Mem}
 use Rattle.bg_lists.proofs.Members.{Mem-same, Mem-cons_cases, map_agree, map-map}
 use Rattle.bg_lists.proofs.Places.{At-one, At-from_Mem}
-use Rattle.bg_lists.proofs.Comparisons.{eqb-nat_cmp}
+use Rattle.bg_lists.proofs.Comparisons.{eqb-nat_cmp, tied_numbers}
 use Rattle.bg_lists.proofs.Sorting.{IsDistinct-map_on}
 use Rattle.bg_base.specs.declared.big.NodeRow.{NodeRow}
 use Rattle.bg_base.specs.declared.big.Big.{Big}
 use Rattle.bg_base.specs.Bigraph.{IsValid}
 use Rattle.bg_base.specs.Translation.{number_renamed, node_numbers}
-use Rattle.bg_base.proofs.LookUps.{tied_numbers}
 use Rattle.bg_algebra.proofs.Renamed.{map-along}
 use Rattle.bg_rules.specs.Decomposition.{AreNew}
 use Rattle.bg_rules.specs.LocalConditions.{image_of}

@@ -34,7 +34,7 @@ use Rattle.bg_react.proofs.CopiedNodes.{length-instance}
 
 -- ---- how many nodes there are
 
-length-rename : (big : Big) (nodes edges : List ℕ) → length (rename big nodes edges).nodes ≡ length big.nodes
+pub length-rename : (big : Big) (nodes edges : List ℕ) → length (rename big nodes edges).nodes ≡ length big.nodes
 unfolding rename
 length-rename big nodes edges =
     length-sort (before node_cmp) (map (row_renamed big nodes edges) big.nodes) ∙ length-map big.nodes (row_renamed big nodes edges)
@@ -46,7 +46,7 @@ length-beside_names big names =
     let long = length-append big.nodes [] in
     sorted ∙ long ∙ (omega arith)
 
-length-frame : (big : Big) (nodes edges : List ℕ) (names : List Name) → length (frame big nodes edges names).nodes ≡ length big.nodes
+pub length-frame : (big : Big) (nodes edges : List ℕ) (names : List Name) → length (frame big nodes edges names).nodes ≡ length big.nodes
 length-frame big nodes edges names = length-beside_names (rename big nodes edges) names ∙ length-rename big nodes edges
 
 lean_nodes : (big : Big) → (lean big).nodes ≡ big.nodes

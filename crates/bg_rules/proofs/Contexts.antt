@@ -1,6 +1,7 @@
 -- The context that a host has above the images of a pattern: its nodes are those from which, going up, no image is met. It
 -- is valid for each choice of edges, sites and inner rows that fits the host.
 use Rattle.std.proofs.Common.{◌≡◌, ℕ, not, Bool, true, List, ◌++◌, length, filter, nat_cmp, Less, refl, sym, ap, subst, ◌∙◌}
+use Rattle.bg_lists.proofs.Comparisons.{tied_numbers, apart_numbers}
 use Rattle.std.specs.Ordering.{eq_by_cmp}
 use Rattle.std.specs.List.{IsDistinct}
 use Rattle.std.specs.List.Sorted.{IsStrictlySortedBy}
@@ -25,7 +26,7 @@ use Rattle.bg_base.specs.Order.{name_cmp}
 use Rattle.bg_base.specs.Bigraph.{IsValid, node_cmp, inner_cmp, has_place, has_link}
 use Rattle.bg_base.specs.Composition.{inner_names}
 use Rattle.bg_base.specs.Translation.{number_renamed}
-use Rattle.bg_base.proofs.LookUps.{has_row, has_edge, row_of-member, row_from_row_of, member_from_has_edge, tied_numbers, apart_numbers}
+use Rattle.bg_base.proofs.LookUps.{has_row, has_edge, row_of-member, row_from_row_of, member_from_has_edge}
 use Rattle.bg_base.proofs.Climbs.{Climb, at_region, at_node, Climb-from_place}
 use Rattle.bg_algebra.proofs.Renamed.{map-along}
 use Rattle.bg_algebra.proofs.Parts.{IsSound, valid_from_rows}

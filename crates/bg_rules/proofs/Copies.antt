@@ -1,20 +1,21 @@
 -- The copies of the parts of a parameter: which rows they have, and that no two of these rows have one number.
 use Rattle.std.proofs.Common.{◌≡◌, ℕ, zero, suc, ◌+◌, ◌<◌, ◌≤◌, ◌==◌, Bool, true, false, List, [], ◌∷◌, ◌++◌, map, take, refl, sym, ap, subst, ◌∙◌, ◌⊎◌, inl, inr, arith, eqb-true, eq-eqb}
+use Rattle.bg_lists.proofs.Comparisons.{apart_numbers, tied_numbers}
 use Rattle.std.specs.List.{IsDistinct, position_or_len}
 use Rattle.std.specs.Ordering.{eq_by_cmp}
 use Rattle.std.proofs.lemmas.Bool.{cond-true, cond-false, cases_Bool, false≢true}
 use Rattle.std.proofs.lemmas.List.Folds.{find_at}
 use Rattle.std.proofs.lemmas.List.{length-map}
-use Rattle.bg_lists.specs.Lists.{Mem, here, there, At, at_here, at_there}
+use Rattle.bg_lists.specs.Lists.{Mem, At, at_here, at_there}
 use Rattle.bg_lists.proofs.Members.{Mem-same, Mem-map, Mem-unmap, Mem-append_left, Mem-append_right, Mem-append_cases}
-use Rattle.bg_lists.proofs.Places.{At-same, At-one, At-below, At-slice_get}
+use Rattle.bg_lists.proofs.Parts.{At-take}
+use Rattle.bg_lists.proofs.Places.{At-same, At-one, At-below, At-slice_get, Mem-from_At}
 use Rattle.bg_lists.proofs.Sorting.{IsDistinct-append, IsDistinct-map_on}
 use Rattle.bg_lists.proofs.Words.{is_some_find, found}
 use Rattle.bg_base.specs.declared.big.NodeRow.{NodeRow}
 use Rattle.bg_base.specs.declared.big.Big.{Big}
 use Rattle.bg_base.specs.Bigraph.{IsValid, node_cmp}
 use Rattle.bg_base.specs.Translation.{node_numbers}
-use Rattle.bg_base.proofs.LookUps.{apart_numbers, tied_numbers}
 use Rattle.bg_rules.specs.Instantiation.{part, is_among, late_nodes, number_in_copy, row_in_copy, copies_from}
 use Rattle.bg_rules.proofs.Patterns.{number_mem}
 use Rattle.bg_rules.proofs.Upwards.{is_among-member, member_from_is_among}
@@ -30,13 +31,6 @@ At-position {x} xs m =
 IsDistinct-none : {X : Type 0} (same : X → X → Bool) → IsDistinct same []
 unfolding IsDistinct
 IsDistinct-none same = tt
-
--- what stands before a place is among the first so many
-At-taken : {x i j : ℕ} (xs : List ℕ) → At x i xs → i < j → Mem x (take j xs)
-At-taken {j = zero} xs a less = absurd (omega (arith, less))
-At-taken {j = suc j} [] a less = elim a [ ]
-At-taken {j = suc j} (y ∷ ys) (at_here e) less = here e
-At-taken {j = suc j} (y ∷ ys) (at_there a) less = there (At-taken {j = j} ys a (omega (arith, less)))
 
 -- ---- the numbers in a copy
 
@@ -127,7 +121,7 @@ module _ (parameter : Big) (entries : List ℕ) (next : ℕ) where
           | inl later ↦ elim (number_cases at region (number_mem m)) [
             | inl kept ↦ (let same : row.id ≡ copied.id = sym kept.same ∙ e ∙ later.same in
                 let one = part_region parameter region twin m n same in
-                later.first (Mem-same one (At-taken entries a less)))
+                later.first (Mem-same one (Mem-from_At (At-take _ entries less a))))
             | inr late ↦ (let low = late_low late in
                 let few = part_below twin (number_mem n) in
                 let same = later.same in absurd (omega (arith, low, few, same, e)))

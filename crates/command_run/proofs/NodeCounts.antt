@@ -1,20 +1,14 @@
 -- How many nodes a host has after a reaction that keeps the parameter as it is: those of the redex go, those of the reactum come.
-use Rattle.std.proofs.Common.{◌≡◌, ℕ, suc, ◌+◌, ◌<◌, List, [], ◌∷◌, ◌++◌, length, map, refl, sym, ap, ◌∙◌, arith}
-use Rattle.std.proofs.lemmas.List.{append-nil, length-map}
+use Rattle.std.proofs.Common.{◌≡◌, ℕ, suc, ◌+◌, ◌<◌, List, [], ◌∷◌, length, map, refl, sym, ap, ◌∙◌, arith}
 use Rattle.bg_lists.specs.Lists.{Mem, At, at_here, at_there}
-use Rattle.bg_lists.specs.Orders.{before}
-use Rattle.bg_lists.proofs.Sorting.{length-sort}
-use Rattle.bg_base.specs.declared.names.Name.{Name}
 use Rattle.bg_base.specs.declared.big.Big.{Big}
-use Rattle.bg_base.specs.Bigraph.{node_cmp}
 use Rattle.bg_base.specs.Composition.{compose}
-use Rattle.bg_base.specs.Elementary.{counted, identity}
-use Rattle.bg_base.specs.Products.{tensor}
-use Rattle.bg_base.specs.Translation.{node_numbers, rename, row_renamed}
+use Rattle.bg_base.specs.Elementary.{counted}
+use Rattle.bg_base.specs.Translation.{node_numbers}
 use Rattle.bg_base.proofs.Composed.{length-compose_nodes}
 use Rattle.bg_react.specs.Counting.{copied_nodes}
 use Rattle.bg_react.proofs.CopiedNodes.{length-instance}
-use Rattle.bg_react.proofs.Reacted.{length-recomposed}
+use Rattle.bg_react.proofs.Reacted.{length-frame, length-recomposed}
 use Rattle.bg_rules.specs.Decomposition.{Decomposes, IsParameter, frame}
 use Rattle.bg_rules.specs.Hosts.{IsHost}
 use Rattle.bg_rules.specs.Reaction.{HostState, Reacts}
@@ -32,17 +26,6 @@ copied_whole parameter next is below =
     sym (length-instance parameter (counted 0 parameter.regions) next) ∙ ap (λ (big : Big). length big.nodes) (instance_of_all parameter next is below)
 
 -- ---- a reaction
-
-length-rename : (big : Big) (nodes edges : List ℕ) → length (rename big nodes edges).nodes ≡ length big.nodes
-unfolding rename
-length-rename big nodes edges =
-    length-sort (before node_cmp) (map (row_renamed big nodes edges) big.nodes) ∙ length-map big.nodes (row_renamed big nodes edges)
-
-length-frame : (big : Big) (nodes edges : List ℕ) (names : List Name) → length (frame big nodes edges names).nodes ≡ length big.nodes
-unfolding tensor identity
-length-frame big nodes edges names =
-    length-sort (before node_cmp) ((rename big nodes edges).nodes ++ []) ∙ ap length (append-nil (rename big nodes edges).nodes)
-    ∙ length-rename big nodes edges
 
 -- a host has the nodes of the context, of the redex and of the parameter
 length-decomposed : (host pattern : Big) (nodes : List ℕ) (context : Big) (edges : List ℕ) (parameter : Big)

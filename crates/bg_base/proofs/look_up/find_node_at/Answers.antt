@@ -5,7 +5,8 @@ use Rattle.bg_base.specs.declared.big.NodeRow.{NodeRow}
 use Rattle.bg_base.specs.Bigraph.{node_cmp, row_of}
 use Rattle.bg_base.specs.Lookup.{IsFirstRow}
 use Rattle.bg_base.proofs.LookUps.{first_row_in_part}
-use Rattle.bg_base.proofs.Reaches.{sorted-part, find-in_part}
+use Rattle.bg_lists.proofs.Parts.{sorted-part}
+use Rattle.bg_base.proofs.Reaches.{find-in_part}
 use Rattle.bg_base.proofs.look_up.find_node_at.Goals as goal
 
 pub find_within-requires : goal.find_within-requires

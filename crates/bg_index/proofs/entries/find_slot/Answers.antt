@@ -1,5 +1,6 @@
 use Rattle.std.proofs.Common.{rules, ◌-◌, ◌∙◌}
-use Rattle.bg_base.proofs.Reaches.{sorted-part, find-in_part}
+use Rattle.bg_lists.proofs.Parts.{sorted-part}
+use Rattle.bg_base.proofs.Reaches.{find-in_part}
 use Rattle.bg_index.specs.declared.entries.Slot.{Slot}
 use Rattle.bg_index.specs.Indexed.{slot_cmp}
 use Rattle.bg_index.proofs.entries.find_slot.Goals as goal
