@@ -1,12 +1,12 @@
 -- Two bigraphs side by side: the rows of each are there, they ascend, and the whole is valid.
 use Rattle.std.proofs.Common.{◌≡◌, ℕ, true, false, ◌++◌, List, [], map, nat_cmp, is_eq, is_some, refl, sym, ap, subst, ◌∙◌, ◌⊎◌, inl, inr, arith}
-use Rattle.bg_lists.proofs.Comparisons.{apart_numbers}
 use Rattle.std.specs.Ordering.{eq_by_cmp}
 use Rattle.std.specs.List.{IsDistinct}
 use Rattle.std.specs.List.Sorted.{IsStrictlySortedBy}
 use Rattle.std.proofs.lemmas.Bool.{false≢true, cases_Bool}
 use Rattle.std.proofs.lemmas.Cmp.{nat_cmp_total}
 use Rattle.std.proofs.lemmas.List.{map-id}
+use Rattle.bg_lists.proofs.Comparisons.{apart_numbers}
 use Rattle.bg_lists.specs.Lists.{Mem, sort}
 use Rattle.bg_lists.specs.Orders.{before, set_of}
 use Rattle.bg_lists.proofs.Members.{Mem-append_left, Mem-append_right, Mem-append_cases, Mem-map, Mem-unmap, Mem-same}

@@ -1,12 +1,12 @@
 -- One region in place of all, a name closed, idle edges dropped: each of a valid bigraph is valid.
 use Rattle.std.proofs.Common.{◌≡◌, ℕ, true, false, Bool, ◌||◌, not, List, map, filter, All, IsTrue, is_eq, nat_cmp, refl, sym, subst, ◌∙◌, arith, eq-eqb, is_some, ap, ◌∷◌}
-use Rattle.bg_lists.proofs.Comparisons.{apart_numbers}
 use Rattle.std.specs.Ordering.{eq_by_cmp}
 use Rattle.std.specs.List.{list_any, IsDistinct}
 use Rattle.std.specs.List.Sorted.{IsStrictlySortedBy}
 use Rattle.std.proofs.lemmas.Bool.{cond_both, not_from_false, false≢true}
 use Rattle.std.proofs.lemmas.Cmp.{nat_cmp_total}
 use Rattle.std.proofs.lemmas.List.{map-id}
+use Rattle.bg_lists.proofs.Comparisons.{apart_numbers}
 use Rattle.bg_lists.specs.Lists.{Mem, put, sort}
 use Rattle.bg_lists.specs.Orders.{before}
 use Rattle.bg_lists.proofs.Members.{Mem-map, Mem-unmap, Mem-filter, Mem-unfilter}

@@ -6,10 +6,10 @@ use Rattle.std.specs.List.Sorted.{IsStrictlySortedBy}
 use Rattle.std.proofs.lemmas.Bool.{cond_both, cond-true, cond-false, false_from_ne_true, false≢true}
 use Rattle.std.proofs.lemmas.Cmp.{nat_cmp_total}
 use Rattle.std.proofs.lemmas.List.{length-map}
+use Rattle.std.specs.List.Sorted.{IsSearchInRange, IsBinarySearchResult}
 use Rattle.bg_lists.specs.Lists.{Mem, here, there, sort}
 use Rattle.bg_lists.specs.Orders.{before}
 use Rattle.bg_lists.proofs.Comparisons.{eqb-nat_cmp}
-use Rattle.std.specs.List.Sorted.{IsSearchInRange, IsBinarySearchResult}
 use Rattle.bg_lists.specs.Lists.{At, at_here, at_there}
 use Rattle.bg_lists.proofs.Places.{Mem-from_At, At-total, At-same, At-map, get_or-At}
 use Rattle.bg_lists.proofs.Searches.{find-search}

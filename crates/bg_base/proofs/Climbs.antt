@@ -2,11 +2,11 @@
 -- as there are rows.
 use Rattle.std.proofs.Common.{◌≡◌, ℕ, zero, suc, ◌<◌, ◌≤◌, ◌==◌, not, Bool, true, false, List, length, filter, nat_lt, Some, unwrap_or, option_map, All, IsTrue, refl, sym, ap, subst, ◌∙◌, inl, inr, eqb-true, eq-eqb, ltb-true, lt-ltb, arith, le_refl}
 use Rattle.std.proofs.lemmas.Bool.{cases_Bool, cases_lt, cases_eq, false_from_ne_true, false≢true, not_from_true, not_from_false}
+use Rattle.std.specs.List.Sorted.{IsStrictlySortedBy}
 use Rattle.bg_lists.specs.Lists.{Mem}
 use Rattle.bg_lists.proofs.Words.{All-member, All-from_members, find-filter, length-filter_drops}
 use Rattle.bg_lists.proofs.Members.{Mem-unfilter}
 use Rattle.bg_lists.proofs.Tests.{some_from_unwrap}
-use Rattle.std.specs.List.Sorted.{IsStrictlySortedBy}
 use Rattle.bg_base.specs.declared.names.Place.{Place}
 use Rattle.bg_base.specs.declared.names.Place.TheVariants.{Node, Region}
 use Rattle.bg_base.specs.declared.big.NodeRow.{NodeRow}

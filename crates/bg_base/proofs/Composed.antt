@@ -1,12 +1,12 @@
 -- Laws of composition by members: each row of the composition comes from one of the two, and each row of the two is there.
 use Rattle.std.proofs.Common.{◌≡◌, ℕ, ◌+◌, false, ◌++◌, map, length, nat_cmp, is_some, refl, sym, ap, ◌∙◌, ◌⊎◌, inl, inr}
-use Rattle.bg_lists.proofs.Comparisons.{apart_numbers}
 use Rattle.std.specs.Ordering.{eq_by_cmp}
 use Rattle.std.specs.List.{IsDistinct}
 use Rattle.std.specs.List.Sorted.{IsStrictlySortedBy}
 use Rattle.std.proofs.lemmas.Cmp.{nat_cmp_total}
 use Rattle.std.proofs.lemmas.Bool.{false≢true}
 use Rattle.std.proofs.lemmas.List.{length-append, length-map}
+use Rattle.bg_lists.proofs.Comparisons.{apart_numbers}
 use Rattle.bg_lists.specs.Lists.{Mem, sort, Disjoint}
 use Rattle.bg_lists.specs.Orders.{before}
 use Rattle.bg_lists.proofs.Members.{Mem-append_left, Mem-append_right, Mem-append_cases, Mem-map, Mem-unmap, Mem-same}

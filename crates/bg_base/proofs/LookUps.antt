@@ -4,9 +4,9 @@ use Rattle.std.specs.Cmp.{IsTotalOrder}
 use Rattle.std.specs.List.Sorted.{IsStrictlySortedBy}
 use Rattle.std.proofs.lemmas.Cmp.{on_total, nat_cmp_total}
 use Rattle.std.proofs.lemmas.Bool.{false_from_ne_true}
-use Rattle.bg_lists.specs.Lists.{Mem}
 use Rattle.std.proofs.Common.{length, get_or, Result, is_ok, MatchResult}
 use Rattle.std.specs.List.Sorted.{IsSearchInRange, IsBinarySearchResult}
+use Rattle.bg_lists.specs.Lists.{Mem}
 use Rattle.bg_lists.proofs.Searches.{find-search, is_some_find-search}
 use Rattle.bg_lists.proofs.Comparisons.{eqb-nat_cmp, tied_numbers}
 use Rattle.bg_lists.proofs.Parts.{from_part}

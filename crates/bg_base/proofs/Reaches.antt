@@ -2,13 +2,13 @@
 use Rattle.std.proofs.Common.{◌≡◌, ℕ, ◌+◌, ◌-◌, ◌<◌, ◌≤◌, Bool, true, false, ◌==◌, Less, nat_cmp, Option, Some, None, is_some, find, eqb-true, List, [], ◌∷◌, length, take, drop, slice_get, refl, sym, ap, subst, ◌∙◌, arith}
 use Rattle.std.specs.Ordering.{on}
 use Rattle.std.specs.List.Sorted.{IsStrictlySortedBy}
+use Rattle.std.proofs.lemmas.Bool.{false_from_ne_true}
 use Rattle.bg_lists.specs.Lists.{Mem, here, there, At, at_here, at_there}
 use Rattle.bg_lists.specs.Orders.{Ascending, asc_cons}
 use Rattle.bg_lists.proofs.Ascents.{Ascending-from_sorted, same_member}
 use Rattle.bg_lists.proofs.Comparisons.{lt-from_nat_cmp, tied_numbers}
 use Rattle.bg_lists.proofs.Parts.{from_part, in_part}
 use Rattle.bg_lists.proofs.Words.{member_from_find, is_some_find, find-only, find-none}
-use Rattle.std.proofs.lemmas.Bool.{false_from_ne_true}
 use Rattle.bg_lists.proofs.Places.{Mem-from_At, At-from_Mem, At-below, At-slice_get, slice_get-At}
 
 -- ---- numbers that rise

@@ -1,10 +1,10 @@
 -- All occurrences of a pattern, listed.
 use Rattle.std.proofs.Common.{◌≡◌, ℕ, Less, eqb, List, [], ◌∷◌, refl, sym, ap, ap₂, subst, ◌∙◌, ◌⊎◌, inl, inr, arith}
-use Rattle.bg_lists.proofs.Comparisons.{tied_numbers}
 use Rattle.std.specs.Ordering.{nat_cmp, eq_by_cmp}
 use Rattle.std.specs.Cmp.Lexicographic.{slice_cmp}
 use Rattle.std.specs.List.{IsDistinct}
 use Rattle.std.proofs.lemmas.Bool.{false≢true}
+use Rattle.bg_lists.proofs.Comparisons.{tied_numbers}
 use Rattle.bg_lists.specs.Lists.{Mem, here, there}
 use Rattle.bg_lists.specs.Orders.{Ascending, asc_nil, asc_cons}
 use Rattle.bg_lists.proofs.Ascents.{member_of_all}

@@ -3,6 +3,8 @@
 use Rattle.std.proofs.Common.{◌≡◌, true, List, [], ◌++◌, unwrap_or, option_map, nat_cmp, Less, refl, sym, ap, subst, inl, inr}
 use Rattle.std.specs.List.{list_all}
 use Rattle.std.specs.List.Sorted.{IsStrictlySortedBy}
+use Rattle.std.proofs.lemmas.Cmp.{nat_cmp_total}
+use Rattle.std.proofs.lemmas.Map.Lookups.{exact_unsigned}
 use Rattle.bg_lists.specs.Lists.{Mem}
 use Rattle.bg_lists.specs.Orders.{Ascending}
 use Rattle.bg_lists.proofs.Members.{Mem-map, Mem-unmap, Mem-append_left, Mem-append_cases}
@@ -21,8 +23,6 @@ use Rattle.bg_base.proofs.Climbs.{Climb, at_region, at_node, Climb-from_place}
 use Rattle.bg_algebra.proofs.Parts.{IsSound, valid_from_rows}
 use Rattle.bg_rules.proofs.Parameters.{place_of_climb}
 use Rattle.bg_rules.proofs.Patterns.{parent_there}
-use Rattle.std.proofs.lemmas.Cmp.{nat_cmp_total}
-use Rattle.std.proofs.lemmas.Map.Lookups.{exact_unsigned}
 use Rattle.bg_base.proofs.NameLaws.{same_name}
 use Rattle.bg_base.specs.OrderLaws.{name_cmp_total}
 use Rattle.bg_lists.proofs.Sets.{Mem-set_of, Ascending-set_of}

@@ -1,10 +1,10 @@
 -- A redex that occurs in a host has at most as many regions as the host has nodes.
 use Rattle.std.proofs.Common.{◌≡◌, ℕ, zero, suc, ◌+◌, ◌<◌, ◌≤◌, ◌==◌, not, Bool, List, [], ◌∷◌, length, filter, nat_cmp, refl, sym, ap, ◌∙◌, arith, eqb-true, eq-eqb}
-use Rattle.bg_lists.proofs.Comparisons.{tied_numbers}
 use Rattle.std.specs.List.{IsDistinct}
 use Rattle.std.specs.Ordering.{eq_by_cmp}
 use Rattle.std.proofs.lemmas.Bool.{not_from_false, not_from_true, false≢true, false_from_ne_true}
 use Rattle.std.proofs.lemmas.List.{length-map}
+use Rattle.bg_lists.proofs.Comparisons.{tied_numbers}
 use Rattle.bg_lists.specs.Lists.{Mem, here, there}
 use Rattle.bg_lists.proofs.Members.{Mem-same, Mem-filter}
 use Rattle.bg_lists.proofs.Sorting.{IsDistinct-members}

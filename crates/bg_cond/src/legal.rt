@@ -21,7 +21,8 @@ use std::alloc::Global;
 /// is enabled anywhere. Costs an index of the host, and for each rule of a class that may be it a walk over the
 /// occurrences of its redex up to the first at which it is enabled. Where the rule has conditions, the occurrences of
 /// their patterns are listed once; at each occurrence of the redex those lists are gone through up to the first map on
-/// the condition's side, and a pattern that has more than 65,536 occurrences is looked for anew.
+/// the condition's side, and a pattern that has more than 65,536 occurrences, or whose maps have more than 1,048,576 numbers
+/// together, is looked for anew.
 pub fn first_class(alloc: Global, host: &Host, system: &System) -> Mem<Option<u32>>
     ensures { IfOk result (λ class. MatchOption class (NoneEnabled host.now system.now.rules) (λ number. IsFirstClass host.now system.now.rules number)) }
 {

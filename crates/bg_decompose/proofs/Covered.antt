@@ -2,6 +2,7 @@
 use Rattle.std.proofs.Common.{◌≡◌, ℕ, zero, suc, ◌||◌, ◌&&◌, not, filter, ◌==◌, true, false, Some, None, is_ok, unwrap_or, option_map, Result, List, length, refl, sym, ap, subst, ◌∙◌, IsPermutation}
 use Rattle.std.specs.List.Sorted.{IsSorted, IsSearchInRange, IsBinarySearchResult}
 use Rattle.std.specs.Ordering.{nat_cmp}
+use Rattle.std.proofs.lemmas.List.Sorted.{list_any-IsPermutation, IsPermutation-refl}
 use Rattle.bg_lists.specs.Lists.{Mem}
 use Rattle.bg_lists.proofs.Words.{found_any}
 use Rattle.bg_lists.proofs.Tests.{same_test}
@@ -11,7 +12,6 @@ use Rattle.bg_base.specs.declared.big.NodeRow.{NodeRow}
 use Rattle.bg_base.specs.declared.big.Big.{Big}
 use Rattle.bg_base.specs.Bigraph.{IsValid, row_of, has_place}
 use Rattle.bg_base.specs.Lookup.{IsSortedCopy}
-use Rattle.std.proofs.lemmas.List.Sorted.{list_any-IsPermutation, IsPermutation-refl}
 use Rattle.bg_base.proofs.SearchLaws.{edge_searched}
 use Rattle.bg_rules.proofs.Patterns.{parent_there}
 use Rattle.bg_base.proofs.LookUps.{row_from_row_of, row_from_has, has_row}

@@ -1,5 +1,6 @@
 -- What derivation trees of models say; so tokens determine what a model comes to.
 use Rattle.std.proofs.Common.{◌≡◌, List, [], ◌∷◌, map, refl, sym, ap, ◌∙◌}
+use Rattle.std.specs.Prelude.{Result}
 use Rattle.bg_text.specs.declared.token.TokenKind.TheVariants as kinds
 use Rattle.bg_syntax.specs.declared.symbol.Symbol.TheVariants as symbols
 use Rattle.bg_trees.specs.declared.models.SynStmtsItem.{SynStmtsItem}
@@ -33,7 +34,6 @@ use Rattle.bg_elab.proofs.Said.{Said, References, defines, references, classes, 
 use Rattle.bg_elab.proofs.SaidRows.{said, Says, SaysItem, says_none, says_token, says_part, says_opened, says_item, says_list}
 use Rattle.bg_elab.proofs.SaidExpressions.{reference_says}
 use Rattle.bg_elab.proofs.SaidStatements.{param_says, stmt_says}
-use Rattle.std.specs.Prelude.{Result}
 use Rattle.bg_rules.specs.Systems.{SystemParts}
 use Rattle.bg_values.specs.declared.refusal.Refusal.{Refusal}
 

@@ -1,9 +1,9 @@
 -- The nodes of each control, as nodes are taken out and put behind.
 use Rattle.std.proofs.Common.{◌≡◌, ℕ, ◌≤◌, ◌+◌, ◌==◌, Less, Some, None, List, [], ◌∷◌, ◌++◌, inl, inr, length, map, filter, find, not, nat_cmp, vec_capacity, refl, sym, ap, subst, ◌∙◌, arith, eqb-true, eq-eqb, append_assoc, append-nil, length-append}
-use Rattle.bg_lists.proofs.Comparisons.{tied_numbers}
 use Rattle.std.specs.List.Sorted.{IsStrictlySortedBy}
 use Rattle.std.proofs.lemmas.Bool.{false≢true}
 use Rattle.std.proofs.lemmas.List.{map-append}
+use Rattle.bg_lists.proofs.Comparisons.{tied_numbers}
 use Rattle.slab.specs.Slab.{Slab, get}
 use Rattle.bg_lists.specs.Lists.{Mem, here}
 use Rattle.bg_lists.proofs.Ascents.{Ascending-from_sorted, sorted_from_Ascending, Ascending-filter, Ascending-map, Ascending-map_on, same_member}

@@ -1,16 +1,18 @@
 -- What is found in an index.
-use Rattle.std.proofs.Common.{◌≡◌, ℕ, ◌<◌, ◌^◌, ◌==◌, Bool, true, false, Option, Some, None, Result, Ok, Err, MatchResult, unwrap_or, option_map, List, [], ◌∷◌, length, map, filter, get_or, slice_get, find, nat_cmp, is_eq, refl, sym, ap, subst, ◌∙◌, inl, inr, is_some, nat_lt, MatchOption, eqb-true, ltb-true, Bor, option_copied}
+use Rattle.std.proofs.Common.{◌≡◌, ℕ, ◌<◌, ◌^◌, ◌==◌, Bool, true, false, Option, Some, None, Result, Ok, Err, MatchResult, unwrap_or, option_map, List, [], ◌∷◌, length, map, take, drop, ◌+◌, ◌-◌, filter, get_or, slice_get, find, nat_cmp, is_eq, refl, sym, ap, subst, ◌∙◌, inl, inr, is_some, nat_lt, MatchOption, eqb-true, ltb-true, Bor, option_copied}
 use Rattle.std.specs.Option.{option_and_then}
 use Rattle.std.specs.List.{position_or_len}
 use Rattle.std.specs.List.Sorted.{IsStrictlySortedBy, IsSearchInRange, IsBinarySearchResult}
 use Rattle.std.proofs.lemmas.Bool.{cases_Bool, cond-true, cond-false, false_from_ne_true}
 use Rattle.std.proofs.lemmas.Cmp.{nat_cmp_total}
 use Rattle.std.proofs.lemmas.List.Sums.{passes_at_first}
+use Rattle.std.proofs.lemmas.Option.{slice_get-map}
 use Rattle.slab.specs.Slab.{Slab, get}
-use Rattle.bg_lists.specs.Lists.{Mem, here, there}
+use Rattle.bg_lists.specs.Lists.{Mem, At, here, there}
 use Rattle.bg_lists.proofs.Ascents.{Ascending-from_sorted, sorted_from_Ascending, Ascending-filter, Ascending-map, Ascending-unmap}
 use Rattle.bg_lists.proofs.Comparisons.{eqb-nat_cmp}
-use Rattle.bg_lists.proofs.Places.{At-same, At-get_or, At-total, At-below, At-slice_get, slice_get-At}
+use Rattle.bg_lists.proofs.Parts.{from_part}
+use Rattle.bg_lists.proofs.Places.{At-same, At-get_or, At-total, At-below, At-map, At-slice_get, slice_get-At, Mem-from_At}
 use Rattle.bg_lists.proofs.Searches.{find-search}
 use Rattle.bg_lists.proofs.Words.{member_from_find, fails_from_find}
 use Rattle.bg_base.specs.declared.names.Name.{Name}
@@ -70,6 +72,10 @@ pub control-search : (entries : List ControlEntry) (control : ℕ) → IsStrictl
 control-search entries control up r range answer =
     find-search nat_cmp_total (λ (entry : ControlEntry). entry.control) control (λ (entry : ControlEntry). entry.control == control)
     (λ entry. eqb-nat_cmp entry.control control) entries (Ascending-from_sorted entries up) r range answer
+
+-- what stands in a part of the slots stands among them
+pub At-in_part : {slot : Slot} {at : ℕ} (from to : ℕ) (slots : List Slot) → At slot at (take (to - from) (drop from slots)) → At slot (from + at) slots
+At-in_part {at = at} from to slots stands = At-slice_get (from + at) slots (from_part from (to - from) at slots (slice_get-At _ stands))
 
 -- ---- rows by their numbers
 
@@ -191,6 +197,42 @@ module _ (index : Index) (is : IsIndex index) (host : HostState) (seen : host_of
         ap (λ (entry : NodeEntry). entry.children.items) (sym one) ∙ k.children
             ∙ ap (λ n. children_of (places_of made) (Node n)) (eqb-true slot.node node w.1)
             ∙ ap (λ (h : HostState). children_of (places_of h.big) (Node node)) seen,
+      )
+
+  -- the row of a place is that to which its slot leads
+  pub row_at_found : (at : ℕ) (entry : NodeEntry)
+      → Some entry ≡ option_and_then (λ (slot : Slot). get index.nodes slot.at) (slice_get index.slots.items at)
+      → Some entry.row ≡ slice_get host.big.nodes at
+  row_at_found at entry e =
+      led (slice_get index.slots.items at) e
+      ∙ sym (slice_get-map (row_at index.nodes) index.slots.items at) ∙ ap (λ (h : HostState). slice_get h.big.nodes at) seen
+    where
+      led : (o : Option Slot) → Some entry ≡ option_and_then (λ (slot : Slot). get index.nodes slot.at) o → Some entry.row ≡ option_map (row_at index.nodes) o
+      led (Some slot) e = ap (λ (o : Option NodeEntry). Some (unwrap_or (option_map (λ (entry : NodeEntry). entry.row) o) no_row)) e
+      led None e = absurd (cc)
+
+  pub no_row_at : (at : ℕ) → None ≡ option_and_then (λ (slot : Slot). get index.nodes slot.at) (slice_get index.slots.items at)
+      → None ≡ slice_get host.big.nodes at
+  no_row_at at e =
+      led (slice_get index.slots.items at) (λ slot s. At-slice_get at index.slots.items s) e
+      ∙ sym (slice_get-map (row_at index.nodes) index.slots.items at) ∙ ap (λ (h : HostState). slice_get h.big.nodes at) seen
+    where
+      led : (o : Option Slot) → ((slot : Slot) → o ≡ Some slot → At slot at index.slots.items)
+          → None ≡ option_and_then (λ (slot : Slot). get index.nodes slot.at) o → None ≡ option_map (row_at index.nodes) o
+      led None stands e = refl
+      led (Some slot) stands e =
+          let k = is.nested.kept slot (Mem-from_At (stands slot refl)) in
+          let bad : None ≡ Some k.entry = e ∙ k.found in absurd (cc)
+
+  -- so is that of a node
+  pub position_found : (node at : ℕ) (slot : Slot) → At slot at index.slots.items
+      → find (λ (slot : Slot). slot.node == node) index.slots.items ≡ Some slot → (row : NodeRow) × At row at host.big.nodes × (row.id ≡ node)
+  position_found node at slot a e =
+      let w = member_from_find (λ (slot : Slot). slot.node == node) index.slots.items slot e in
+      let k = is.nested.kept slot w.0 in (
+        row_at index.nodes slot,
+        subst (λ (h : HostState). At (row_at index.nodes slot) at h.big.nodes) seen (At-map (row_at index.nodes) a),
+        ap (λ (r : NodeRow). r.id) (row_kept (places_of made) index.nodes slot k) ∙ k.number ∙ eqb-true slot.node node w.1,
       )
 
   -- a node that is not there has no children

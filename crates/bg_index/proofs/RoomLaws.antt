@@ -1,8 +1,8 @@
 -- Room that is made, and what is seen stays.
 use Rattle.std.proofs.Common.{◌≡◌, ℕ, ◌<◌, ◌≤◌, ◌+◌, ◌-◌, ◌^◌, ◌==◌, true, false, is_lt, ltb, leb, nat_cmp, filter, map, Option, unwrap_or, option_map, List, [], ◌∷◌, ◌++◌, inl, inr, length, take, drop, slice_set, vec_len, vec_capacity, refl, sym, ap, subst, ◌∙◌, arith}
-use Rattle.bg_lists.proofs.Comparisons.{tied_numbers}
 use Rattle.std.specs.List.Sorted.{IsNonDecreasingBy, IsPartitionedBy, IsPartitionPoint, IsStableBy, IsStrictlySortedBy}
 use Rattle.std.proofs.lemmas.List.{length-map, map-id, take-append-drop}
+use Rattle.bg_lists.proofs.Comparisons.{tied_numbers}
 use Rattle.slab.specs.Slab.{get}
 use Rattle.bg_lists.specs.Lists.{Mem, there, At}
 use Rattle.bg_lists.proofs.Members.{Mem-cons_cases, Mem-append_left, Mem-append_right, Mem-append_cases, filter-map, map-map, map_agree}

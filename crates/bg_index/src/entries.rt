@@ -1,9 +1,12 @@
 //! How a host is kept: its nodes in a slab and found by number; beside them what lies in each region, what is tied to
 //! each edge and outer name, and the nodes of each control.
-ghost use Rattle.std.specs.Prelude.{◌≡◌, ◌==◌, find, length, option_copied, slice_get};
+ghost use Rattle.std.specs.Prelude.{◌≡◌, ◌==◌, Some, None, find, length, option_copied, slice_get, MatchOption};
+ghost use Rattle.std.specs.Option.{option_and_then};
 ghost use Rattle.std.specs.List.{position_or_len};
 ghost use Rattle.std.specs.List.Sorted.{IsStrictlySortedBy};
 ghost use Rattle.std.specs.Ordering.{is_eq};
+ghost use Rattle.slab.specs.Slab.{get};
+ghost use Rattle.bg_lists.specs.Lists.{At};
 ghost use Rattle.bg_base.specs.Order.{name_cmp};
 ghost use Rattle.bg_index.specs.declared.entries.Slot.{Slot as SlotValue};
 ghost use Rattle.bg_index.specs.declared.entries.EdgeEntry.{EdgeEntry as EdgeValue};
@@ -86,25 +89,49 @@ impl Drop for Index {
     }
 }
 
-/// The slot of the node, in slots that ascend by node. Takes constant time where the numbers of the nodes are in a row from 0,
-/// and never more than logarithmic in the number of slots.
+/// The slot of the node, in slots that ascend by node. Costs what [`find_slot_at`] does.
 pub fn find_slot(slots: &[Slot], node: u32) -> Option<Slot>
     requires ascending { IsStrictlySortedBy slot_cmp slots.now }
     ensures { result ≡ find (λ (slot : SlotValue). slot.node == node) slots.now }
 {
-    let last = slots.last()?;
-    let (from, to) = reach(slots.len(), last.node, node);
-    slot_within(&slots[from..to], node)
+    match find_slot_at(slots, node) {
+        Some((_, slot)) => Some(slot),
+        None => None,
+    }
 }
 
-/// The slot of the node, in slots that ascend by node, each of which is looked at alike.
-fn slot_within(slots: &[Slot], node: u32) -> Option<Slot>
+/// The slot of the node, and how many come before it, in slots that ascend by node. Takes no memory; constant time where the
+/// numbers of the nodes are in a row from 0, and never more than logarithmic in the number of slots.
+pub fn find_slot_at(slots: &[Slot], node: u32) -> Option<(usize, Slot)>
     requires ascending { IsStrictlySortedBy slot_cmp slots.now }
-    ensures { result ≡ find (λ (slot : SlotValue). slot.node == node) slots.now }
+    ensures { MatchOption result (find (λ (slot : SlotValue). slot.node == node) slots.now ≡ None)
+        (λ found. At found.1 found.0 slots.now × (find (λ (slot : SlotValue). slot.node == node) slots.now ≡ Some found.1)) }
+{
+    let last = slots.last()?;
+    let (from, to) = reach(slots.len(), last.node, node);
+    let (at, slot) = find_within(&slots[from..to], node)?;
+    Some((from + at, slot))
+}
+
+/// The slot of the node, and how many come before it, in slots that ascend by node, each of which is looked at alike.
+fn find_within(slots: &[Slot], node: u32) -> Option<(usize, Slot)>
+    requires ascending { IsStrictlySortedBy slot_cmp slots.now }
+    ensures { MatchOption result (find (λ (slot : SlotValue). slot.node == node) slots.now ≡ None)
+        (λ found. At found.1 found.0 slots.now × (find (λ (slot : SlotValue). slot.node == node) slots.now ≡ Some found.1)) }
 {
     match slots.binary_search_by_key(&node, |slot| slot.node) {
-        Ok(at) => Some(slots[at]),
+        Ok(at) => Some((at, slots[at])),
         Err(_) => None,
+    }
+}
+
+/// The entry of the node whose slot has that many before it.
+pub fn entry_at<'a>(nodes: &'a Slab<NodeEntry>, slots: &[Slot], at: usize) -> Option<&'a NodeEntry>
+    ensures { option_copied result ≡ option_and_then (λ (slot : SlotValue). get nodes.now slot.at) (slice_get slots.now at) }
+{
+    match slots.get(at) {
+        Some(slot) => nodes.get(slot.at as usize),
+        None => None,
     }
 }
 

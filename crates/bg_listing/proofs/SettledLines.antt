@@ -3,6 +3,9 @@ use Rattle.std.proofs.Common.{◌≡◌, ℕ, suc, ◌+◌, ◌<◌, ◌≤◌, 
 use Rattle.std.specs.Prelude.{IfSome, IsTrue, codes, option_map, is_some}
 use Rattle.std.specs.Ordering.{nat_cmp}
 use Rattle.std.proofs.lemmas.List.Elements.{recursion_from_All}
+use Rattle.std.specs.List.{flat_map, AllByRecursion}
+use Rattle.std.proofs.lemmas.Grind.{flat_map-append}
+use Rattle.std.proofs.lemmas.List.{length-append}
 use Rattle.bg_base.specs.Limits.{most_controls, most_rows}
 use Rattle.bg_base.specs.declared.names.Name.{Name}
 use Rattle.bg_base.specs.declared.names.Place.{Place}
@@ -28,9 +31,6 @@ use Rattle.bg_listing.proofs.Combinators.{Holds, found, joined, FitBoth, map_sam
 use Rattle.bg_listing.proofs.Listings.{parts_line, AreParts, parts_text, AreSections, seen_by, sections_read}
 use Rattle.bg_listing.proofs.Labels.{none_before}
 use Rattle.bg_listing.proofs.Values.{readable_signature, IsKnown, sections_of, parts_text_is, sections_from_spelled, rows_own, seen_under_is, counted_signature, signature_found}
-use Rattle.std.specs.List.{flat_map, AllByRecursion}
-use Rattle.std.proofs.lemmas.Grind.{flat_map-append}
-use Rattle.std.proofs.lemmas.List.{length-append}
 use Rattle.bg_base.proofs.SignatureLaws.{no_controls}
 use Rattle.bg_listing.proofs.RefusalLaws.{signature_among}
 use Rattle.bg_listing.proofs.FreshLabels.{continued}

@@ -3,12 +3,12 @@ use Rattle.std.proofs.Common.{◌≡◌, ℕ, List, ◌++◌, map, length, get_o
 use Rattle.std.specs.List.Sorted.{IsStrictlySortedBy}
 use Rattle.std.proofs.Math.ListN.{get_or-map}
 use Rattle.std.proofs.lemmas.List.{map-id}
+use Rattle.std.proofs.lemmas.Cmp.{nat_cmp_total}
 use Rattle.bg_lists.specs.Lists.{Mem, sort}
 use Rattle.bg_lists.specs.Orders.{before}
 use Rattle.bg_lists.proofs.Members.{Mem-map, Mem-unmap, Mem-same, map_agree, map-map}
 use Rattle.bg_lists.proofs.Sorting.{Mem-sort, Mem-unsort, Ascending-sort}
 use Rattle.bg_lists.proofs.Ascents.{sorted_from_Ascending}
-use Rattle.std.proofs.lemmas.Cmp.{nat_cmp_total}
 use Rattle.bg_base.specs.declared.names.Name.{Name}
 use Rattle.bg_base.specs.declared.names.Place.{Place}
 use Rattle.bg_base.specs.declared.names.Place.TheVariants.{Node, Region}

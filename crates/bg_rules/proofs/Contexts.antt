@@ -1,11 +1,11 @@
 -- The context that a host has above the images of a pattern: its nodes are those from which, going up, no image is met. It
 -- is valid for each choice of edges, sites and inner rows that fits the host.
 use Rattle.std.proofs.Common.{◌≡◌, ℕ, not, Bool, true, List, ◌++◌, length, filter, nat_cmp, Less, refl, sym, ap, subst, ◌∙◌}
-use Rattle.bg_lists.proofs.Comparisons.{tied_numbers, apart_numbers}
 use Rattle.std.specs.Ordering.{eq_by_cmp}
 use Rattle.std.specs.List.{IsDistinct}
 use Rattle.std.specs.List.Sorted.{IsStrictlySortedBy}
 use Rattle.std.proofs.lemmas.Bool.{not_from_false, not-true, false≢true, false_from_ne_true}
+use Rattle.bg_lists.proofs.Comparisons.{tied_numbers, apart_numbers}
 use Rattle.bg_lists.specs.Lists.{Mem, At}
 use Rattle.bg_lists.specs.Orders.{Ascending}
 use Rattle.bg_lists.proofs.Members.{Mem-filter, Mem-unfilter}

@@ -1,11 +1,11 @@
 -- The copies of the parts of a parameter: which rows they have, and that no two of these rows have one number.
 use Rattle.std.proofs.Common.{◌≡◌, ℕ, zero, suc, ◌+◌, ◌<◌, ◌≤◌, ◌==◌, Bool, true, false, List, [], ◌∷◌, ◌++◌, map, take, refl, sym, ap, subst, ◌∙◌, ◌⊎◌, inl, inr, arith, eqb-true, eq-eqb}
-use Rattle.bg_lists.proofs.Comparisons.{apart_numbers, tied_numbers}
 use Rattle.std.specs.List.{IsDistinct, position_or_len}
 use Rattle.std.specs.Ordering.{eq_by_cmp}
 use Rattle.std.proofs.lemmas.Bool.{cond-true, cond-false, cases_Bool, false≢true}
 use Rattle.std.proofs.lemmas.List.Folds.{find_at}
 use Rattle.std.proofs.lemmas.List.{length-map}
+use Rattle.bg_lists.proofs.Comparisons.{apart_numbers, tied_numbers}
 use Rattle.bg_lists.specs.Lists.{Mem, At, at_here, at_there}
 use Rattle.bg_lists.proofs.Members.{Mem-same, Mem-map, Mem-unmap, Mem-append_left, Mem-append_right, Mem-append_cases}
 use Rattle.bg_lists.proofs.Parts.{At-take}

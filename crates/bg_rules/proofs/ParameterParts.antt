@@ -2,6 +2,7 @@
 use Rattle.std.proofs.Common.{◌≡◌, ℕ, zero, suc, ◌<◌, Bool, true, false, List, filter, length, Some, unwrap_or, option_map, refl, sym, ap, subst, ◌∙◌, eqb-true, eq-eqb}
 use Rattle.std.specs.List.{IsDistinct}
 use Rattle.std.specs.Ordering.{eq_by_cmp}
+use Rattle.std.proofs.Common.{ltb-true}
 use Rattle.bg_lists.specs.Lists.{Mem}
 use Rattle.bg_lists.proofs.Members.{Mem-filter, Mem-unfilter}
 use Rattle.bg_lists.proofs.Ascents.{Ascending-from_sorted, Ascending-filter}
@@ -14,7 +15,6 @@ use Rattle.bg_base.specs.declared.big.Big.{Big}
 use Rattle.bg_base.specs.Bigraph.{IsValid, node_cmp, row_of}
 use Rattle.bg_rules.specs.Instantiation.{is_under, part}
 use Rattle.bg_rules.proofs.Patterns.{number_mem}
-use Rattle.std.proofs.Common.{ltb-true}
 use Rattle.bg_base.specs.Bigraph.{reaches}
 use Rattle.bg_base.proofs.Climbs.{row_from_reaches, reaches-Climb, Climb-from_place}
 use Rattle.bg_rules.proofs.Patterns.{node_place}

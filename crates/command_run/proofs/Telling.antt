@@ -1,8 +1,8 @@
 -- The lines of predicates.
 use Rattle.std.proofs.Common.{◌≡◌, ◌++◌, ℕ, zero, suc, ◌<◌, ◌≤◌, ◌+◌, List, [], ◌∷◌, Bool, take, length, zip, get_or, refl, sym, ap, ◌∙◌, arith}
 use Rattle.std.specs.List.{flat_map}
-use Rattle.bg_lists.proofs.Places.{At-get_or, get_or-At}
 use Rattle.std.proofs.lemmas.List.{append_assoc, append-nil}
+use Rattle.bg_lists.proofs.Places.{At-get_or, get_or-At}
 use Rattle.bg_base.specs.declared.big.Big.{Big}
 use Rattle.bg_rules.specs.declared.predicate.Predicate.{Predicate}
 use Rattle.command_run.specs.RunText.{predicate_line, AreTold, none_told, each_told}

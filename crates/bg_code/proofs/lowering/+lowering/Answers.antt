@@ -1,7 +1,7 @@
+use Rattle.std.proofs.Common.{ap, ◌∙◌, sym, subst, rules}
 use Rattle.bg_code.specs.Code.{code_of}
 use Rattle.bg_terms.specs.Trees as definition
 use Rattle.bg_values.proofs.Partly.{one_more}
-use Rattle.std.proofs.Common.{ap, ◌∙◌, sym, subst, rules}
 use Rattle.bg_terms.specs.declared.shape.BinaryOperation.TheVariants.{Composition, Tensor, Parallel, Merge}
 use Rattle.bg_code.specs.Lowering.{lowered}
 use Rattle.bg_code.proofs.Items.{along_from}

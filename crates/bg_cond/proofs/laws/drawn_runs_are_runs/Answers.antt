@@ -1,5 +1,5 @@
-use Rattle.bg_base.specs.declared.history.Entry.{Entry}
 use Rattle.std.proofs.Common.{◌≡◌}
+use Rattle.bg_base.specs.declared.history.Entry.{Entry}
 use Rattle.bg_lists.proofs.Words.{All-from_members}
 use Rattle.bg_cond.proofs.DrawnRuns.{drawn_run, drawn_few, drawn_own, drawn_end}
 use Rattle.bg_cond.proofs.laws.drawn_runs_are_runs.Goals as goal

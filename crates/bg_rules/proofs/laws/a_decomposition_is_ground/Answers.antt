@@ -1,6 +1,6 @@
+use Rattle.std.proofs.Common.{sym}
 use Rattle.bg_rules.proofs.Grounded.{inside_ground, host_ground, context_regions, context_outer}
 use Rattle.bg_rules.proofs.Occurrences.{glued_of}
-use Rattle.std.proofs.Common.{sym}
 use Rattle.bg_rules.proofs.laws.a_decomposition_is_ground.Goals as goal
 
 pub returns-clause-inside : goal.returns-clause-inside
